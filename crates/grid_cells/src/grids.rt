@@ -1,0 +1,77 @@
+ghost use Rattle.std.specs.Prelude.{◌≡◌, ◌*◌, ◌<◌, ◌↔◌, IsTrue, IfOk};
+ghost use Rattle.grid_cells.specs.Size.{Holds};
+ghost use Rattle.grid_cells.specs.Grid.{IsOpen, open_chart, with_cell, flag_index};
+
+use crate::cells::Cell;
+use crate::memory::OutOfMemory;
+use crate::sizes::Size;
+use std::alloc::Global;
+use std::marker::Model;
+
+/// A map: which of its cells are open.
+#[derive(Debug, Drop)]
+pub struct Grid {
+    size: Size,
+    flags: Vec<bool>,
+}
+
+impl Model for Grid {
+    ghost use Rattle.std.specs.Prelude.{◌≡◌, ◌*◌, length};
+    ghost use Rattle.grid_cells.specs.Grid.{Chart};
+
+    ghost Value = { Chart };
+
+    ghost view = { λ g. record { size = g.size; flags = g.flags.items } };
+
+    ghost invariant = { λ g. length g.flags.items ≡ g.size.width * g.size.height };
+}
+
+impl Grid {
+    pub fn all_open(alloc: Global, size: Size) -> Result<Grid, OutOfMemory>
+        ensures { IfOk result (λ grid. grid ≡ open_chart size) }
+    {
+        let cells = size.width() as usize * size.height() as usize;
+        let flags = vec![in alloc; true; cells]?;
+        Ok(Grid { size, flags })
+    }
+
+    pub fn copy(&self) -> Result<Grid, OutOfMemory>
+        ensures { IfOk result (λ grid. grid ≡ self.now) }
+    {
+        Ok(Grid {
+            size: self.size,
+            flags: self.flags.clone()?,
+        })
+    }
+
+    pub fn size(&self) -> Size
+        ensures { result ≡ self.now.size }
+    {
+        self.size
+    }
+
+    pub fn is_open(&self, cell: Cell) -> bool
+        requires { Holds self.now.size cell }
+        ensures { IsTrue result ↔ IsOpen self.now cell }
+    {
+        self.flags[place(self.size, cell)]
+    }
+
+    /// Opens or closes the cell.
+    pub fn set(&mut self, cell: Cell, free: bool)
+        requires { Holds self.old.size cell }
+        ensures { self.new ≡ with_cell self.old cell free }
+    {
+        let at = place(self.size, cell);
+        self.flags[at] = free;
+    }
+}
+
+// Where the cell's flag is.
+fn place(size: Size, cell: Cell) -> usize
+    requires { Holds size cell }
+    ensures at { result ≡ flag_index size cell }
+    ensures within { result < size.width * size.height }
+{
+    cell.y() as usize * size.width() as usize + cell.x() as usize
+}
