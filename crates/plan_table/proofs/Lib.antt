@@ -1,0 +1,5 @@
+pub mod Waits
+pub mod Rows
+pub mod Order
+pub mod Fleets
+pub mod OneTable

@@ -1,0 +1,6 @@
+pub mod Path
+pub mod Plans
+pub mod PlanFault
+pub mod Route
+pub mod Order
+pub mod Laws

@@ -1,0 +1,12 @@
+//! Plans of a fleet of agents: paths, rows of goals and plans, and tracks.
+#![tactic(auto)]
+
+mod laws;
+mod paths;
+mod plans;
+mod tracks;
+
+pub use laws::one_table;
+pub use paths::{MOST_LAST_INDEX, Plan, PlanFault};
+pub use plans::{Plans, Row};
+pub use tracks::{Mode, Track};

@@ -1,0 +1,126 @@
+ghost use Rattle.std.specs.Prelude.{◌≡◌, ℕ, ◌<◌, ◌≤◌, ◌+◌, ◌-◌, ◌↔◌, Some, length, IfOk, IfErr, IfSome, OnOk, IfNone, IsTrue};
+ghost use Rattle.plan_table.specs.Path.{place, last_index, IsWalkable, IsPath, IsPathOf, EndsInWait};
+ghost use Rattle.plan_table.specs.PlanFault.{Explains};
+
+use grid_cells::{Cell, OutOfMemory, Step};
+
+use std::marker::Model;
+
+/// The greatest last index of a path.
+pub const MOST_LAST_INDEX: u32 = 131_071;
+
+/// Why a list of cells is no plan.
+#[derive(Clone, Copy, Debug, PartialEq, Eq)]
+pub enum PlanFault {
+    EmptyPath,
+    TooLong,
+    NotAStep { at: u32 },
+}
+
+/// An agent's path, with no wait at its end.
+#[derive(Debug, Drop)]
+pub struct Plan {
+    cells: Vec<Cell>,
+}
+
+impl Model for Plan {
+    ghost use Rattle.std.specs.Prelude.{List};
+    ghost use Rattle.grid_cells.specs.Cell.{Point};
+    ghost use Rattle.plan_table.specs.Path.{IsPath};
+
+    ghost Value = { List Point };
+
+    ghost view = { λ p. p.cells.items };
+
+    ghost invariant = { λ p. IsPath p.cells.items };
+}
+
+impl Plan {
+    /// The path of the cells. The list comes back where they are none.
+    pub fn new(cells: Vec<Cell>) -> Result<Plan, (PlanFault, Vec<Cell>)>
+        ensures walkable { OnOk result (IsWalkable cells.items) }
+        ensures path { IfOk result (λ plan. IsPathOf cells.items plan) }
+        ensures fault { IfErr result (λ e. Explains cells.items e.0) }
+        ensures handed_back { IfErr result (λ e. e.1.items ≡ cells.items) }
+    {
+        match fault_in(&cells) {
+            Some(fault) => Err((fault, cells)),
+            None => Ok(Plan {
+                cells: without_waits(cells),
+            }),
+        }
+    }
+
+    /// Where the path is at the time: it rests at its last cell.
+    pub fn at(&self, time: Step) -> Cell
+        ensures { place self.now time ≡ Some result }
+    {
+        let last = self.cells.len() - 1;
+        let index = (time.number() as usize).min(last);
+        self.cells[index]
+    }
+
+    /// The index of the last cell.
+    pub fn last(&self) -> u32
+        ensures is { result ≡ last_index self.now }
+        ensures bound { result ≤ MOST_LAST_INDEX }
+        ensures path { IsPath self.now }
+    {
+        (self.cells.len() - 1) as u32
+    }
+
+    pub fn cells(&self) -> &[Cell]
+        ensures is { result.now ≡ self.now }
+        ensures path { IsPath self.now }
+    {
+        &self.cells
+    }
+
+    pub fn copy(&self) -> Result<Plan, OutOfMemory>
+        ensures { IfOk result (λ plan. plan ≡ self.now) }
+    {
+        Ok(Plan {
+            cells: self.cells.clone()?,
+        })
+    }
+}
+
+// The first fault of the cells, if they have one.
+fn fault_in(cells: &[Cell]) -> Option<PlanFault>
+    ensures fault { IfSome result (Explains cells.now) }
+    ensures none { IfNone result (IsWalkable cells.now) }
+{
+    if cells.is_empty() {
+        return Some(PlanFault::EmptyPath);
+    }
+    if cells.len() - 1 > MOST_LAST_INDEX as usize {
+        return Some(PlanFault::TooLong);
+    }
+    for at in 1..cells.len() {
+        if !cells[at - 1].is_step_to(cells[at]) {
+            return Some(PlanFault::NotAStep { at: at as u32 });
+        }
+    }
+    None
+}
+
+// The cells without the waits at their end.
+fn without_waits(mut cells: Vec<Cell>) -> Vec<Cell>
+    requires { IsWalkable cells.items }
+    ensures { IsPathOf cells.items result.items }
+{
+    while ends_in_wait(&cells) {
+        cells.pop();
+    }
+    cells
+}
+
+// Whether the last cell is the one before it.
+fn ends_in_wait(cells: &[Cell]) -> bool
+    ensures { IsTrue result ↔ EndsInWait cells.now }
+{
+    match cells {
+        [.., before, last] => before == last,
+        _ => false,
+    }
+}
