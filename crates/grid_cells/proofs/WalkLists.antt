@@ -26,22 +26,28 @@ last-cons from next rest =
 
 -- the cells of a walk after its first one
 rest_of : (grid : Chart) (steps : ℕ) (from to : Point) → Walk grid steps from to → (rest : List Point) × (length rest ≡ steps) × IsWalk grid from to (from ∷ rest)
-rest_of grid zero from to walk =
-    ([], refl, record {
-      all_open = All-cons (IsOpen grid) from [] walk.0 (λ k d within. absurd (omega arith));
-      adjacent = λ k d within. absurd (omega arith);
-      begins = refl;
-      ends = ap Some walk.1
-    })
+rest_of grid zero from to walk = (
+  [],
+  refl,
+  record {
+    all_open = All-cons (IsOpen grid) from [] walk.0 (λ k d within. absurd (omega arith));
+    adjacent = λ k d within. absurd (omega arith);
+    begins = refl;
+    ends = ap Some walk.1;
+  },
+)
 rest_of grid (suc steps) from to walk =
     let next : Point = walk.1.0 in
-    let rest = rest_of grid steps next to walk.1.2 in
-    (next ∷ rest.0, ap suc rest.1, record {
-      all_open = All-cons (IsOpen grid) from (next ∷ rest.0) walk.0 rest.2.all_open;
-      adjacent = adjacent-cons from next rest.0 walk.1.1 rest.2.adjacent;
-      begins = refl;
-      ends = last-cons from next rest.0 ∙ rest.2.ends
-    })
+    let rest = rest_of grid steps next to walk.1.2 in (
+      next ∷ rest.0,
+      ap suc rest.1,
+      record {
+        all_open = All-cons (IsOpen grid) from (next ∷ rest.0) walk.0 rest.2.all_open;
+        adjacent = adjacent-cons from next rest.0 walk.1.1 rest.2.adjacent;
+        begins = refl;
+        ends = last-cons from next rest.0 ∙ rest.2.ends;
+      },
+    )
 
 -- a list of cells that is a walk is one by the number of its steps
 walk_of : (grid : Chart) (from to : Point) (rest : List Point) → IsWalk grid from to (from ∷ rest) → Walk grid (length rest) from to
@@ -51,7 +57,7 @@ walk_of grid from to (next ∷ rest) walk =
       all_open = All-tail (IsOpen grid) from (next ∷ rest) walk.all_open;
       adjacent = adjacent-tail from next rest walk.adjacent;
       begins = refl;
-      ends = sym (last-cons from next rest) ∙ walk.ends
+      ends = sym (last-cons from next rest) ∙ walk.ends;
     } in
     (All-head (IsOpen grid) from (next ∷ rest) walk.all_open, (next, walk.adjacent 0 from (omega arith), walk_of grid next to rest later))
 
@@ -63,7 +69,7 @@ of_list grid steps from to (first ∷ rest) long walk =
     subst (λ n. Walk grid n from to) count (walk_of grid from to rest (subst (λ c. IsWalk grid from to (c ∷ rest)) same walk))
 
 pub walks_hold : WalksAreLists
-walks_hold grid steps from to =
-    ( (λ walk. let rest = rest_of grid steps from to walk in (from ∷ rest.0, omega (arith, rest.1), rest.2))
-    , (λ walk. of_list grid steps from to walk.0 walk.1 walk.2)
-    )
+walks_hold grid steps from to = (
+  (λ walk. let rest = rest_of grid steps from to walk in (from ∷ rest.0, omega (arith, rest.1), rest.2)),
+  (λ walk. of_list grid steps from to walk.0 walk.1 walk.2),
+)

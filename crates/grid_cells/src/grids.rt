@@ -27,6 +27,7 @@ impl Model for Grid {
 }
 
 impl Grid {
+    /// The map of that size with every cell open.
     pub fn all_open(alloc: Global, size: Size) -> Result<Grid, OutOfMemory>
         ensures { IfOk result (λ grid. grid ≡ open_chart size) }
     {
@@ -35,21 +36,25 @@ impl Grid {
         Ok(Grid { size, flags })
     }
 
+    /// An equal map.
     pub fn copy(&self) -> Result<Grid, OutOfMemory>
         ensures { IfOk result (λ grid. grid ≡ self.now) }
     {
+        let flags = self.flags.clone()?;
         Ok(Grid {
             size: self.size,
-            flags: self.flags.clone()?,
+            flags,
         })
     }
 
+    /// The columns and rows of the map.
     pub fn size(&self) -> Size
         ensures { result ≡ self.now.size }
     {
         self.size
     }
 
+    /// Whether the cell is open.
     pub fn is_open(&self, cell: Cell) -> bool
         requires { Holds self.now.size cell }
         ensures { IsTrue result ↔ IsOpen self.now cell }
@@ -57,7 +62,7 @@ impl Grid {
         self.flags[place(self.size, cell)]
     }
 
-    /// Opens or closes the cell.
+    /// Opens the cell where `free`, and closes it otherwise.
     pub fn set(&mut self, cell: Cell, free: bool)
         requires { Holds self.old.size cell }
         ensures { self.new ≡ with_cell self.old cell free }

@@ -17,12 +17,14 @@ impl<T> Model for List<T> {
 }
 
 impl<T> List<T> {
+    /// The list of the items, in their order.
     pub fn new(items: Vec<T>) -> List<T>
         ensures { result ≡ items.items }
     {
         List { items }
     }
 
+    /// The items, in their order.
     pub fn items(&self) -> &[T]
         ensures { result.now ≡ self.now }
     {

@@ -9,7 +9,8 @@ use std::marker::Model;
 /// The greatest last index of a path.
 pub const MOST_LAST_INDEX: u32 = 131_071;
 
-/// Why a list of cells is no plan.
+/// Why a list of cells is no plan, the first that holds: it has no cell; its last index is above
+/// MOST_LAST_INDEX; the cell at `at` is the first that is no step from the one before.
 #[derive(Clone, Copy, Debug, PartialEq, Eq)]
 pub enum PlanFault {
     EmptyPath,
@@ -36,7 +37,11 @@ impl Model for Plan {
 }
 
 impl Plan {
-    /// The path of the cells. The list comes back where they are none.
+    /// The path of the cells: the same places (Stern et al. 2019), without the waits at their end.
+    ///
+    /// # Errors
+    ///
+    /// The first fault of the cells, and the cells as they were handed in.
     pub fn new(cells: Vec<Cell>) -> Result<Plan, (PlanFault, Vec<Cell>)>
         ensures walkable { OnOk result (IsWalkable cells.items) }
         ensures path { IfOk result (λ plan. IsPathOf cells.items plan) }
@@ -69,6 +74,7 @@ impl Plan {
         (self.cells.len() - 1) as u32
     }
 
+    /// The cells of the path, from index 0 to its last index.
     pub fn cells(&self) -> &[Cell]
         ensures is { result.now ≡ self.now }
         ensures path { IsPath self.now }
@@ -76,6 +82,7 @@ impl Plan {
         &self.cells
     }
 
+    /// An equal plan.
     pub fn copy(&self) -> Result<Plan, OutOfMemory>
         ensures { IfOk result (λ plan. plan ≡ self.now) }
     {

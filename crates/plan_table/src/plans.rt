@@ -35,6 +35,7 @@ impl Model for Plans {
 }
 
 impl Plans {
+    /// No rows.
     pub fn new(alloc: Global) -> Plans
         ensures { result.rows ≡ [] }
     {
@@ -72,6 +73,15 @@ impl Plans {
         } else {
             None
         }
+    }
+
+    /// The agent and the row at that rank, from 0, in the order of the agents.
+    pub fn entry_at(&self, rank: u32) -> (Agent, &Row)
+        requires { rank < length self.now.rows }
+        ensures { slice_get self.now.rows rank ≡ Some (result.0, result.1.now) }
+    {
+        let entry = &self.rows[rank as usize];
+        (entry.0, &entry.1)
     }
 
     /// Makes room for one more row.

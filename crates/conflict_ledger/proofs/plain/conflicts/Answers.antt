@@ -1,0 +1,45 @@
+use Rattle.std.proofs.Common.{◌≡◌, ℕ, subst, sym, inl, inr, arith}
+use Rattle.std.proofs.lemmas.Bool.{cases_lt}
+use Rattle.plan_table.specs.Route.{tracks_of}
+use Rattle.conflict_ledger.specs.Finding.{HasPair, HasRing}
+use Rattle.conflict_ledger.specs.declared.entries.Conflict.TheVariants.{Cycle}
+use Rattle.conflict_ledger.proofs.Live.{stands_early}
+use Rattle.conflict_ledger.proofs.PairEntries.{has_each}
+use Rattle.conflict_ledger.proofs.RoundTrips.{ring_early}
+use Rattle.conflict_ledger.proofs.plain.conflicts.Goals as goal
+
+pub loop-time-preserved : goal.loop-time-preserved
+loop-time-preserved c = record {
+  found = c.in_ok-add_cycles.ensures.found;
+  pairs = λ time first second lt entry stands of.
+      c.in_ok-add_cycles.ensures.keeps entry (elim (cases_lt time c.loop-time.time) [
+        | inl lower ↦ c.in_ok-add_time.ensures.keeps entry (c.loop-time.invariant.pairs time first second lower entry stands of)
+        | inr higher ↦
+            let same : time ≡ c.loop-time.time = omega arith in
+            subst (λ t. HasPair (tracks_of c.args.mode c.args.plans.now.rows) t first second c.add_time.new.entries.items) (sym same) (c.in_ok-add_time.ensures.has first second) entry stands of
+      ]);
+  rings = λ time first lt ring is starts.
+      elim (cases_lt time c.loop-time.time) [
+        | inl lower ↦ c.in_ok-add_cycles.ensures.keeps (Cycle time ring) (c.in_ok-add_time.ensures.keeps (Cycle time ring) (c.loop-time.invariant.rings time first lower ring is starts))
+        | inr higher ↦
+            let same : time ≡ c.loop-time.time = omega arith in
+            subst (λ t. HasRing (tracks_of c.args.mode c.args.plans.now.rows) t first c.add_cycles.new.entries.items) (sym same) (c.in_ok-add_cycles.ensures.has first) ring is starts
+      ];
+}
+
+pub returns : goal.returns
+returns c =
+    let pairs : (time first second : ℕ) → HasPair (tracks_of c.args.mode c.args.plans.now.rows) time first second c.loop-time.entries.items =
+    λ time first second entry stands of.
+    let early = stands_early (tracks_of c.args.mode c.args.plans.now.rows) c.horizon-time-end.result c.horizon-time-end.ensures.above entry time first second stands of in
+    c.loop-time.invariant.pairs time first second (omega arith) entry stands of
+    in
+    let rings : (time first : ℕ) → HasRing (tracks_of c.args.mode c.args.plans.now.rows) time first c.loop-time.entries.items =
+    λ time first ring is starts.
+    let early = ring_early (tracks_of c.args.mode c.args.plans.now.rows) c.horizon-time-end.result time ring c.horizon-time-end.ensures.above is in
+    c.loop-time.invariant.rings time first (omega arith) ring is starts
+    in
+    rw c.new.ensures (record {
+      ascending = c.loop-time.invariant.found.listed;
+      exact = λ entry. (c.loop-time.invariant.found.each entry, has_each (tracks_of c.args.mode c.args.plans.now.rows) c.loop-time.entries.items pairs rings entry);
+    })

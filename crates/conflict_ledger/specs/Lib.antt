@@ -1,0 +1,6 @@
+pub mod Entries
+pub mod Cycles
+pub mod ConflictList
+pub mod Laws
+pub mod RingWalk
+pub mod Finding

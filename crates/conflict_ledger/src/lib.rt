@@ -1,0 +1,15 @@
+//! Conflicts of a fleet's plans.
+#![tactic(auto)]
+
+mod entries;
+mod laws;
+mod pairs;
+mod plain;
+mod rings;
+mod sorted;
+
+pub use entries::{Conflict, Kind, Ring};
+pub use laws::{
+    meetings_are_told, named_agents_are_there, one_conflict_list, swap_is_two_followings,
+};
+pub use plain::conflicts;

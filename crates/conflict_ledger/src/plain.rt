@@ -1,0 +1,173 @@
+ghost use Rattle.std.specs.Prelude.{◌≡◌, ℕ, ◌+◌, ◌<◌, ◌≤◌, Some, None, [], ◌∷◌, IfOk, OnOk, IfSome, List, slice_index, IsTrue, ◌↔◌, ◌⊎◌};
+ghost use Rattle.std.specs.Option.{SomeIff};
+ghost use Rattle.std.specs.Ordering.{nat_cmp};
+ghost use Rattle.std.specs.Cmp.Lexicographic.{slice_cmp};
+ghost use Rattle.grid_cells.specs.Cell.{Point};
+ghost use Rattle.plan_table.specs.Route.{position_of, last_of, leaves_of, Leaves, tracks_of};
+ghost use Rattle.conflict_ledger.specs.Entries.{IsVertex, IsParked, IsEdge, IsFollowing, IsSwapping, both_end_by};
+ghost use Rattle.conflict_ledger.specs.Cycles.{IsRing};
+ghost use Rattle.conflict_ledger.specs.ConflictList.{Stands, AreConflicts, listing_key};
+ghost use Rattle.plan_table.specs.Order.{ComesBefore};
+ghost use Rattle.conflict_ledger.specs.Finding.{IsListed, AreFound, KeepsAll, Adds, IsPlaceFor, HasKeyAt, AddsFound, HasPair, HasRing};
+
+use crate::entries::Conflict;
+use crate::pairs::{edge, following, last, parked, swapping, vertex};
+use crate::rings::{agent_of, ring_from};
+use crate::sorted::add_found;
+use grid_cells::{Agent, List, OutOfMemory, Step};
+use plan_table::{MOST_LAST_INDEX, Mode, Plans};
+use std::alloc::Global;
+
+// Adds the entries of that time and those two agents, in this order.
+fn add_pair(
+    alloc: Global,
+    entries: &mut Vec<Conflict>,
+    plans: &Plans,
+    mode: Mode,
+    time: u32,
+    first: Agent,
+    second: Agent,
+) -> Result<(), OutOfMemory>
+    requires time { time ≤ MOST_LAST_INDEX }
+    requires found { AreFound (tracks_of mode plans.now.rows) entries.old.items }
+    ensures found { OnOk result (AreFound (tracks_of mode plans.now.rows) entries.new.items) }
+    ensures keeps { OnOk result (KeepsAll entries.old.items entries.new.items) }
+    ensures has { OnOk result (HasPair (tracks_of mode plans.now.rows) time first second entries.new.items) }
+{
+    add_found(alloc, entries, vertex(plans, mode, time, first, second))?;
+    add_found(alloc, entries, parked(plans, mode, time, first, second))?;
+    add_found(alloc, entries, edge(plans, mode, time, first, second))?;
+    add_found(alloc, entries, following(plans, mode, time, first, second))?;
+    add_found(alloc, entries, swapping(plans, mode, time, first, second))?;
+    Ok(())
+}
+
+// Adds the entries of that time whose first agent is that one.
+fn add_agent(
+    alloc: Global,
+    entries: &mut Vec<Conflict>,
+    plans: &Plans,
+    mode: Mode,
+    time: u32,
+    first: Agent,
+) -> Result<(), OutOfMemory>
+    requires time { time ≤ MOST_LAST_INDEX }
+    requires found { AreFound (tracks_of mode plans.now.rows) entries.old.items }
+    ensures found { OnOk result (AreFound (tracks_of mode plans.now.rows) entries.new.items) }
+    ensures keeps { OnOk result (KeepsAll entries.old.items entries.new.items) }
+    ensures has { OnOk result ((second : ℕ) → HasPair (tracks_of mode plans.now.rows) time first second entries.new.items) }
+{
+    for rank in 0..plans.count() {
+        let second = agent_of(plans, rank);
+        add_pair(alloc, entries, plans, mode, time, first, second)?;
+    }
+    Ok(())
+}
+
+// Adds the entries of that time.
+fn add_time(
+    alloc: Global,
+    entries: &mut Vec<Conflict>,
+    plans: &Plans,
+    mode: Mode,
+    time: u32,
+) -> Result<(), OutOfMemory>
+    requires time { time ≤ MOST_LAST_INDEX }
+    requires found { AreFound (tracks_of mode plans.now.rows) entries.old.items }
+    ensures found { OnOk result (AreFound (tracks_of mode plans.now.rows) entries.new.items) }
+    ensures keeps { OnOk result (KeepsAll entries.old.items entries.new.items) }
+    ensures has { OnOk result ((first second : ℕ) → HasPair (tracks_of mode plans.now.rows) time first second entries.new.items) }
+{
+    for rank in 0..plans.count() {
+        let first = agent_of(plans, rank);
+        add_agent(alloc, entries, plans, mode, time, first)?;
+    }
+    Ok(())
+}
+
+// The greatest last index.
+fn horizon(plans: &Plans, mode: Mode) -> u32
+    ensures above { (agent : ℕ) → last_of (tracks_of mode plans.now.rows) agent ≤ result }
+    ensures bound { result ≤ MOST_LAST_INDEX }
+{
+    let mut most = 0;
+    for rank in 0..plans.count() {
+        most = most.max(last(plans, mode, agent_of(plans, rank)));
+    }
+    most
+}
+
+// The cycle of that time whose least agent is that one.
+fn cycle(
+    alloc: Global,
+    plans: &Plans,
+    mode: Mode,
+    time: u32,
+    first: Agent,
+) -> Result<Option<Conflict>, OutOfMemory>
+    requires { time ≤ MOST_LAST_INDEX }
+    ensures stands { IfOk result (λ found. IfSome found (Stands (tracks_of mode plans.now.rows))) }
+    ensures found { IfOk result (λ found. (ring : List ℕ) → IsRing (tracks_of mode plans.now.rows) time ring → slice_index ring 0 ≡ first → found ≡ Some (Conflict.Cycle time ring)) }
+{
+    match ring_from(alloc, plans, mode, time, first)? {
+        Some(ring) => Ok(Some(Conflict::Cycle {
+            time: Step::new(time),
+            ring,
+        })),
+        None => Ok(None),
+    }
+}
+
+// Adds the cycle of that time whose least agent is that one.
+fn add_cycle(
+    alloc: Global,
+    entries: &mut Vec<Conflict>,
+    plans: &Plans,
+    mode: Mode,
+    time: u32,
+    first: Agent,
+) -> Result<(), OutOfMemory>
+    requires time { time ≤ MOST_LAST_INDEX }
+    requires found { AreFound (tracks_of mode plans.now.rows) entries.old.items }
+    ensures found { OnOk result (AreFound (tracks_of mode plans.now.rows) entries.new.items) }
+    ensures keeps { OnOk result (KeepsAll entries.old.items entries.new.items) }
+    ensures has { OnOk result (HasRing (tracks_of mode plans.now.rows) time first entries.new.items) }
+{
+    let found = cycle(alloc, plans, mode, time, first)?;
+    add_found(alloc, entries, found)?;
+    Ok(())
+}
+
+// Adds the cycles of that time.
+fn add_cycles(
+    alloc: Global,
+    entries: &mut Vec<Conflict>,
+    plans: &Plans,
+    mode: Mode,
+    time: u32,
+) -> Result<(), OutOfMemory>
+    requires time { time ≤ MOST_LAST_INDEX }
+    requires found { AreFound (tracks_of mode plans.now.rows) entries.old.items }
+    ensures found { OnOk result (AreFound (tracks_of mode plans.now.rows) entries.new.items) }
+    ensures keeps { OnOk result (KeepsAll entries.old.items entries.new.items) }
+    ensures has { OnOk result ((first : ℕ) → HasRing (tracks_of mode plans.now.rows) time first entries.new.items) }
+{
+    for rank in 0..plans.count() {
+        let first = agent_of(plans, rank);
+        add_cycle(alloc, entries, plans, mode, time, first)?;
+    }
+    Ok(())
+}
+
+/// The conflict list of the plans (Stern et al. 2019, in this project's profile), found by going
+/// over all times and all pairs of agents.
+pub fn conflicts(alloc: Global, plans: &Plans, mode: Mode) -> Result<List<Conflict>, OutOfMemory>
+    ensures { IfOk result (AreConflicts (tracks_of mode plans.now.rows)) }
+{
+    let mut entries = Vec::new(alloc);
+    for time in 0..horizon(plans, mode) + 1 {
+        add_time(alloc, &mut entries, plans, mode, time)?;
+        add_cycles(alloc, &mut entries, plans, mode, time)?;
+    }
+    Ok(List::new(entries))
+}

@@ -1,0 +1,4 @@
+pub mod Costs
+pub mod Visits
+pub mod Laws
+pub mod VisitSearch

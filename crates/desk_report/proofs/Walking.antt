@@ -1,0 +1,94 @@
+-- A path over open cells that ends at the goal takes at least as long as its lower bound.
+use Rattle.std.proofs.Common.{◌≡◌, ℕ, suc, ◌+◌, ◌-◌, ◌≤◌, min, Bool, true, false, List, [], ◌∷◌, length, get_or, Some, None, Option, refl, sym, ap, subst, ◌∙◌, ◌⊎◌, inl, inr, arith}
+use Rattle.std.specs.Prelude.{unwrap_or}
+use Rattle.std.specs.Option.{SomeIff}
+use Rattle.std.specs.List.{slice_get, AllAdjacentBelow, slice_index_or, All}
+use Rattle.std.proofs.lemmas.Bool.{cases_lt}
+use Rattle.std.proofs.lemmas.Option.{same_Some, slice_get-get_or}
+use Rattle.std.proofs.lemmas.List.Elements.{All-head, All-tail}
+use Rattle.grid_cells.specs.Cell.{Point, IsStep, steps_between}
+use Rattle.grid_cells.specs.Grid.{Chart, IsOpen, IsClosed, flag_index}
+use Rattle.grid_cells.specs.Walks.{Walk, IsDistance}
+use Rattle.grid_cells.specs.Size.{Holds}
+use Rattle.plan_table.specs.Path.{last_index, place, IsPath}
+use Rattle.plan_table.specs.declared.plans.Row.{Row}
+use Rattle.plan_table.proofs.Order.{EachOf-with}
+use Rattle.cost_ledger.specs.Costs.{IsFinished}
+use Rattle.cost_ledger.specs.Visits.{IsUnblocked}
+use Rattle.cost_ledger.proofs.Settling.{settles, settle_once}
+use Rattle.desk_report.specs.Report.{IsLine}
+use Rattle.desk_report.specs.Laws.{SettleIsBoundAndGap, IsPathOn, HasBoundAndGap}
+use Rattle.desk_report.specs.declared.reports.AgentLine.{AgentLine}
+
+no_steps : (a b : Point) → steps_between a b ≡ 0 → a ≡ b
+no_steps a b h = let xs : a.x ≡ b.x = omega arith in let ys : a.y ≡ b.y = omega arith in λ i. record { x = xs i; y = ys i }
+
+steps_tail : (a b : Point) (cells : List Point) → AllAdjacentBelow IsStep (a ∷ b ∷ cells) (length (a ∷ b ∷ cells)) → AllAdjacentBelow IsStep (b ∷ cells) (length (b ∷ cells))
+steps_tail a b cells steps k d h =
+    let next : suc k + 1 ≡ suc (k + 1) = omega arith in
+    subst (λ q. IsStep (slice_index_or (b ∷ cells) k d) (slice_index_or (a ∷ b ∷ cells) q d)) next (steps (suc k) d (omega arith))
+
+-- open cells that are each a step from the one before make a walk from the first to the last, of at most as many steps
+walks_along : (grid : Chart) (a : Point) (cells : List Point) → All (IsOpen grid) (a ∷ cells) → AllAdjacentBelow IsStep (a ∷ cells) (length (a ∷ cells)) → (goal : Point) → slice_get (a ∷ cells) (length cells) ≡ Some goal → (steps : ℕ) × (steps ≤ length cells) × Walk grid steps a goal
+walks_along grid a [] free steps goal last = (0, omega arith, (All-head (IsOpen grid) a [] free, same_Some a goal last))
+walks_along grid a (b ∷ cells) free steps goal last =
+    let rest = walks_along grid b cells (All-tail (IsOpen grid) a (b ∷ cells) free) (steps_tail a b cells steps) goal last in
+    let step : IsStep a b = steps 0 a (omega arith) in
+    elim (cases_lt (steps_between a b) 1) [
+      | inl none ↦ (rest.0, omega (arith, rest.1), subst (λ p. Walk grid rest.0 p goal) (sym (no_steps a b (omega arith))) rest.2)
+      | inr some ↦ (suc rest.0, omega (arith, rest.1), (All-head (IsOpen grid) a (b ∷ cells) free, (b, omega arith, rest.2)))
+    ]
+
+-- an open path that ends at the goal has a lower bound, and takes at least as long
+bound_given : (grid : Chart) (path : List Point) (start goal : Point) (bound : Option ℕ) → IsPath path → All (IsOpen grid) path → place path 0 ≡ Some start → slice_get path (last_index path) ≡ Some goal → IsDistance grid start goal bound → (d : ℕ) × (bound ≡ Some d) × (d ≤ last_index path)
+bound_given grid [] start goal bound is free first last dist = absurd (omega (arith, is.walkable.some_cell))
+bound_given grid (a ∷ cells) start goal bound is free first last dist =
+    let at_start : min 0 (last_index (a ∷ cells)) ≡ 0 = omega arith in
+    let same : a ≡ start = same_Some a start (rw at_start at first) in
+    let at_end : last_index (a ∷ cells) ≡ length cells = omega arith in
+    let walk = walks_along grid a cells free is.walkable.steps goal (rw at_end at last) in
+    by_bound bound dist (walk.0) (subst (λ p. Walk grid walk.0 p goal) same walk.2) (omega (arith, walk.1))
+  where
+    by_bound : (o : Option ℕ) → IsDistance grid start goal o → (n : ℕ) → Walk grid n start goal → n ≤ length cells → (d : ℕ) × (o ≡ Some d) × (d ≤ last_index (a ∷ cells))
+    by_bound None none n w few = absurd (none n w)
+    by_bound (Some d) least n w few = let lower : d ≤ n = least.1 n w in (d, refl, omega arith)
+
+-- a cell of the map is open or closed
+open_or_closed : (grid : Chart) (cell : Point) → Holds grid.size cell → IsOpen grid cell ⊎ IsClosed grid cell
+open_or_closed grid cell held = by_flag (slice_get grid.flags (flag_index grid.size cell)) refl
+  where
+    by_flag : (o : Option Bool) → slice_get grid.flags (flag_index grid.size cell) ≡ o → IsOpen grid cell ⊎ IsClosed grid cell
+    by_flag (Some true) e = inl (held, e)
+    by_flag (Some false) e = inr (held, λ is. cc)
+    by_flag None e = inr (held, λ is. cc)
+
+-- an unblocked path on the map is over open cells
+all_open : (grid : Chart) (path : List Point) → All (Holds grid.size) path → IsUnblocked grid path → All (IsOpen grid) path
+all_open grid path held free k d within =
+    let cell : Point = get_or path k d in
+    let index : min k (last_index path) ≡ k = omega arith in
+    let there : place path k ≡ Some cell = rw index (slice_get-get_or path k d within) in
+    elim (open_or_closed grid cell (held k d within)) [
+      | inl is_open ↦ is_open
+      | inr closed ↦ absurd (free k cell (record { on_path = omega arith; there = there; closed = closed }))
+    ]
+
+-- what is given where a fact holds, where it does
+given_there : {X : Type 0} (o : Option X) (P : Type 0) (v : X) → SomeIff o P v → P → o ≡ Some v
+given_there None P v iff holds = absurd (iff holds)
+given_there (Some x) P v iff holds = ap Some iff.1
+
+line_law : (grid : Chart) (entry : ℕ × Row) (line : AgentLine) → IsPathOn grid entry.1.plan → IsLine grid entry line → IsFinished entry.1 → IsUnblocked grid entry.1.plan → HasBoundAndGap line
+line_law grid entry line on is finished free =
+    let path : List Point = entry.1.plan in
+    let settle : line.settle ≡ last_index path = settle_once path line.settle (last_index path) is.settle (settles path on.path_is) in
+    let rest : finished.0 ≡ last_index path = settle_once path finished.0 (last_index path) finished.1 (settles path on.path_is) in
+    let end : min (last_index path) (last_index path) ≡ last_index path = omega arith in
+    let last : slice_get path (last_index path) ≡ Some entry.1.goal = rw end at (rw rest at finished.2) in
+    let given = bound_given grid path is.bound.start entry.1.goal line.bound on.path_is (all_open grid path on.held free) is.bound.starts last is.bound.distance in
+    let gap : line.gap ≡ Some (line.settle - given.0) = given_there line.gap (IsFinished entry.1 × IsUnblocked grid path) _ is.gap (finished, free) ∙ ap (λ (o : Option ℕ). Some (line.settle - unwrap_or o 0)) given.1 in
+    record { bound = given.0; gap = line.settle - given.0; bound_given = given.1; gap_given = gap; sum = omega (arith, given.2) }
+
+pub gap_law : SettleIsBoundAndGap
+gap_law grid mode rows report paths is =
+    EachOf-with (IsLine grid) (λ (entry : ℕ × Row) (line : AgentLine). IsFinished entry.1 → IsUnblocked grid entry.1.plan → HasBoundAndGap line) (λ entry. IsPathOn grid entry.1.plan) (λ entry line on is_line finished free. line_law grid entry line on is_line finished free) rows report.lines paths is.lines

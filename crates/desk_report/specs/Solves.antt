@@ -1,0 +1,22 @@
+-- When a report says that the plans solve the problem (this project's choice: by the kinds that are asked about).
+use Rattle.std.specs.Prelude.{◌≡◌, Bool, [], All, IsTrue}
+use Rattle.conflict_ledger.specs.ConflictList.{kind_of}
+use Rattle.conflict_ledger.specs.declared.entries.Kind.{Kind}
+use Rattle.conflict_ledger.specs.declared.entries.Kind.TheVariants.{Vertex, Parked, Edge, Following, Swapping, Cycle}
+use Rattle.desk_report.specs.declared.kinds.Kinds.{Kinds}
+use Rattle.desk_report.specs.declared.reports.Report.{Report}
+
+-- the kind is asked about
+abbrev pub is_named : Kinds → Kind → Bool
+is_named kinds Vertex = kinds.vertex
+is_named kinds Parked = kinds.vertex
+is_named kinds Edge = kinds.edge
+is_named kinds Following = kinds.follow
+is_named kinds Swapping = kinds.swap
+is_named kinds Cycle = kinds.cycle
+
+-- every agent is finished, no visit is blocked, and no conflict is of a kind that is asked about
+pub record Solves (report : Report) (kinds : Kinds) : Type 0 where
+  pub finished : All (λ line. IsTrue line.finished) report.lines
+  pub unblocked : report.visits ≡ []
+  pub free : All (λ entry. IsTrue (is_named kinds (kind_of entry)) → ⊥) report.conflicts
