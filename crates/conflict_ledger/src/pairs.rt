@@ -1,14 +1,8 @@
-ghost use Rattle.std.specs.Prelude.{◌≡◌, ℕ, ◌+◌, ◌<◌, ◌≤◌, Some, None, [], ◌∷◌, IfOk, OnOk, IfSome, List, slice_index, IsTrue, ◌↔◌, ◌⊎◌};
-ghost use Rattle.std.specs.Option.{SomeIff};
-ghost use Rattle.std.specs.Ordering.{nat_cmp};
-ghost use Rattle.std.specs.Cmp.Lexicographic.{slice_cmp};
+ghost use Rattle.std.specs.Prelude.{◌≡◌, ◌+◌, ◌<◌, ◌≤◌, Some, None, IfSome, IsTrue, ◌↔◌, ◌⊎◌};
 ghost use Rattle.grid_cells.specs.Cell.{Point};
 ghost use Rattle.plan_table.specs.Route.{position_of, last_of, leaves_of, Leaves, tracks_of};
 ghost use Rattle.conflict_ledger.specs.Entries.{IsVertex, IsParked, IsEdge, IsFollowing, IsSwapping, both_end_by};
-ghost use Rattle.conflict_ledger.specs.Cycles.{IsRing};
-ghost use Rattle.conflict_ledger.specs.ConflictList.{Stands, AreConflicts, listing_key};
-ghost use Rattle.plan_table.specs.Order.{ComesBefore};
-ghost use Rattle.conflict_ledger.specs.Finding.{IsListed, AreFound, KeepsAll, Adds, IsPlaceFor, HasKeyAt, AddsFound, HasPair, HasRing};
+ghost use Rattle.conflict_ledger.specs.ConflictList.{Stands};
 
 use crate::entries::Conflict;
 use grid_cells::{Agent, Cell, Step};
@@ -64,7 +58,13 @@ fn passes(plans: &Plans, mode: Mode, time: u32, first: Agent, second: Agent) -> 
         || leaves(plans, mode, second)
 }
 
-pub(crate) fn vertex(plans: &Plans, mode: Mode, time: u32, first: Agent, second: Agent) -> Option<Conflict>
+pub(crate) fn vertex(
+    plans: &Plans,
+    mode: Mode,
+    time: u32,
+    first: Agent,
+    second: Agent,
+) -> Option<Conflict>
     ensures stands { IfSome result (Stands (tracks_of mode plans.now.rows)) }
     ensures found { (cell : Point) → IsVertex (tracks_of mode plans.now.rows) time first second cell → result ≡ Some (Conflict.Vertex time first second cell) }
 {
@@ -82,7 +82,13 @@ pub(crate) fn vertex(plans: &Plans, mode: Mode, time: u32, first: Agent, second:
     }
 }
 
-pub(crate) fn parked(plans: &Plans, mode: Mode, time: u32, first: Agent, second: Agent) -> Option<Conflict>
+pub(crate) fn parked(
+    plans: &Plans,
+    mode: Mode,
+    time: u32,
+    first: Agent,
+    second: Agent,
+) -> Option<Conflict>
     ensures stands { IfSome result (Stands (tracks_of mode plans.now.rows)) }
     ensures found { (cell : Point) → IsParked (tracks_of mode plans.now.rows) time first second cell → result ≡ Some (Conflict.Parked time first second cell) }
 {
@@ -102,7 +108,13 @@ pub(crate) fn parked(plans: &Plans, mode: Mode, time: u32, first: Agent, second:
     }
 }
 
-pub(crate) fn edge(plans: &Plans, mode: Mode, time: u32, first: Agent, second: Agent) -> Option<Conflict>
+pub(crate) fn edge(
+    plans: &Plans,
+    mode: Mode,
+    time: u32,
+    first: Agent,
+    second: Agent,
+) -> Option<Conflict>
     requires { time ≤ MOST_LAST_INDEX }
     ensures stands { IfSome result (Stands (tracks_of mode plans.now.rows)) }
     ensures found { (cell next : Point) → IsEdge (tracks_of mode plans.now.rows) time first second cell next → result ≡ Some (Conflict.Edge time first second cell next) }
@@ -151,7 +163,13 @@ pub(crate) fn following(
     }
 }
 
-pub(crate) fn swapping(plans: &Plans, mode: Mode, time: u32, first: Agent, second: Agent) -> Option<Conflict>
+pub(crate) fn swapping(
+    plans: &Plans,
+    mode: Mode,
+    time: u32,
+    first: Agent,
+    second: Agent,
+) -> Option<Conflict>
     requires { time ≤ MOST_LAST_INDEX }
     ensures stands { IfSome result (Stands (tracks_of mode plans.now.rows)) }
     ensures found { (cell other : Point) → IsSwapping (tracks_of mode plans.now.rows) time first second cell other → result ≡ Some (Conflict.Swapping time first second cell other) }

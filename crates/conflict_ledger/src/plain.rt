@@ -1,14 +1,8 @@
-ghost use Rattle.std.specs.Prelude.{◌≡◌, ℕ, ◌+◌, ◌<◌, ◌≤◌, Some, None, [], ◌∷◌, IfOk, OnOk, IfSome, List, slice_index, IsTrue, ◌↔◌, ◌⊎◌};
-ghost use Rattle.std.specs.Option.{SomeIff};
-ghost use Rattle.std.specs.Ordering.{nat_cmp};
-ghost use Rattle.std.specs.Cmp.Lexicographic.{slice_cmp};
-ghost use Rattle.grid_cells.specs.Cell.{Point};
-ghost use Rattle.plan_table.specs.Route.{position_of, last_of, leaves_of, Leaves, tracks_of};
-ghost use Rattle.conflict_ledger.specs.Entries.{IsVertex, IsParked, IsEdge, IsFollowing, IsSwapping, both_end_by};
+ghost use Rattle.std.specs.Prelude.{◌≡◌, ℕ, ◌+◌, ◌<◌, ◌≤◌, Some, None, IfOk, OnOk, IfSome, List, slice_index};
+ghost use Rattle.plan_table.specs.Route.{last_of, tracks_of};
 ghost use Rattle.conflict_ledger.specs.Cycles.{IsRing};
-ghost use Rattle.conflict_ledger.specs.ConflictList.{Stands, AreConflicts, listing_key};
-ghost use Rattle.plan_table.specs.Order.{ComesBefore};
-ghost use Rattle.conflict_ledger.specs.Finding.{IsListed, AreFound, KeepsAll, Adds, IsPlaceFor, HasKeyAt, AddsFound, HasPair, HasRing};
+ghost use Rattle.conflict_ledger.specs.ConflictList.{Stands, AreConflicts};
+ghost use Rattle.conflict_ledger.specs.Finding.{AreFound, KeepsAll, HasPair, HasRing};
 
 use crate::entries::Conflict;
 use crate::pairs::{edge, following, last, parked, swapping, vertex};

@@ -1,4 +1,4 @@
-ghost use Rattle.std.specs.Prelude.{◌≡◌, ◌≢◌, ℕ, ◌<◌, ◌≤◌, ◌↔◌, List, length, Some, IfOk, IfSome, IfNone, IsTrue, slice_get, slice_index, Contains};
+ghost use Rattle.std.specs.Prelude.{◌≡◌, ℕ, ◌<◌, ◌≤◌, ◌↔◌, List, length, Some, IfOk, IfSome, IfNone, IsTrue, slice_get, slice_index, Contains};
 ghost use Rattle.plan_table.specs.Plans.{agents_of};
 ghost use Rattle.plan_table.specs.Route.{tracks_of};
 ghost use Rattle.conflict_ledger.specs.Cycles.{MovesOut, IsRing};

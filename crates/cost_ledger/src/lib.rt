@@ -8,7 +8,5 @@ mod visits;
 
 pub use laws::{one_sum_and_makespan, one_visit_list, settles_at_last};
 pub use search::{blocked_visits, is_closed, is_unblocked};
-pub use totals::{
-    costs, greatest_of, is_finished, makespan, settle_time, sum_of, sum_of_costs,
-};
+pub use totals::{costs, greatest_of, is_finished, makespan, settle_time, sum_of, sum_of_costs};
 pub use visits::Visit;

@@ -1,5 +1,4 @@
-ghost use Rattle.std.specs.Prelude.{◌≡◌, ℕ, ◌+◌, ◌^◌, ◌<◌, ◌≤◌, ◌↔◌, IsTrue, length, Some, IfOk, slice_get};
-ghost use Rattle.plan_table.specs.Path.{IsPath};
+ghost use Rattle.std.specs.Prelude.{◌≡◌, ◌+◌, ◌^◌, ◌<◌, ◌≤◌, ◌↔◌, IsTrue, length, Some, IfOk};
 ghost use Rattle.cost_ledger.specs.Costs.{IsSettleTime, IsFinished, IsCost, AreCosts, IsSumOf, IsGreatestOf, IsSumOfCosts, IsMakespan};
 
 use grid_cells::{MOST_AGENT, OutOfMemory, Step};

@@ -1,5 +1,4 @@
-ghost use Rattle.std.specs.Prelude.{◌≡◌, ◌≤◌, ◌<◌, ◌+◌, IfOk, length, map, slice_get, Option, Some, ℕ};
-ghost use Rattle.plan_table.specs.Plans.{IsByAgent};
+ghost use Rattle.std.specs.Prelude.{◌≡◌, ◌<◌, IfOk, length, map, slice_get, Option, Some, ℕ};
 ghost use Rattle.desk_report.specs.Report.{IsBound, IsLine, AreBounds, AreLines, IsReportOf};
 
 use crate::reports::{AgentLine, Report};

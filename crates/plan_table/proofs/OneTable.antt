@@ -1,5 +1,5 @@
 -- Tables in order with the same row for every agent are equal.
-use Rattle.std.proofs.Common.{◌≡◌, ◌≢◌, ℕ, suc, ◌<◌, List, [], ◌∷◌, length, get_or, Some, None, Option, ◌⊎◌, inl, inr, refl, sym, ap, subst, ◌∙◌, arith}
+use Rattle.std.proofs.Common.{◌≡◌, ◌≢◌, ℕ, suc, ◌<◌, List, [], ◌∷◌, length, Some, None, inl, inr, refl, sym, ap, subst, ◌∙◌, arith}
 use Rattle.std.proofs.lemmas.Bool.{cases_order}
 use Rattle.std.proofs.lemmas.Bool.Decides.{nat_tests, eqb_tells}
 use Rattle.std.proofs.lemmas.Option.{same_Some}
@@ -26,7 +26,7 @@ rows_later a row left right up_left up_right same agent =
     elim (eqb_tells a agent) [
       | inl is ↦
           let none : (rows : List (ℕ × Row)) → IsByAgent ((a, row) ∷ rows) → row_of rows agent ≡ None =
-            λ rows up. row_of_absent rows agent (subst (λ q. NoneBefore rows q (length rows)) is.1 (first_below (a, row) rows up)) in
+          λ rows up. row_of_absent rows agent (subst (λ q. NoneBefore rows q (length rows)) is.1 (first_below (a, row) rows up)) in
           none left up_left ∙ sym (none right up_right)
       | inr apart ↦ sym (row_of-later a row left agent apart.1) ∙ same agent ∙ row_of-later a row right agent apart.1
     ]

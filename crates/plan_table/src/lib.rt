@@ -10,3 +10,6 @@ pub use laws::one_table;
 pub use paths::{MOST_LAST_INDEX, Plan, PlanFault};
 pub use plans::{Plans, Row};
 pub use tracks::{Mode, Track};
+
+#[cfg(test)]
+mod tests;

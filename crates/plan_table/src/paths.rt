@@ -1,9 +1,8 @@
-ghost use Rattle.std.specs.Prelude.{◌≡◌, ℕ, ◌<◌, ◌≤◌, ◌+◌, ◌-◌, ◌↔◌, Some, length, IfOk, IfErr, IfSome, OnOk, IfNone, IsTrue};
+ghost use Rattle.std.specs.Prelude.{◌≡◌, ◌<◌, ◌≤◌, ◌-◌, ◌↔◌, Some, IfOk, IfErr, IfSome, OnOk, IfNone, IsTrue};
 ghost use Rattle.plan_table.specs.Path.{place, last_index, IsWalkable, IsPath, IsPathOf, EndsInWait};
 ghost use Rattle.plan_table.specs.PlanFault.{Explains};
 
 use grid_cells::{Cell, OutOfMemory, Step};
-
 use std::marker::Model;
 
 /// The greatest last index of a path.

@@ -1,4 +1,4 @@
-ghost use Rattle.std.specs.Prelude.{◌≡◌, ◌+◌, ◌<◌, ◌≤◌, [], None, Some, length, IfOk, IfErr, IfSome, IfNone, OnOk, OnErr, OnSome, IsSome, slice_get};
+ghost use Rattle.std.specs.Prelude.{◌≡◌, ◌+◌, ◌<◌, ◌≤◌, [], None, Some, length, IfOk, IfErr, IfSome, IfNone, OnOk, OnSome, IsSome, slice_get};
 ghost use Rattle.std.specs.Option.{option_copied};
 ghost use Rattle.std.specs.Prelude.{ℕ, slice_set, slice_index_or, vec_capacity, vec_len};
 ghost use Rattle.plan_table.specs.declared.plans.Row.{Row};

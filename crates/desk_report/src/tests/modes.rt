@@ -53,14 +53,18 @@ fn two_enter_one_goal(rt: HostRuntime) -> Result<(), Fail> {
     let both_rest = List::new(vec![in alloc; parked(1, 0, 1, (1, 0))?]?);
     let one_leaves = List::new(vec![in alloc; vertex(1, 0, 1, (1, 0))?]?);
     let bounds = &[Some(1), Some(1)];
+    let zero = agent(0)?;
+    let one = agent(1)?;
     assert!(rt; report(alloc, Mode::Stay, &plans, bounds)?.conflicts == both_rest);
     assert!(rt; report(alloc, Mode::Disappear, &plans, bounds)?.conflicts == one_leaves);
-    if plans.row(agent(1)?).is_some() {
-        plans.set_goal(agent(1)?, cell((2, 0))?);
+    let right = cell((2, 0))?;
+    if plans.row(one).is_some() {
+        plans.set_goal(one, right);
     }
     assert!(rt; report(alloc, Mode::Disappear, &plans, bounds)?.conflicts == one_leaves);
-    if plans.row(agent(0)?).is_some() {
-        plans.set_goal(agent(0)?, cell((0, 0))?);
+    let left = cell((0, 0))?;
+    if plans.row(zero).is_some() {
+        plans.set_goal(zero, left);
     }
     assert!(rt; report(alloc, Mode::Disappear, &plans, bounds)?.conflicts == both_rest);
     Ok(())
