@@ -1,6 +1,6 @@
-ghost use Rattle.std.specs.Prelude.{◌≡◌, ◌*◌, ◌<◌, ◌↔◌, IsTrue, IfOk};
+ghost use Rattle.std.specs.Prelude.{◌≡◌, ◌*◌, ◌↔◌, IsTrue, IfOk, length};
 ghost use Rattle.grid_cells.specs.Size.{Holds};
-ghost use Rattle.grid_cells.specs.Grid.{IsOpen, open_chart, with_cell, flag_index};
+ghost use Rattle.grid_cells.specs.Grid.{IsOpen, open_chart, with_cell};
 
 use crate::cells::Cell;
 use crate::memory::OutOfMemory;
@@ -49,7 +49,8 @@ impl Grid {
 
     /// The columns and rows of the map.
     pub fn size(&self) -> Size
-        ensures { result ≡ self.now.size }
+        ensures is { result ≡ self.now.size }
+        ensures whole { length self.now.flags ≡ self.now.size.width * self.now.size.height }
     {
         self.size
     }
@@ -59,7 +60,7 @@ impl Grid {
         requires { Holds self.now.size cell }
         ensures { IsTrue result ↔ IsOpen self.now cell }
     {
-        self.flags[place(self.size, cell)]
+        self.flags[self.size.index(cell)]
     }
 
     /// Opens the cell where `free`, and closes it otherwise.
@@ -67,16 +68,7 @@ impl Grid {
         requires { Holds self.old.size cell }
         ensures { self.new ≡ with_cell self.old cell free }
     {
-        let at = place(self.size, cell);
+        let at = self.size.index(cell);
         self.flags[at] = free;
     }
-}
-
-// Where the cell's flag is.
-fn place(size: Size, cell: Cell) -> usize
-    requires { Holds size cell }
-    ensures at { result ≡ flag_index size cell }
-    ensures within { result < size.width * size.height }
-{
-    cell.y() as usize * size.width() as usize + cell.x() as usize
 }

@@ -30,6 +30,14 @@ impl<T> List<T> {
     {
         &self.items
     }
+
+    /// The items, in their order, as they were handed in.
+    pub fn into_items(self) -> Vec<T>
+        ensures { result.items ≡ self }
+    {
+        let List { items } = self;
+        items
+    }
 }
 
 impl<T: PartialEq> PartialEq for List<T> {

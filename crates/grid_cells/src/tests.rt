@@ -41,6 +41,8 @@ fn cells_and_their_neighbours(rt: HostRuntime) -> Result<(), Fail> {
     let corner = size.cell(0, 0).ok_or("a cell")?;
     let right = size.cell(1, 0).ok_or("a cell")?;
     let below = size.cell(0, 1).ok_or("a cell")?;
+    assert!(rt; size.holds(below));
+    assert!(rt; size.index(below) == 3);
     assert!(rt; size.cell(3, 0).is_none() && size.cell(0, 2).is_none());
     assert!(rt; size.neighbours(corner) == [None, None, Some(right), Some(below)]);
     assert!(rt; right.x() == 1 && right.y() == 0);
@@ -76,6 +78,8 @@ fn lists_and_the_want_of_memory(rt: HostRuntime) -> Result<(), Fail> {
     let list = List::new(vec![in rt.alloc(); 4_u32, 2]?);
     assert!(rt; list.items() == [4, 2].as_slice());
     assert!(rt; list == List::new(vec![in rt.alloc(); 4_u32, 2]?));
+    assert!(rt; list.into_items().len() == 2);
+    let list = List::new(vec![in rt.alloc(); 4_u32, 2]?);
     assert!(rt; list != List::new(vec![in rt.alloc(); 4_u32]?));
     let refused = OutOfMemory::from(AllocError);
     assert_eq!(rt;

@@ -1,0 +1,13 @@
+use Rattle.std.proofs.Common.{rules, ◌≡◌, sym, ap, subst, arith}
+use Rattle.bench_reader.specs.MapSpelling.{map_spelling}
+use Rattle.bench_reader.specs.MapText.{IsMapText}
+use Rattle.bench_reader.proofs.SpellingLemmas.{row_written, map_reads}
+use Rattle.bench_reader.proofs.writer.write_map.Goals as goal
+
+pub loop-row-preserved : goal.loop-row-preserved
+loop-row-preserved c = row_written c.loop-row.text.items c.write_row.new.text.items _ c.args.grid.now.flags c.args.grid.now.size.width c.args.grid.now.size.height c.loop-row.row (omega (arith, ap (λ size. size.height) c.size-size.ensures.is, c.height-row-end.ensures.is)) (search rules) c.loop-row.invariant
+
+pub returns-clause-reads : goal.returns-clause-reads
+returns-clause-reads c =
+    let whole : c.loop-row.text.items ≡ map_spelling c.args.grid.now = search rules in
+    subst (λ text. IsMapText text c.args.grid.now) (sym whole) (map_reads c.args.grid.now (search rules) c.size-size.ensures.whole)

@@ -1,0 +1,10 @@
+pub mod Lines
+pub mod Words
+pub mod Letters
+pub mod RowFaults
+pub mod MapText
+pub mod MapFaults
+pub mod MapSpelling
+pub mod ScenText
+pub mod ScenFaults
+pub mod Laws

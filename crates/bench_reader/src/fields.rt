@@ -1,0 +1,101 @@
+ghost use Rattle.std.specs.Prelude.{◌≡◌, ◌≢◌, [], ◌∷◌, length, MatchOption, MatchResult};
+ghost use Rattle.bench_reader.specs.Words.{words_of};
+ghost use Rattle.bench_reader.specs.ScenText.{AreFields};
+ghost use Rattle.bench_reader.specs.ScenFaults.{IsBadField};
+
+use crate::words::{next_word, number_of};
+
+/// The numbers of a task's line.
+#[derive(Clone, Copy)]
+pub(crate) struct Fields {
+    pub(crate) bucket: u32,
+    pub(crate) width: u32,
+    pub(crate) height: u32,
+    pub(crate) start_x: u32,
+    pub(crate) start_y: u32,
+    pub(crate) goal_x: u32,
+    pub(crate) goal_y: u32,
+}
+
+/// The words of a task's line.
+#[derive(Clone, Copy)]
+pub(crate) struct TaskWords<'a> {
+    bucket: &'a [u8],
+    map: &'a [u8],
+    width: &'a [u8],
+    height: &'a [u8],
+    start_x: &'a [u8],
+    start_y: &'a [u8],
+    goal_x: &'a [u8],
+    goal_y: &'a [u8],
+    optimal: &'a [u8],
+}
+
+/// The words of a line that has nine.
+pub(crate) fn task_words(line: &[u8]) -> Option<TaskWords<'_>>
+    ensures { MatchOption result (length (words_of line.now) ≢ 9)
+        (λ w. words_of line.now ≡ w.bucket.now ∷ w.map.now ∷ w.width.now ∷ w.height.now
+        ∷ w.start_x.now ∷ w.start_y.now ∷ w.goal_x.now ∷ w.goal_y.now ∷ w.optimal.now ∷ []) }
+{
+    let (bucket, rest) = next_word(line)?;
+    let (map, rest) = next_word(rest)?;
+    let (width, rest) = next_word(rest)?;
+    let (height, rest) = next_word(rest)?;
+    let (start_x, rest) = next_word(rest)?;
+    let (start_y, rest) = next_word(rest)?;
+    let (goal_x, rest) = next_word(rest)?;
+    let (goal_y, rest) = next_word(rest)?;
+    let (optimal, rest) = next_word(rest)?;
+    if next_word(rest).is_some() {
+        return None;
+    }
+    Some(TaskWords {
+        bucket,
+        map,
+        width,
+        height,
+        start_x,
+        start_y,
+        goal_x,
+        goal_y,
+        optimal,
+    })
+}
+
+/// The numbers in the words, or the first field, counted from 1, that should be one and isn't.
+pub(crate) fn fields_of(w: &TaskWords<'_>) -> Result<Fields, usize>
+    ensures { let words = w.now.bucket.now ∷ w.now.map.now ∷ w.now.width.now ∷ w.now.height.now
+        ∷ w.now.start_x.now ∷ w.now.start_y.now ∷ w.now.goal_x.now ∷ w.now.goal_y.now ∷ w.now.optimal.now ∷ []
+        in MatchResult result (AreFields words) (IsBadField words) }
+{
+    let Some(bucket) = number_of(w.bucket) else {
+        return Err(1);
+    };
+    let Some(width) = number_of(w.width) else {
+        return Err(3);
+    };
+    let Some(height) = number_of(w.height) else {
+        return Err(4);
+    };
+    let Some(start_x) = number_of(w.start_x) else {
+        return Err(5);
+    };
+    let Some(start_y) = number_of(w.start_y) else {
+        return Err(6);
+    };
+    let Some(goal_x) = number_of(w.goal_x) else {
+        return Err(7);
+    };
+    let Some(goal_y) = number_of(w.goal_y) else {
+        return Err(8);
+    };
+    Ok(Fields {
+        bucket,
+        width,
+        height,
+        start_x,
+        start_y,
+        goal_x,
+        goal_y,
+    })
+}

@@ -1,0 +1,23 @@
+//! Reads and writes grid maps and scenarios in the text forms of the MovingAI benchmarks.
+#![tactic(auto)]
+
+mod fields;
+mod header;
+mod laws;
+mod lines;
+#[cfg(test)]
+mod map_tests;
+mod maps;
+mod rows;
+#[cfg(test)]
+mod scen_tests;
+mod scens;
+mod tasks;
+mod words;
+mod writer;
+
+pub use laws::{one_map_answer, one_scen_answer};
+pub use maps::{MapFault, read_map};
+pub use scens::{ScenFault, read_scen};
+pub use tasks::Task;
+pub use writer::write_map;
