@@ -1,5 +1,4 @@
 ghost use Rattle.std.specs.Prelude.{◌≡◌, ℕ, ◌+◌, ◌*◌, ◌<◌, ◌≤◌, Some, List, ◌++◌, length, map, take, OnOk, IfOk, IfErr, MatchResult};
-ghost use Rattle.grid_cells.specs.Size.{IsSize};
 ghost use Rattle.bench_reader.specs.Lines.{lines_of};
 ghost use Rattle.bench_reader.specs.Letters.{state_of, BeginsWithRows};
 ghost use Rattle.bench_reader.specs.RowFaults.{IsRowFault, IsRowsFault};

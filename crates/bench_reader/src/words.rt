@@ -1,4 +1,4 @@
-ghost use Rattle.std.specs.Prelude.{◌≡◌, ◌≢◌, ◌<◌, ◌≤◌, [], ◌∷◌, ◌++◌, true, false, length, take, drop, MatchOption};
+ghost use Rattle.std.specs.Prelude.{◌≡◌, ◌≢◌, ◌<◌, ◌≤◌, [], ◌∷◌, true, false, length, take, drop, MatchOption};
 ghost use Rattle.std.specs.List.{list_all};
 ghost use Rattle.bench_reader.specs.Lines.{is_blank};
 ghost use Rattle.bench_reader.specs.Words.{ends_word, is_in_word, words_of, number_of};

@@ -1,4 +1,4 @@
-ghost use Rattle.std.specs.Prelude.{◌≡◌, ◌*◌, ◌<◌, [], ◌∷◌, ◌++◌, codes, decimal, drop, length, map, take, IfOk, OnOk};
+ghost use Rattle.std.specs.Prelude.{◌≡◌, ◌*◌, ◌<◌, [], ◌∷◌, ◌++◌, decimal, drop, map, take, IfOk, OnOk};
 ghost use Rattle.bench_reader.specs.MapText.{IsMapText};
 ghost use Rattle.bench_reader.specs.MapSpelling.{map_spelling, header_lines, letter_of, spelled};
 
