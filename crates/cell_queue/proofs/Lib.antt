@@ -1,0 +1,4 @@
+pub mod Indexes
+pub mod HeapOrder
+pub mod HeapSync
+pub mod HeapKeys

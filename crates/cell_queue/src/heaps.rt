@@ -1,0 +1,217 @@
+ghost use Rattle.std.specs.Prelude.{◌≡◌, ℕ, ◌+◌, ◌*◌, ◌<◌, ◌≤◌, Some, None, IfOk, IfSome, IfNone, is_some, slice_index, slice_set, replicate};
+ghost use Rattle.grid_cells.specs.Size.{Holds};
+ghost use Rattle.grid_cells.specs.Grid.{flag_index};
+ghost use Rattle.cell_queue.specs.Queue.{area, key_at, IsLeastKey, IsEmpty};
+ghost use Rattle.cell_queue.specs.Heap.{IsSyncedHeap, IsHeap, IsShuffled, IsLoose, IsLooseUp, IsLooseDown, IsChild, keys_in, number_in, queue_of};
+
+use grid_cells::{Cell, OutOfMemory, Size};
+use std::alloc::Global;
+
+// The place of a cell that is not in the heap.
+const NOWHERE: u32 = u32::MAX;
+
+// A binary heap of cells, the least key on top, that knows the place of each cell. `cells` and
+// `keys` count up to `len`.
+#[derive(Drop)]
+pub struct Heap {
+    pub size: Size,
+    pub cells: Vec<Cell>,
+    pub keys: Vec<u32>,
+    pub places: Vec<u32>,
+    pub len: usize,
+}
+
+impl Heap {
+    // Exchanges what stands at two places.
+    fn swap(&mut self, i: usize, j: usize)
+        requires synced { IsSyncedHeap self.old }
+        requires first { i < self.old.len }
+        requires second { j < self.old.len }
+        ensures synced { IsSyncedHeap self.new }
+        ensures shuffled { IsShuffled self.old self.new }
+        ensures moved { number_in self.new.size self.new.cells.items j ≡
+            number_in self.old.size self.old.cells.items i }
+        ensures keys { self.new.keys.items ≡
+            slice_set (slice_set self.old.keys.items i (slice_index self.old.keys.items j)) j
+            (slice_index self.old.keys.items i) }
+    {
+        let (cell, other) = (self.cells[i], self.cells[j]);
+        let (key, other_key) = (self.keys[i], self.keys[j]);
+        self.cells[i] = other;
+        self.cells[j] = cell;
+        self.keys[i] = other_key;
+        self.keys[j] = key;
+        self.places[self.size.index(other)] = i as u32;
+        self.places[self.size.index(cell)] = j as u32;
+    }
+
+    // Moves a key that may be too small up to where it belongs.
+    fn rise(&mut self, at: usize)
+        requires synced { IsSyncedHeap self.old }
+        requires at { at < self.old.len }
+        requires loose { IsLooseUp self.old.keys.items self.old.len at }
+        ensures heap { IsHeap self.new }
+        ensures shuffled { IsShuffled self.old self.new }
+    {
+        let mut at = at;
+        while at > 0 {
+            let parent = (at - 1) / 2;
+            if self.keys[parent] <= self.keys[at] {
+                return;
+            }
+            self.swap(parent, at);
+            at = parent;
+        }
+    }
+
+    // The child with the lesser key.
+    fn lesser_child(&self, at: usize) -> usize
+        requires synced { IsSyncedHeap self.now }
+        requires parent { 2 * at + 1 < self.now.len }
+        ensures child { IsChild at result }
+        ensures inside { result < self.now.len }
+        ensures least { (c : ℕ) → IsChild at c → c < self.now.len →
+            slice_index self.now.keys.items result ≤ slice_index self.now.keys.items c }
+    {
+        let left = 2 * at + 1;
+        if left + 1 < self.len && self.keys[left + 1] < self.keys[left] {
+            left + 1
+        } else {
+            left
+        }
+    }
+
+    // Moves a key that may be too great down to where it belongs.
+    fn sink(&mut self, at: usize)
+        requires synced { IsSyncedHeap self.old }
+        requires at { at < self.old.len }
+        requires loose { IsLooseDown self.old.keys.items self.old.len at }
+        ensures heap { IsHeap self.new }
+        ensures shuffled { IsShuffled self.old self.new }
+    {
+        let mut at = at;
+        while 2 * at + 1 < self.len {
+            let child = self.lesser_child(at);
+            if self.keys[at] <= self.keys[child] {
+                return;
+            }
+            self.swap(at, child);
+            at = child;
+        }
+    }
+
+    // Moves the key at a place to where it belongs.
+    fn settle(&mut self, at: usize)
+        requires synced { IsSyncedHeap self.old }
+        requires at { at < self.old.len }
+        requires loose { IsLoose self.old.keys.items self.old.len at }
+        ensures heap { IsHeap self.new }
+        ensures shuffled { IsShuffled self.old self.new }
+    {
+        if at > 0 && self.keys[at] < self.keys[(at - 1) / 2] {
+            self.rise(at);
+        } else {
+            self.sink(at);
+        }
+    }
+}
+
+impl Heap {
+    // An empty heap with room for each cell.
+    pub fn new(alloc: Global, size: Size) -> Result<Heap, OutOfMemory>
+        ensures heap { IfOk result IsHeap }
+        ensures size { IfOk result (λ h. h.size ≡ size) }
+        ensures empty { IfOk result (λ h. keys_in h ≡ replicate (area size) None) }
+    {
+        let room = size.width() as usize * size.height() as usize;
+        let filler = Cell::new(0, 0).unwrap();
+        Ok(Heap {
+            size,
+            cells: vec![in alloc; filler; room]?,
+            keys: vec![in alloc; 0; room]?,
+            places: vec![in alloc; NOWHERE; room]?,
+            len: 0,
+        })
+    }
+
+    // Puts the cell in, or gives it another key.
+    pub fn put(&mut self, cell: Cell, key: u32)
+        requires heap { IsHeap self.old }
+        requires held { Holds self.old.size cell }
+        ensures heap { IsHeap self.new }
+        ensures size { self.new.size ≡ self.old.size }
+        ensures keys { keys_in self.new ≡ slice_set (keys_in self.old) (flag_index self.old.size cell) (Some key) }
+    {
+        let index = self.size.index(cell);
+        let place = self.places[index] as usize;
+        if place < self.len {
+            self.keys[place] = key;
+            self.settle(place);
+        } else {
+            let last = self.len;
+            self.cells[last] = cell;
+            self.keys[last] = key;
+            self.places[index] = last as u32;
+            self.len += 1;
+            self.rise(last);
+        }
+    }
+
+    // Takes out what stands at a place.
+    fn remove_at(&mut self, place: usize)
+        requires heap { IsHeap self.old }
+        requires place { place < self.old.len }
+        ensures heap { IsHeap self.new }
+        ensures size { self.new.size ≡ self.old.size }
+        ensures keys { keys_in self.new ≡
+            slice_set (keys_in self.old) (number_in self.old.size self.old.cells.items place) None }
+    {
+        let last = self.len - 1;
+        self.swap(place, last);
+        let index = self.size.index(self.cells[last]);
+        self.places[index] = NOWHERE;
+        self.len = last;
+        if place < last {
+            self.settle(place);
+        }
+    }
+
+    // Takes the cell out, and tells whether it was in.
+    pub fn remove(&mut self, cell: Cell) -> bool
+        requires heap { IsHeap self.old }
+        requires held { Holds self.old.size cell }
+        ensures heap { IsHeap self.new }
+        ensures size { self.new.size ≡ self.old.size }
+        ensures found { result ≡ is_some (key_at (queue_of self.old) cell) }
+        ensures keys { keys_in self.new ≡ slice_set (keys_in self.old) (flag_index self.old.size cell) None }
+    {
+        let place = self.places[self.size.index(cell)] as usize;
+        if place < self.len {
+            self.remove_at(place);
+            true
+        } else {
+            false
+        }
+    }
+
+    // Takes out a cell with a least key.
+    pub fn take_top(&mut self) -> Option<(Cell, u32)>
+        requires { IsHeap self.old }
+        ensures heap { IsHeap self.new }
+        ensures held { IfSome result (λ t. Holds self.old.size t.0) }
+        ensures found { IfSome result (λ t. key_at (queue_of self.old) t.0 ≡ Some t.1) }
+        ensures least { IfSome result (λ t. IsLeastKey (queue_of self.old) t.1) }
+        ensures size { self.new.size ≡ self.old.size }
+        ensures keys { IfSome result (λ t.
+            keys_in self.new ≡ slice_set (keys_in self.old) (flag_index self.old.size t.0) None) }
+        ensures none { IfNone result (IsEmpty (queue_of self.old)) }
+        ensures unchanged { IfNone result (keys_in self.new ≡ keys_in self.old) }
+    {
+        if self.len == 0 {
+            return None;
+        }
+        let least = (self.cells[0], self.keys[0]);
+        self.remove_at(0);
+        Some(least)
+    }
+}

@@ -1,0 +1,112 @@
+ghost use Rattle.std.specs.Prelude.{◌≡◌, ◌↔◌, IfOk, IfSome, IfNone, Some, None, IsTrue};
+ghost use Rattle.grid_cells.specs.Size.{Holds};
+ghost use Rattle.cell_queue.specs.Queue.{empty_queue, with_key, one_more, key_at, HasCell, IsLeastKey, IsEmpty};
+
+use crate::heaps::Heap;
+use grid_cells::{Cell, OutOfMemory, Size};
+use std::alloc::Global;
+use std::marker::Model;
+
+/// Some cells of a map, each under a key, and a counter of the cells that were taken.
+#[derive(Drop)]
+pub struct CellQueue {
+    heap: Heap,
+    taken: u64,
+}
+
+// Clauses see the size, the key of each cell, and the counter.
+impl Model for CellQueue {
+    ghost use Rattle.cell_queue.specs.Queue.{Queue};
+
+    ghost Value = { Queue };
+
+    ghost use Rattle.cell_queue.specs.Heap.{keys_in, IsHeap};
+
+    ghost view = { λ q. record { size = q.heap.size; keys = keys_in q.heap; taken = q.taken } };
+
+    ghost invariant = { λ q. IsHeap q.heap };
+}
+
+impl CellQueue {
+    /// An empty queue with room for each cell of a map.
+    pub fn new(alloc: Global, size: Size) -> Result<CellQueue, OutOfMemory>
+        ensures { IfOk result (λ queue. queue ≡ empty_queue size) }
+    {
+        Ok(CellQueue {
+            heap: Heap::new(alloc, size)?,
+            taken: 0,
+        })
+    }
+
+    /// Puts the cell in, or gives it another key.
+    pub fn put(&mut self, cell: Cell, key: u32)
+        requires { Holds self.old.size cell }
+        ensures { self.new ≡ with_key self.old cell (Some key) }
+    {
+        self.heap.put(cell, key);
+    }
+
+    /// Takes the cell out without counting it, and tells whether it was in.
+    pub fn remove(&mut self, cell: Cell) -> bool
+        ensures found { IsTrue result ↔ HasCell self.old cell }
+        ensures inside { Holds self.old.size cell → self.new ≡ with_key self.old cell None }
+        ensures outside { (Holds self.old.size cell → ⊥) → self.new ≡ self.old }
+    {
+        self.heap.size.holds(cell) && self.heap.remove(cell)
+    }
+
+    /// Takes out a cell with a least key, and counts it.
+    pub fn take_least(&mut self) -> Option<(Cell, u32)>
+        ensures inside { IfSome result (λ taken. Holds self.old.size taken.0) }
+        ensures found { IfSome result (λ taken. key_at self.old taken.0 ≡ Some taken.1) }
+        ensures least { IfSome result (λ taken. IsLeastKey self.old taken.1) }
+
+        // It is out, and one more is counted.
+        ensures after { IfSome result (λ taken.
+            self.new ≡ record (with_key self.old taken.0 None) { taken = one_more self.old.taken }) }
+        ensures none { IfNone result (IsEmpty self.old) }
+        ensures unchanged { IfNone result (self.new ≡ self.old) }
+    {
+        let least = self.heap.take_top()?;
+        self.taken = self.taken.saturating_add(1);
+        Some(least)
+    }
+
+    /// How many cells were taken since the queue was made or reset, held at the greatest u64.
+    pub fn taken(&self) -> u64
+        ensures { result ≡ self.now.taken }
+    {
+        self.taken
+    }
+
+    /// Sets the counter to 0.
+    pub fn reset(&mut self)
+        ensures { self.new ≡ record self.old { taken = 0 } }
+    {
+        self.taken = 0;
+    }
+}
+
+#[cfg(test)]
+mod tests {
+    use super::CellQueue;
+    use grid_cells::{Cell, Size};
+
+    #[test]
+    fn queue_of_three(rt: HostRuntime) {
+        let size = Size::new(3, 1).expect(&rt, "size");
+        let first = Cell::new(0, 0).expect(&rt, "cell");
+        let second = Cell::new(1, 0).expect(&rt, "cell");
+        let mut queue = CellQueue::new(rt.alloc(), size).expect(&rt, "memory");
+        queue.put(first, 5);
+        queue.put(second, 2);
+        queue.put(first, 1);
+        assert!(rt; queue.take_least() == Some((first, 1)));
+        assert!(rt; queue.remove(second));
+        assert!(rt; queue.take_least() == None);
+        assert!(rt; queue.taken() == 1);
+        assert!(rt; !queue.remove(Cell::new(3, 0).expect(&rt, "cell")));
+        queue.reset();
+        assert!(rt; queue.taken() == 0);
+    }
+}

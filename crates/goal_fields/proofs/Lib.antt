@@ -1,0 +1,11 @@
+pub mod Neighbours
+pub mod SearchLemmas
+pub mod RepairLemmas
+pub mod RepairEnds
+pub mod UpdateLemmas
+pub mod TakeLemmas
+pub mod EditLemmas
+pub mod LastLemmas
+pub mod CountLemmas
+pub mod HeldLemmas
+pub mod CoverLemmas

@@ -1,0 +1,22 @@
+ghost use Rattle.std.specs.Prelude.{◌≡◌, ◌<◌};
+ghost use Rattle.grid_cells.specs.Size.{Holds, neighbours_of};
+ghost use Rattle.grid_cells.specs.Grid.{flag_index};
+ghost use Rattle.cell_queue.specs.Queue.{area};
+
+use grid_cells::{Cell, Grid};
+
+// Where the cell stands in a list of all cells of the grid, row by row.
+pub fn place_of(grid: &Grid, cell: Cell) -> usize
+    requires { Holds grid.now.size cell }
+    ensures is { result ≡ flag_index grid.now.size cell }
+    ensures bound { result < area grid.now.size }
+{
+    grid.size().index(cell)
+}
+
+// The cells above, left, right and below, each if the grid has it.
+pub fn around(grid: &Grid, cell: Cell) -> [Option<Cell>; 4]
+    ensures { result ≡ neighbours_of grid.now.size cell }
+{
+    grid.size().neighbours(cell)
+}
