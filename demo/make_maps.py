@@ -1,5 +1,7 @@
 #!/usr/bin/env python3
-"""Writes the maps and scenarios of crates/demo_maps/data, in the text forms of the MovingAI benchmarks.
+"""Writes the maps and scenarios of this folder, in the text forms of the MovingAI benchmarks.
+
+The same files go to crates/demo_maps/data, where the gate reads them.
 
 Each run writes the same files: the generator below has a fixed seed and uses integers alone.
 A scenario's tasks have distinct starts and distinct goals, and each goal can be reached. The
@@ -82,17 +84,23 @@ def tasks(rows, numbers):
     return sorted(chosen, key=lambda task: task[2] // 4)
 
 
+def write_lines(folders, name, lines):
+    for folder in folders:
+        (folder / name).write_text("".join(line + "\n" for line in lines))
+
+
 def write(name, rows, numbers):
-    folder = Path(__file__).resolve().parent.parent / "crates" / "demo_maps" / "data"
+    demo = Path(__file__).resolve().parent
+    folders = [demo, demo.parent / "crates" / "demo_maps" / "data"]
     width, height = len(rows[0]), len(rows)
     lines = ["type octile", f"height {height}", f"width {width}", "map"]
     lines += ["".join(row) for row in rows]
-    (folder / f"{name}.map").write_text("".join(line + "\n" for line in lines))
+    write_lines(folders, f"{name}.map", lines)
     lines = ["version 1"]
     for (x, y), (goal_x, goal_y), length in tasks(rows, numbers):
         fields = [length // 4, f"{name}.map", width, height, x, y, goal_x, goal_y, f"{length}.00000000"]
         lines.append("\t".join(str(field) for field in fields))
-    (folder / f"{name}.scen").write_text("".join(line + "\n" for line in lines))
+    write_lines(folders, f"{name}.scen", lines)
 
 
 def main():
