@@ -1,15 +1,24 @@
-//! The report of a map and a fleet's plans.
+//! The report of a map and a fleet's plans, its text, and the sources and sinks of bytes that
+//! texts come from and go to.
 #![tactic(auto)]
 
+mod bytes;
 mod describe;
 mod kinds;
 mod laws;
 mod reports;
+mod text;
+mod values;
+mod words;
 
+pub use bytes::{ReadFailed, Sink, Source, Spout, Tap, WriteFailed, put_all};
 pub use describe::plain_report;
 pub use kinds::Kinds;
 pub use laws::{one_report, settle_is_bound_and_gap};
 pub use reports::{AgentLine, Report};
+pub use text::write_report;
+pub use values::{put_answer, put_cell, put_given, put_number};
+pub use words::{Word, put_line, put_more, put_next, put_word};
 
 #[cfg(test)]
 mod tests;

@@ -1,5 +1,7 @@
-//! Worked examples: reports of a few agents, drawn by hand.
+//! Worked examples: reports of a few agents, drawn by hand, and their texts.
 mod build;
 mod modes;
 mod moves;
 mod prices;
+mod streams;
+mod texts;

@@ -1,0 +1,4 @@
+pub mod Freshness
+pub mod OnMap
+pub mod RunsOn
+pub mod Replaying

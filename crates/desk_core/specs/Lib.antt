@@ -1,0 +1,7 @@
+pub mod Entries
+pub mod State
+pub mod Stale
+pub mod Commits
+pub mod Questions
+pub mod Runs
+pub mod Replays

@@ -1,0 +1,160 @@
+ghost use Rattle.std.specs.Prelude.{◌≡◌, ◌≤◌, IfOk, IfSome, IfNone};
+ghost use Rattle.desk_core.specs.State.{opening, version_of};
+ghost use Rattle.desk_core.specs.Commits.{IsCurrent, Refuses, Committed};
+ghost use Rattle.desk_core.specs.Questions.{Shows, Tells, Copies};
+
+use crate::answers::{AskFault, Reading, Refusal, Snapshot};
+use crate::commits::Commit;
+use crate::limits::Limit;
+use crate::questions::{distance_in, report};
+use crate::stale::stale;
+use grid_cells::{Agent, Cell, OutOfMemory};
+use scene_edits::{EditsFault, Scene};
+use std::alloc::Global;
+use std::marker::Model;
+
+/// A scene, and the journal of the commits that made it of the scene at the opening.
+#[derive(Debug, Drop)]
+pub struct Desk {
+    alloc: Global,
+    scene: Scene,
+    journal: Vec<Commit>,
+    limit: Limit,
+}
+
+impl Model for Desk {
+    ghost use Rattle.desk_core.specs.State.{DeskState};
+
+    ghost Value = { DeskState };
+
+    ghost use Rattle.std.specs.Prelude.{◌≤◌, length};
+
+    ghost view = { λ d. record { scene = d.scene; journal = d.journal.items; limit = d.limit } };
+
+    ghost invariant = { λ d. length d.journal.items ≤ d.limit };
+}
+
+impl Desk {
+    /// The desk of that scene, at version 0, whose journal may have so many entries.
+    pub fn open(alloc: Global, scene: Scene, limit: Limit) -> Desk
+        ensures { result ≡ opening scene limit }
+    {
+        Desk {
+            alloc,
+            scene,
+            journal: Vec::new(alloc),
+            limit,
+        }
+    }
+
+    /// How many commits the desk has accepted.
+    pub fn version(&self) -> u64
+        ensures is { result ≡ version_of self.now }
+        ensures within { result ≤ self.now.limit }
+    {
+        self.journal.len() as u64
+    }
+
+    /// How many commits the desk may accept.
+    pub fn limit(&self) -> Limit
+        ensures { result ≡ self.now.limit }
+    {
+        self.limit
+    }
+
+    /// The accepted commits, in their order. Entries are numbered from 1.
+    pub fn journal(&self) -> &[Commit]
+        ensures { result.now ≡ self.now.journal }
+    {
+        &self.journal
+    }
+
+    /// The scene as it is.
+    pub fn scene(&self) -> &Scene
+        ensures { result.now ≡ self.now.scene }
+    {
+        &self.scene
+    }
+
+    /// Applies the edits of the commit, all or none, and answers the new version.
+    ///
+    /// # Errors
+    ///
+    /// The first reason to refuse the commit, and the commit as it was handed in. The scene and
+    /// the journal are then as they were.
+    pub fn commit(&mut self, commit: Commit) -> Result<u64, (Refusal, Commit)>
+        ensures { Committed self.old commit result self.new }
+    {
+        if let Some(refusal) = self.not_current(&commit) {
+            return Err((refusal, commit));
+        }
+        if self.journal.reserve(1).is_err() {
+            return Err((Refusal::OutOfMemory, commit));
+        }
+        match self.scene.apply_all(commit.edits()) {
+            Ok(_) => {}
+            Err(EditsFault::Faulty { index, why }) => {
+                return Err((Refusal::Faulty { index, why }, commit));
+            }
+            Err(EditsFault::OutOfMemory) => return Err((Refusal::OutOfMemory, commit)),
+        }
+        match self.journal.push(commit) {
+            Ok(()) => Ok(self.journal.len() as u64),
+            Err(_) => unreachable!(),
+        }
+    }
+
+    /// The report of the scene, at the desk's version.
+    pub fn reading(&mut self) -> Result<Reading, OutOfMemory>
+        ensures same { self.new ≡ self.old }
+        ensures shown { IfOk result (Shows self.old) }
+    {
+        let version = self.version();
+        let report = report(self.alloc, &self.scene)?;
+        Ok(Reading { version, report })
+    }
+
+    /// The distance in steps of the cell to the agent's goal on the present map, if there is one.
+    ///
+    /// # Errors
+    ///
+    /// The first fault of the question, or want of memory.
+    pub fn distance(&mut self, agent: Agent, cell: Cell) -> Result<Option<u32>, AskFault>
+        ensures same { self.new ≡ self.old }
+        ensures told { Tells self.old.scene agent cell result }
+    {
+        distance_in(self.alloc, &self.scene, agent, cell)
+    }
+
+    /// A copy of the scene, at the desk's version.
+    pub fn snapshot(&self) -> Result<Snapshot, OutOfMemory>
+        ensures { IfOk result (Copies self.now) }
+    {
+        Ok(Snapshot {
+            version: self.version(),
+            scene: self.scene.copy()?,
+        })
+    }
+
+    // The first reason to refuse the commit that doesn't look at what its edits do.
+    fn not_current(&self, commit: &Commit) -> Option<Refusal>
+        ensures refused { IfSome result (Refuses self.now commit.now) }
+        ensures current { IfNone result (IsCurrent self.now commit.now) }
+    {
+        let now = self.version();
+        let limit = self.limit.entries();
+        if now >= u64::from(limit) {
+            return Some(Refusal::JournalFull { limit });
+        }
+        if commit.base() > now {
+            return Some(Refusal::Ahead { now });
+        }
+        if commit.edits().is_empty() {
+            return Some(Refusal::NoEdits);
+        }
+        match stale(&self.journal, commit) {
+            Some((thing, at)) => Some(Refusal::Stale { now, thing, at }),
+            None => None,
+        }
+    }
+}

@@ -1,0 +1,24 @@
+//! The desk: commits of edits, a journal of the accepted ones, and what is asked of the scene.
+#![tactic(auto)]
+
+mod answers;
+mod commits;
+mod desks;
+mod driving;
+mod journals;
+mod limits;
+mod questions;
+mod stale;
+
+pub use answers::{Answer, AskFault, Call, Reading, Refusal, Snapshot};
+pub use commits::{Commit, CommitFault, MOST_EDITS, MOST_WATCHES};
+pub use conflict_ledger::{Conflict, Kind, Ring};
+pub use cost_ledger::Visit;
+pub use desks::Desk;
+pub use driving::drive;
+pub use journals::{Journal, ReplayFault, replay};
+pub use limits::{Limit, MOST_ENTRIES};
+pub use scene_edits::{ApplyFault, Change, Edit, EditFault, EditsFault, Scene, Thing};
+
+#[cfg(test)]
+mod tests;

@@ -1,0 +1,4 @@
+//! Worked examples: commits of several planners on a small map.
+mod build;
+mod commits;
+mod runs;

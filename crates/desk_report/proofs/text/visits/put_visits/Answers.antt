@@ -1,0 +1,13 @@
+use Rattle.desk_report.proofs.Fronts.{front-more, err-of, err-after}
+use Rattle.desk_report.proofs.text.visits.put_visits.Goals as goal
+
+pub returns-in_err-put_count-clause-err : goal.returns-in_err-put_count-clause-err
+returns-in_err-put_count-clause-err g c =
+    let stopped = rw c.items-items.ensures at c.in_err-put_count.ensures.err in
+    err-of c.from_residual.result (front-more _ _ _ _ stopped)
+
+pub returns-clause-err : goal.returns-clause-err
+returns-clause-err g c =
+    let count = rw c.items-items.ensures at c.in_ok-put_count.ensures.ok in
+    let stopped = rw c.items-items.ensures at c.put_each.ensures.err in
+    err-after _ _ _ _ _ _ count stopped

@@ -1,0 +1,21 @@
+-- What one call at a source gave, and what one call at a sink took (this project's choice).
+use Rattle.std.specs.Prelude.{◌≡◌, ℕ, List, [], ◌∷◌, ◌++◌, take, Option, Some, None, Result, Ok, Err}
+use Rattle.std.specs.Io.KnownBytes.{Appends}
+
+-- the bytes that a call gave: one, or none at the end and where it failed
+abbrev pub bytes_got : {E : Type 0} → Result (Option ℕ) E → List ℕ
+bytes_got (Ok (Some byte)) = byte ∷ []
+bytes_got (Ok None) = []
+bytes_got (Err fault) = []
+
+-- the bytes that a call took: a front of those handed in, or none where it failed
+abbrev pub bytes_put : {E : Type 0} → Result ℕ E → List ℕ → List ℕ
+bytes_put (Ok n) bytes = take n bytes
+bytes_put (Err fault) bytes = []
+
+-- the bytes grew by a prefix of the text
+pub record AppendsFront (old new : Option (List ℕ)) (text : List ℕ) : Type 0 where
+  pub sent : List ℕ
+  pub unsent : List ℕ
+  pub split : text ≡ sent ++ unsent
+  pub appends : Appends old new sent

@@ -1,0 +1,49 @@
+ghost use Rattle.std.specs.Prelude.{◌≡◌, codes, OnOk, OnErr, is_err, ◌||◌};
+ghost use Rattle.std.specs.Io.KnownBytes.{Appends};
+ghost use Rattle.desk_report.specs.Bytes.{AppendsFront};
+ghost use Rattle.desk_report.specs.ReportText.{count_line, total_line, totals_text};
+
+use crate::bytes::{Sink, WriteFailed};
+use crate::reports::Report;
+use crate::words::{Word, put_line};
+
+// How many there are.
+pub fn put_count<W: Sink>(sink: &mut W, name: &[u8], count: usize) -> Result<(), WriteFailed>
+    ensures ok { OnOk result (Appends (W.held sink.old) (W.held sink.new) (count_line name.now count)) }
+    ensures err { OnErr result (AppendsFront (W.held sink.old) (W.held sink.new) (count_line name.now count)) }
+    ensures broken { W.broken sink.new ≡ (W.broken sink.old || is_err result) }
+{
+    put_line(sink, name, &[Word::Number(count as u64)])
+}
+
+// A total.
+fn put_total<W: Sink>(sink: &mut W, name: &[u8], total: Option<u64>) -> Result<(), WriteFailed>
+    ensures ok { OnOk result (Appends (W.held sink.old) (W.held sink.new) (total_line name.now total)) }
+    ensures err { OnErr result (AppendsFront (W.held sink.old) (W.held sink.new) (total_line name.now total)) }
+    ensures broken { W.broken sink.new ≡ (W.broken sink.old || is_err result) }
+{
+    put_line(sink, name, &[Word::Given(total)])
+}
+
+// The makespan.
+fn put_makespan<W: Sink>(sink: &mut W, makespan: Option<u32>) -> Result<(), WriteFailed>
+    ensures ok { OnOk result (Appends (W.held sink.old) (W.held sink.new) (total_line (codes "makespan") makespan)) }
+    ensures err { OnErr result (AppendsFront (W.held sink.old) (W.held sink.new) (total_line (codes "makespan") makespan)) }
+    ensures broken { W.broken sink.new ≡ (W.broken sink.old || is_err result) }
+{
+    put_line(sink, b"makespan", &[Word::given(makespan)])
+}
+
+// The totals, and the end.
+#[tactic(auto, using(crate::proofs::Fronts::fronts))]
+pub fn put_totals<W: Sink>(sink: &mut W, report: &Report) -> Result<(), WriteFailed>
+    ensures ok { OnOk result (Appends (W.held sink.old) (W.held sink.new) (totals_text report.now)) }
+    ensures err { OnErr result (AppendsFront (W.held sink.old) (W.held sink.new) (totals_text report.now)) }
+    ensures broken { W.broken sink.new ≡ (W.broken sink.old || is_err result) }
+{
+    put_total(sink, b"sum", report.sum)?;
+    put_makespan(sink, report.makespan)?;
+    put_total(sink, b"bounds", report.bounds)?;
+    put_total(sink, b"gap", report.total_gap)?;
+    put_line(sink, b"end", &[])
+}

@@ -1,0 +1,50 @@
+ghost use Rattle.std.specs.Prelude.{◌≡◌, ◌++◌, length, codes, OnOk, OnErr, is_err, ◌||◌};
+ghost use Rattle.std.specs.List.{flat_map};
+ghost use Rattle.std.specs.Io.KnownBytes.{Appends};
+ghost use Rattle.desk_report.specs.Bytes.{AppendsFront};
+ghost use Rattle.desk_report.specs.ReportText.{visit_line, count_line};
+
+use crate::bytes::{Sink, WriteFailed};
+use crate::text::totals::put_count;
+use crate::words::{Word, put_line};
+use cost_ledger::Visit;
+use grid_cells::List;
+
+// The line of a visit to a closed cell.
+fn put_visit<W: Sink>(sink: &mut W, visit: &Visit) -> Result<(), WriteFailed>
+    ensures ok { OnOk result (Appends (W.held sink.old) (W.held sink.new) (visit_line visit.now)) }
+    ensures err { OnErr result (AppendsFront (W.held sink.old) (W.held sink.new) (visit_line visit.now)) }
+    ensures broken { W.broken sink.new ≡ (W.broken sink.old || is_err result) }
+{
+    let words = [
+        Word::agent(visit.agent),
+        Word::time(visit.time),
+        Word::At(visit.cell),
+    ];
+    put_line(sink, b"visit", &words)
+}
+
+// The lines of the visits.
+#[tactic(auto, using(crate::proofs::Fronts::fronts))]
+fn put_each<W: Sink>(sink: &mut W, visits: &[Visit]) -> Result<(), WriteFailed>
+    ensures ok { OnOk result (Appends (W.held sink.old) (W.held sink.new) (flat_map visit_line visits.now)) }
+    ensures err { OnErr result (AppendsFront (W.held sink.old) (W.held sink.new) (flat_map visit_line visits.now)) }
+    ensures broken { W.broken sink.new ≡ (W.broken sink.old || is_err result) }
+{
+    for visit in visits {
+        put_visit(sink, visit)?;
+    }
+    Ok(())
+}
+
+// How many visits to closed cells there are, and their lines.
+#[tactic(auto, using(crate::proofs::Fronts::fronts))]
+pub fn put_visits<W: Sink>(sink: &mut W, visits: &List<Visit>) -> Result<(), WriteFailed>
+    ensures ok { OnOk result (Appends (W.held sink.old) (W.held sink.new) (count_line (codes "blocked") (length visits.now) ++ flat_map visit_line visits.now)) }
+    ensures err { OnErr result (AppendsFront (W.held sink.old) (W.held sink.new) (count_line (codes "blocked") (length visits.now) ++ flat_map visit_line visits.now)) }
+    ensures broken { W.broken sink.new ≡ (W.broken sink.old || is_err result) }
+{
+    let items = visits.items();
+    put_count(sink, b"blocked", items.len())?;
+    put_each(sink, items)
+}

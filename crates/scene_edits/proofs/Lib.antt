@@ -1,0 +1,13 @@
+pub mod RowEdits
+pub mod AllowedEdits
+pub mod PathsOf
+pub mod Settled
+pub mod PathEdits
+pub mod TakingBack
+pub mod Jumps
+pub mod Deciding
+pub mod KeptScenes
+pub mod ManyBack
+pub mod EditsInOrder
+pub mod RowEnds
+pub mod OneAnswers

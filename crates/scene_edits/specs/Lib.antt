@@ -1,0 +1,12 @@
+pub mod Scene
+pub mod Paths
+pub mod Edited
+pub mod Faults
+pub mod Since
+pub mod Changes
+pub mod InOrder
+pub mod Answers
+pub mod Board
+pub mod Undone
+pub mod Tasks
+pub mod Laws

@@ -1,0 +1,31 @@
+ghost use Rattle.scene_edits.specs.Laws.{OnePath, OneFaultOrNone, OneChange, EditsKeepScenes, OneAnswer, OneAnswerToAll};
+
+/// The cells that an agent can follow have one path: those cells without the waits at their end.
+pub fn one_path()
+    ensures { OnePath }
+{}
+
+/// Each edit is allowed, or has exactly one fault.
+pub fn one_fault_or_none()
+    ensures { OneFaultOrNone }
+{}
+
+/// An edit makes one change at most.
+pub fn one_change()
+    ensures { OneChange }
+{}
+
+/// An edit that is allowed makes a scene of a scene.
+pub fn edits_keep_scenes()
+    ensures { EditsKeepScenes }
+{}
+
+/// Besides want of memory an edit has one answer at most.
+pub fn one_answer()
+    ensures { OneAnswer }
+{}
+
+/// Besides want of memory a list of edits has one answer at most.
+pub fn one_answer_to_all()
+    ensures { OneAnswerToAll }
+{}
