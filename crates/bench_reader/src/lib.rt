@@ -20,4 +20,5 @@ pub use laws::{one_map_answer, one_scen_answer};
 pub use maps::{MapFault, read_map};
 pub use scens::{ScenFault, read_scen};
 pub use tasks::Task;
+pub use words::{next_word, number_of};
 pub use writer::write_map;

@@ -5,8 +5,9 @@ ghost use Rattle.bench_reader.specs.Words.{ends_word, is_in_word, words_of, numb
 
 use crate::lines::is_blank;
 
-/// The first word of a line, and the line behind it.
-pub(crate) fn next_word(line: &[u8]) -> Option<(&[u8], &[u8])>
+/// The first word of a line, and the line behind it. Words are the longest runs of bytes that are
+/// not blank: not space, tab or carriage return.
+pub fn next_word(line: &[u8]) -> Option<(&[u8], &[u8])>
     ensures { MatchOption result (words_of line.now ≡ []) (λ r. words_of line.now ≡ r.0.now ∷ words_of r.1.now) }
 {
     let rest = skip_blanks(line);
@@ -57,8 +58,8 @@ fn word_len(line: &[u8]) -> usize
     len
 }
 
-/// The number that the word writes, if it writes one.
-pub(crate) fn number_of(word: &[u8]) -> Option<u32>
+/// The number that the word writes: decimal digits, leading zeros allowed, below 2^32.
+pub fn number_of(word: &[u8]) -> Option<u32>
     ensures { result ≡ number_of word.now }
 {
     if word.is_empty() {

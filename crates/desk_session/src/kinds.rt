@@ -1,0 +1,50 @@
+ghost use Rattle.std.specs.Prelude.{◌≡◌, ◌∷◌, [], false, true, MatchOption};
+ghost use Rattle.bench_reader.specs.Words.{words_of};
+ghost use Rattle.desk_session.specs.Kinds.{kinds_of, is_kind, named_kinds, joined};
+
+use bench_reader::next_word;
+use desk_report::Kinds;
+
+// The kind that a word names, alone.
+fn kind_of(word: &[u8]) -> Option<Kinds>
+    ensures { MatchOption result (is_kind word.now ≡ false) (λ kind. (is_kind word.now ≡ true) × (kind ≡ named_kinds (word.now ∷ []))) }
+{
+    let kind = Kinds {
+        vertex: word == b"vertex".as_slice(),
+        edge: word == b"edge".as_slice(),
+        follow: word == b"follow".as_slice(),
+        swap: word == b"swap".as_slice(),
+        cycle: word == b"cycle".as_slice(),
+    };
+    if kind.vertex || kind.edge || kind.follow || kind.swap || kind.cycle {
+        Some(kind)
+    } else {
+        None
+    }
+}
+
+// Both those kinds and these.
+fn joined(those: Kinds, these: Kinds) -> Kinds
+    ensures { result ≡ joined those these }
+{
+    Kinds {
+        vertex: those.vertex || these.vertex,
+        edge: those.edge || these.edge,
+        follow: those.follow || these.follow,
+        swap: those.swap || these.swap,
+        cycle: those.cycle || these.cycle,
+    }
+}
+
+/// The kinds that the words of a line name.
+pub(crate) fn kinds_of(line: &[u8]) -> Option<Kinds>
+    ensures { result ≡ kinds_of (words_of line.now) }
+{
+    let (word, mut rest) = next_word(line)?;
+    let mut kinds = kind_of(word)?;
+    while let Some((word, behind)) = next_word(rest) {
+        kinds = joined(kinds, kind_of(word)?);
+        rest = behind;
+    }
+    Some(kinds)
+}
