@@ -3,6 +3,7 @@ pub mod Words
 pub mod Letters
 pub mod RowFaults
 pub mod MapText
+pub mod Announced
 pub mod MapFaults
 pub mod MapSpelling
 pub mod ScenText

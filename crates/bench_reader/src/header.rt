@@ -3,11 +3,12 @@ ghost use Rattle.bench_reader.specs.Lines.{lines_of};
 ghost use Rattle.bench_reader.specs.Words.{words_of};
 ghost use Rattle.bench_reader.specs.MapText.{is_title, is_marker, labelled, HasSize};
 ghost use Rattle.bench_reader.specs.MapFaults.{IsMapFault};
+ghost use Rattle.bench_reader.specs.Announced.{rows_announced};
 
 use crate::lines::first_line;
 use crate::maps::MapFault;
 use crate::words::{next_word, number_of, two_words};
-use grid_cells::Size;
+use grid_cells::{MOST_SIDE, Size};
 
 /// The size that the first four lines give, and the text behind them.
 pub(crate) fn read_header(text: &[u8]) -> Result<(Size, &[u8]), MapFault>
@@ -35,6 +36,25 @@ pub(crate) fn read_header(text: &[u8]) -> Result<(Size, &[u8]), MapFault>
     match Size::new(width, height) {
         Some(size) => Ok((size, rest)),
         None => Err(MapFault::BadSize),
+    }
+}
+
+/// How many rows lines 2 to 4 announce, as a header of a height that a map may have. Line 1 isn't
+/// looked at. Where they are no such header, 0.
+pub fn rows_announced(text: &[u8]) -> u32
+    ensures is { result ≡ rows_announced (lines_of text.now) }
+    ensures bound { result ≤ MOST_SIDE }
+{
+    let (_, rest) = first_line(text);
+    let (second, rest) = first_line(rest);
+    let (third, rest) = first_line(rest);
+    let (fourth, _) = first_line(rest);
+    if !is_marker(fourth) {
+        return 0;
+    }
+    match (labelled(b"height", second), labelled(b"width", third)) {
+        (Some(height), Some(_)) if height <= MOST_SIDE => height,
+        _ => 0,
     }
 }
 

@@ -16,6 +16,7 @@ mod tasks;
 mod words;
 mod writer;
 
+pub use header::rows_announced;
 pub use laws::{one_map_answer, one_scen_answer};
 pub use maps::{MapFault, read_map};
 pub use scens::{ScenFault, read_scen};

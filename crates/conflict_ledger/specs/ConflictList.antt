@@ -1,4 +1,4 @@
--- The conflict list of a fleet, and its order.
+-- The conflict list of a fleet, and its order (this project's choice of list and order; the entries are those of Stern et al. 2019).
 use Rattle.std.specs.Prelude.{ℕ, List, [], ◌∷◌}
 use Rattle.plan_table.specs.Route.{Fleet}
 use Rattle.plan_table.specs.Order.{ListsAll}

@@ -1,4 +1,4 @@
--- What a search for conflicts has found.
+-- What a search for conflicts has found: words for the plain program's own steps (this project's choice).
 use Rattle.std.specs.Prelude.{◌≡◌, ◌⊎◌, ℕ, ◌<◌, ◌≤◌, List, length, Contains, AllPairs, slice_index, slice_index_or, slice_get, Option, Some}
 use Rattle.plan_table.specs.Order.{ComesBefore}
 use Rattle.conflict_ledger.specs.Cycles.{IsRing}

@@ -1,4 +1,4 @@
--- Laws of the definitions of conflicts.
+-- Laws of the definitions of conflicts (consequences of the definitions).
 use Rattle.std.specs.Prelude.{◌≡◌, ◌⊎◌, ◌↔◌, ℕ, ◌+◌, ◌<◌, ◌≤◌, Some, IsSome, List, Contains}
 use Rattle.grid_cells.specs.Cell.{Point}
 use Rattle.plan_table.specs.Route.{Fleet, position_of}

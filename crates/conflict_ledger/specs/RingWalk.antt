@@ -1,4 +1,4 @@
--- How a ring is found: from each agent to the next.
+-- How a ring is found: from each agent to the next. Words for the plain program's own steps (this project's choice).
 use Rattle.std.specs.Prelude.{◌≡◌, ◌≢◌, ℕ, ◌+◌, ◌<◌, ◌≤◌, Some, List, length, slice_index, All, AllPairs}
 use Rattle.grid_cells.specs.Cell.{Point}
 use Rattle.plan_table.specs.Route.{Fleet, position_of}

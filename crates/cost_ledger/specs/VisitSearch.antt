@@ -1,4 +1,4 @@
--- What a search for blocked visits has found.
+-- What a search for blocked visits has found: words for the plain program's own steps (this project's choice).
 use Rattle.std.specs.Prelude.{◌≡◌, ◌⊎◌, ℕ, ◌<◌, ◌≤◌, List, Contains, AllPairs}
 use Rattle.grid_cells.specs.Cell.{Point}
 use Rattle.grid_cells.specs.Grid.{Chart}

@@ -1,1 +1,4 @@
 pub mod KindLemmas
+pub mod Progress
+pub mod MapLines
+pub mod MapDesk

@@ -6,3 +6,12 @@ pub mod Shapes
 pub mod Edits
 pub mod Faults
 pub mod Requests
+pub mod Counting
+pub mod Drafts
+pub mod RefusalText
+pub mod Replies
+pub mod Table
+pub mod LinesOf
+pub mod Session
+pub mod Answer
+pub mod Start

@@ -44,7 +44,7 @@ request_of_words (word ∷ words) =
     option_map_or (λ command. ok_or (shaped command words) fault.Shape) (command_of word) (Err fault.Word)
 
 -- the request of a line, without its line feed
-abbrev pub request_of : List ℕ → Result Request LineFault
+unfoldable pub request_of : List ℕ → Result Request LineFault
 request_of line = request_of_words (words_of line)
 
 -- the line's request or fault, or want of memory

@@ -55,7 +55,8 @@ pub enum LineFault {
 ///
 /// # Errors
 /// `Word` before `Shape`, or want of memory.
-pub fn read_line(alloc: Global, line: &[u8]) -> Result<Request, LineFault>
+#[tactic(auto, unfolding(crate::specs::Requests::request_of))]
+pub(crate) fn read_line(alloc: Global, line: &[u8]) -> Result<Request, LineFault>
     ensures { IsRequest line.now result }
 {
     let Some((word, rest)) = next_word(line) else {

@@ -8,6 +8,7 @@ use crate::{Field, Fields, PlainField};
 use grid_cells::{Cell, Grid, Size};
 use std::alloc::Global;
 use std::process::Abort;
+use std::time::Instant;
 
 // Opens or closes the cell, where the map has it.
 fn set_one(grid: &mut Grid, cell: Cell, free: bool)
@@ -216,4 +217,29 @@ fn fields_agree_on_random_edits(rt: HostRuntime) {
         let size = size_of(&rt, 1 + draw(&mut state) % 7, 1 + draw(&mut state) % 7);
         edit_at_random(&rt, rt.alloc(), size, &mut state);
     }
+}
+
+// The start is (0,0), the goal lies 1,000 cells to the right of it, and the cell between that is
+// next to the start closes and opens. Closing takes that cell once and the start twice, and opening
+// takes each once. The times are printed.
+#[test]
+fn repairs_near_the_start_in_little_time(rt: HostRuntime) {
+    let mut grid = Grid::all_open(rt.alloc(), size_of(&rt, 1024, 1024)).expect(&rt, "memory");
+    let goal = at(&rt, 1000, 0);
+    let began = Instant::now(&rt).expect(&rt, "the clock");
+    let plain = PlainField::new(rt.alloc(), &grid, goal).expect(&rt, "memory");
+    let searched = began.elapsed(&rt).expect(&rt, "the clock");
+    assert!(rt; plain.distance(at(&rt, 0, 0)) == Some(1000));
+    let began = Instant::now(&rt).expect(&rt, "the clock");
+    let mut field = Field::new(rt.alloc(), &grid, goal).expect(&rt, "memory");
+    let made = began.elapsed(&rt).expect(&rt, "the clock");
+    let near = [at(&rt, 1, 0)];
+    let began = Instant::now(&rt).expect(&rt, "the clock");
+    assert!(rt; change(&mut field, &mut grid, &near, false) == 3);
+    let closed = began.elapsed(&rt).expect(&rt, "the clock");
+    let began = Instant::now(&rt).expect(&rt, "the clock");
+    assert!(rt; change(&mut field, &mut grid, &near, true) == 2);
+    let opened = began.elapsed(&rt).expect(&rt, "the clock");
+    println!(rt; "PlainField::new {searched:?}, Field::new {made:?}").expect(&rt, "print");
+    println!(rt; "closing {closed:?}, opening {opened:?}").expect(&rt, "print");
 }

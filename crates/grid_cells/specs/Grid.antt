@@ -1,4 +1,5 @@
--- Grids of open and closed cells.
+-- Grids of open and closed cells (MovingAI map format: a map is rows of cells that can be entered or not).
+-- That a map is kept as a list of flags, row by row, is this project's choice.
 use Rattle.std.specs.Prelude.{◌≡◌, ℕ, ◌+◌, ◌*◌, Bool, true, Some, List, slice_get, slice_set, replicate}
 use Rattle.grid_cells.specs.Cell.{Point}
 use Rattle.grid_cells.specs.Size.{Extent, Holds}

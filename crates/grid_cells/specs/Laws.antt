@@ -1,4 +1,4 @@
--- What holds of walks and distances on every map.
+-- What holds of walks and distances on every map (consequences of the definitions).
 use Rattle.std.specs.Prelude.{◌≡◌, ℕ, ◌+◌, ◌↔◌, Option, List, length}
 use Rattle.grid_cells.specs.Cell.{Point}
 use Rattle.grid_cells.specs.Grid.{Chart}

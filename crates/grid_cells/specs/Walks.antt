@@ -1,4 +1,5 @@
--- Walks over open cells, and distances.
+-- Walks over open cells, and distances (Stern et al. 2019: shortest paths on a 4-connected grid).
+-- That a walk is said twice, as a list and by its number of steps, is this project's choice: the two are proved to be one.
 use Rattle.std.specs.Prelude.{◌≡◌, ℕ, zero, suc, ◌-◌, ◌≤◌, Option, Some, None, List, All, length, slice_get}
 use Rattle.std.specs.List.{AllAdjacentBelow}
 use Rattle.grid_cells.specs.Cell.{Point, IsAdjacent}

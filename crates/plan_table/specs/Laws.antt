@@ -1,4 +1,4 @@
--- What holds of all tables of rows.
+-- What holds of all tables of rows (a consequence of the definitions).
 use Rattle.std.specs.Prelude.{◌≡◌, ℕ, List}
 use Rattle.plan_table.specs.Plans.{IsByAgent, row_of}
 use Rattle.plan_table.specs.declared.plans.Row.{Row}

@@ -1,0 +1,86 @@
+use Rattle.std.proofs.Common.{rules, arith, ◌≡◌, ◌<◌, false, nat_eq, length}
+use Rattle.desk_session.proofs.Progress.{progress-byte, progress-line, ends-no_memory, ends-line_unwritten, ends-last_unwritten, ends-last, ends-empty, ends-many_lines, ends-many_bytes}
+use Rattle.desk_session.proofs.serving.serve.Goals as goal
+
+pub returns-then-is_empty-clause-session : goal.returns-then-is_empty-clause-session
+returns-then-is_empty-clause-session g c =
+    let took = rw c.in-Ok-None.field-0-is at c.in-Ok-None.ensures.bytes in
+    let none : length c.session.line.items ≡ 0 = search rules in
+    (c.session.session, ends-empty _ c.args.bounds _ _ _ _ _ _ _ _ _ _ 0 c.session.invariant.so_far took (c.in-Ok-None.ensures.end c.in-Ok-None.field-0-is) none c.session.invariant.lines_within c.session.invariant.bytes_within)
+
+pub returns-then-lines-bounds-clause-session : goal.returns-then-lines-bounds-clause-session
+returns-then-lines-bounds-clause-session g c =
+    let took = rw c.in-Ok-Some.field-0-is at c.in-Ok-Some.ensures.bytes in
+    (c.session.session, ends-many_lines _ c.args.bounds _ _ _ _ _ _ _ _ _ _ c.in-Ok-Some.byte c.session.invariant.so_far took (omega arith) c.session.invariant.lines_within c.session.invariant.bytes_within)
+
+pub returns-then-bytes-bounds-clause-session : goal.returns-then-bytes-bounds-clause-session
+returns-then-bytes-bounds-clause-session g c =
+    let took = rw c.in-Ok-Some.field-0-is at c.in-Ok-Some.ensures.bytes in
+    (c.session.session, ends-many_bytes _ c.args.bounds _ _ _ _ _ _ _ _ _ _ c.in-Ok-Some.byte c.session.invariant.so_far took (omega arith) (omega arith) c.session.invariant.bytes_within)
+
+pub session-preserved-in-Ok-push : goal.session-preserved-in-Ok-push
+session-preserved-in-Ok-push g c =
+    let took = rw c.in-Ok-Some.field-0-is at c.in-Ok-Some.ensures.bytes in
+    let other : nat_eq c.in-Ok-Some.byte 10 ≡ false = search rules in
+    record {
+      so_far = rw c.in-Ok-push.ensures.items (progress-byte _ _ _ _ _ _ _ _ _ _ _ c.in-Ok-Some.byte c.session.invariant.so_far took other);
+      lines_within = search rules;
+      bytes_within = omega arith;
+      room = λ _. omega arith;
+      read_sound = search rules;
+      write_sound = search rules;
+    }
+
+pub returns-in-Err-push-clause-session : goal.returns-in-Err-push-clause-session
+returns-in-Err-push-clause-session g c =
+    let took = rw c.in-Ok-Some.field-0-is at c.in-Ok-Some.ensures.bytes in
+    let other : nat_eq c.in-Ok-Some.byte 10 ≡ false = search rules in
+    (c.session.session, ends-no_memory _ c.args.bounds _ _ _ _ _ _ _ _ _ _ c.in-Ok-Some.byte c.session.invariant.so_far took other (omega arith) (omega arith))
+
+pub returns-in-Ok-clause-session : goal.returns-in-Ok-clause-session
+returns-in-Ok-clause-session g c =
+    let took = rw c.in-Ok-None.field-0-is at c.in-Ok-None.ensures.bytes in
+    let asked = rw c.as_slice.ensures.value at c.answer-reply.ensures in
+    let some : 0 < length c.session.line.items = search rules in
+    (c.answer-reply.result.1, ends-last _ c.args.bounds _ _ _ _ _ _ _ _ _ _ 0 c.session.invariant.so_far _ _ c.answer-reply.result.0 took (c.in-Ok-None.ensures.end c.in-Ok-None.field-0-is) some (search rules) (search rules) asked c.in-Ok.ensures.ok)
+
+pub returns-in-Err-put_reply-clause-session : goal.returns-in-Err-put_reply-clause-session
+returns-in-Err-put_reply-clause-session g c =
+    let took = rw c.in-Ok-None.field-0-is at c.in-Ok-None.ensures.bytes in
+    let asked = rw c.as_slice.ensures.value at c.answer-reply.ensures in
+    let some : 0 < length c.session.line.items = search rules in
+    (c.answer-reply.result.1, ends-last_unwritten _ c.args.bounds _ _ _ _ _ _ _ _ _ _ 0 c.session.invariant.so_far _ _ c.answer-reply.result.0 took (c.in-Ok-None.ensures.end c.in-Ok-None.field-0-is) some (search rules) (search rules) asked c.in-Err-put_reply.ensures.err)
+
+pub returns-in-Err-put_reply-2-clause-session : goal.returns-in-Err-put_reply-2-clause-session
+returns-in-Err-put_reply-2-clause-session g c =
+    let took = rw c.in-Ok-Some.field-0-is at c.in-Ok-Some.ensures.bytes in
+    let asked = rw c.as_slice-else-byte-ne10.ensures.value at c.answer-reply-else-byte-ne10.ensures in
+    (c.answer-reply-else-byte-ne10.result.1, ends-line_unwritten _ c.args.bounds _ _ _ _ _ _ _ _ _ _ c.in-Ok-Some.byte c.session.invariant.so_far _ _ c.answer-reply-else-byte-ne10.result.0 took c.if-byte-ne10.false (omega arith) (omega arith) asked c.in-Err-put_reply-2.ensures.err)
+
+-- The reply that was put held a reading.
+pub session-preserved-in-Ok-put_reply : goal.session-preserved-in-Ok-put_reply
+session-preserved-in-Ok-put_reply g c =
+    let took = rw c.in-Ok-Some.field-0-is at c.in-Ok-Some.ensures.bytes in
+    let asked = rw c.as_slice-else-byte-ne10.ensures.value at c.answer-reply-else-byte-ne10.ensures in
+    record {
+      so_far = rw c.clear.ensures.items (progress-line _ _ _ _ _ _ _ _ _ _ _ c.in-Ok-Some.byte _ _ c.answer-reply-else-byte-ne10.result.0 c.session.invariant.so_far took c.if-byte-ne10.false asked c.in-Ok-put_reply.ensures.ok);
+      lines_within = omega arith;
+      bytes_within = omega arith;
+      room = search rules;
+      read_sound = search rules;
+      write_sound = search rules;
+    }
+
+-- The reply that was put held no reading.
+pub session-preserved : goal.session-preserved
+session-preserved g c =
+    let took = rw c.in-Ok-Some.field-0-is at c.in-Ok-Some.ensures.bytes in
+    let asked = rw c.as_slice-else-byte-ne10.ensures.value at c.answer-reply-else-byte-ne10.ensures in
+    record {
+      so_far = rw c.clear.ensures.items (progress-line _ _ _ _ _ _ _ _ _ _ _ c.in-Ok-Some.byte _ _ c.answer-reply-else-byte-ne10.result.0 c.session.invariant.so_far took c.if-byte-ne10.false asked c.in-Ok-put_reply.ensures.ok);
+      lines_within = omega arith;
+      bytes_within = omega arith;
+      room = search rules;
+      read_sound = search rules;
+      write_sound = search rules;
+    }

@@ -1,0 +1,19 @@
+use Rattle.std.proofs.Common.{length, ◌-◌, ◌+◌, ◌≡◌, ◌≤◌, ◌<◌}
+use Rattle.std.specs.Io.KnownBytes.{Consumes}
+use Rattle.bench_reader.specs.Announced.{rows_announced}
+use Rattle.desk_session.specs.LinesOf.{complete_lines}
+use Rattle.desk_session.proofs.starting.hear_map.Given as goal
+
+abbrev pub invariant-map : goal.invariant-map
+invariant-map g l = record {
+  taken : Consumes (g.R.Source.left l.fn.reader) (g.R.Source.left l.reader) l.text.items;
+  within : length l.text.items ≤ l.most;
+  counted : length (complete_lines l.text.items) ≡ l.lines;
+  told : 4 + rows_announced (complete_lines l.text.items) ≡ l.wanted;
+  unfinished : l.lines < l.wanted;
+  few : l.wanted ≤ 2052;
+  sound : g.R.Source.failed l.reader ≡ g.R.Source.failed l.fn.reader;
+}
+
+abbrev pub decreases-map : goal.decreases-map
+decreases-map g l = l.most - length l.text.items

@@ -1,0 +1,20 @@
+use Rattle.std.proofs.Common.{rules, inl, ◌≡◌, ◌-◌, length}
+use Rattle.desk_session.specs.Start.{desk_of}
+use Rattle.desk_session.proofs.MapDesk.{started}
+use Rattle.desk_session.proofs.starting.serve_with_map.Goals as goal
+
+pub returns-in-Ok-serve-clause-session : goal.returns-in-Ok-serve-clause-session
+returns-in-Ok-serve-clause-session g c =
+    let map = rw c.as_slice.ensures.value at c.in-Ok-read_map.ensures in
+    let opened : c.open-desk.result ≡ desk_of c.in-Ok-read_map.grid c.args.mode c.args.limit = search rules in
+    let bytes : c.args.bounds.bytes - c.len.result ≡ c.args.bounds.bytes - length c.in-Ok.text.items = search rules in
+    let (last, session) = c.in-Ok-serve.ensures.session in
+    started _ _ _ _ _ c.args.bounds c.args.mode c.args.limit _ c.in-Ok.text.items c.in-Ok-read_map.grid last _ _ _ c.in-Ok.ensures.heard map opened bytes session
+
+pub returns-clause-session : goal.returns-clause-session
+returns-clause-session g c =
+    let map = rw c.as_slice.ensures.value at c.in-Ok-read_map.ensures in
+    let opened : c.open-desk.result ≡ desk_of c.in-Ok-read_map.grid c.args.mode c.args.limit = search rules in
+    let bytes : c.args.bounds.bytes - c.len.result ≡ c.args.bounds.bytes - length c.in-Ok.text.items = search rules in
+    let (last, session) = c.in-Err-serve.ensures.session in
+    inl (started _ _ _ _ _ c.args.bounds c.args.mode c.args.limit _ c.in-Ok.text.items c.in-Ok-read_map.grid last _ _ _ c.in-Ok.ensures.heard map opened bytes session)

@@ -1,0 +1,94 @@
+//! Watches and edits that are kept, and commits that are made.
+ghost use Rattle.std.specs.Prelude.{◌≡◌, ◌⊎◌, [], ◌∷◌};
+ghost use Rattle.desk_session.specs.Table.{FindsNoMemory, KeepsWatch, KeepsEdit, Commits, CommitsAlone, after_commit};
+
+use crate::counters::Counter;
+use crate::drafts::{Gathered, Session};
+use crate::replies::{BadLine, Reply};
+use desk_core::{Commit, Edit, MOST_EDITS, MOST_WATCHES, Thing};
+use grid_cells::List;
+use std::alloc::Global;
+
+// One more watch.
+pub(crate) fn keep_watch(number: u32, gathered: Gathered, thing: Thing) -> (Reply, Session)
+    ensures { KeepsWatch number gathered thing result.0 result.1 ⊎ ((result.0 ≡ Reply.NoMemory) × (result.1 ≡ Session.Gathering gathered)) }
+{
+    let Gathered { base, watch, edits } = gathered;
+    let mut watch = watch.into_items();
+    let reply = if watch.len() < MOST_WATCHES {
+        match watch.push(thing) {
+            Ok(()) => Reply::Kept,
+            Err(_) => Reply::NoMemory,
+        }
+    } else {
+        Reply::Bad {
+            line: number,
+            why: BadLine::Full,
+        }
+    };
+    let watch = List::new(watch);
+    (reply, Session::Gathering(Gathered { base, watch, edits }))
+}
+
+// One more edit.
+pub(crate) fn keep_edit(number: u32, gathered: Gathered, edit: Edit) -> (Reply, Session)
+    ensures { KeepsEdit number gathered edit result.0 result.1 ⊎ ((result.0 ≡ Reply.NoMemory) × (result.1 ≡ Session.Gathering gathered)) }
+{
+    let Gathered { base, watch, edits } = gathered;
+    let mut edits = edits.into_items();
+    let reply = if edits.len() < MOST_EDITS {
+        match edits.push(edit) {
+            Ok(()) => Reply::Kept,
+            Err(_) => Reply::NoMemory,
+        }
+    } else {
+        Reply::Bad {
+            line: number,
+            why: BadLine::Full,
+        }
+    };
+    let edits = List::new(edits);
+    (reply, Session::Gathering(Gathered { base, watch, edits }))
+}
+
+// The commit of what was gathered.
+pub(crate) fn commit<C: Counter>(counter: &mut C, gathered: Gathered) -> (Reply, Session)
+    ensures { Commits C.counting counter.old gathered (after_commit gathered) result.0 result.1 counter.new }
+{
+    let Gathered { base, watch, edits } = gathered;
+    let planner = counter.planner();
+    let Ok(commit) = Commit::new(planner, base, watch.into_items(), edits.into_items()) else {
+        unreachable!()
+    };
+    match counter.commit(commit) {
+        Ok(version) => (Reply::Version(version), Session::Idle),
+        Err((refusal, back)) => {
+            let (watch, edits) = back.into_parts();
+            let gathered = Gathered {
+                base,
+                watch: List::new(watch),
+                edits: List::new(edits),
+            };
+            (Reply::Refused(refusal), Session::Gathering(gathered))
+        }
+    }
+}
+
+// The commit of one edit.
+pub(crate) fn commit_alone<C: Counter>(alloc: Global, counter: &mut C, edit: Edit) -> Reply
+    ensures { CommitsAlone C.counting counter.old edit result Session.Idle counter.new ⊎ ((result ≡ Reply.NoMemory) × (counter.new ≡ counter.old)) }
+{
+    let mut edits = Vec::new(alloc);
+    if let Err(_refused) = edits.push(edit) {
+        return Reply::NoMemory;
+    }
+    let base = counter.version();
+    let planner = counter.planner();
+    let Ok(commit) = Commit::new(planner, base, Vec::new(alloc), edits) else {
+        unreachable!()
+    };
+    match counter.commit(commit) {
+        Ok(version) => Reply::Version(version),
+        Err((refusal, _back)) => Reply::Refused(refusal),
+    }
+}

@@ -1,0 +1,7 @@
+mod fakes;
+mod lines;
+mod replies;
+mod served;
+mod sessions;
+mod started;
+mod table;
