@@ -5,3 +5,4 @@ pub mod Commits
 pub mod Questions
 pub mod Runs
 pub mod Replays
+pub mod Laws

@@ -6,6 +6,7 @@ mod commits;
 mod desks;
 mod driving;
 mod journals;
+mod laws;
 mod limits;
 mod questions;
 mod stale;
@@ -17,6 +18,7 @@ pub use cost_ledger::Visit;
 pub use desks::Desk;
 pub use driving::drive;
 pub use journals::{Journal, ReplayFault, replay};
+pub use laws::{legal_journals_replay, one_answer_to_a_commit};
 pub use limits::{Limit, MOST_ENTRIES};
 pub use scene_edits::{ApplyFault, Change, Edit, EditFault, EditsFault, Scene, Thing};
 

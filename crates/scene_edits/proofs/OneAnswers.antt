@@ -104,11 +104,11 @@ allowed_at scene (first ∷ later) (suc end) (suc index) edit allowed early ther
 no_sooner : (scene : SceneState) (edits : List Edit) (i j : ℕ) (a b : EditFault) → IsFirstFault scene edits i a → IsFirstFault scene edits j b → i < j → ⊥
 no_sooner scene edits i j a b first second less = allowed_at scene edits j i first.edit second.before less first.there a first.fault
 
-not_both : (scene : SceneState) (edits : List Edit) (index : ℕ) (why : EditFault) → AreAllowed scene edits → IsFirstFault scene edits index why → ⊥
+pub not_both : (scene : SceneState) (edits : List Edit) (index : ℕ) (why : EditFault) → AreAllowed scene edits → IsFirstFault scene edits index why → ⊥
 not_both scene edits index why allowed first =
     allowed_at scene edits (length edits) index first.edit (subst (AreAllowed scene) (sym (take-length edits)) allowed) (slice_get_within edits index first.edit first.there) first.there why first.fault
 
-one_first_fault : (scene : SceneState) (edits : List Edit) (i j : ℕ) (a b : EditFault) → IsFirstFault scene edits i a → IsFirstFault scene edits j b → some_edit.Faulty i a ≡ some_edit.Faulty j b
+pub one_first_fault : (scene : SceneState) (edits : List Edit) (i j : ℕ) (a b : EditFault) → IsFirstFault scene edits i a → IsFirstFault scene edits j b → some_edit.Faulty i a ≡ some_edit.Faulty j b
 one_first_fault scene edits i j a b first second =
     elim (cases_order i j) [
       | inl is ↦

@@ -9,17 +9,22 @@ use bench_reader::Task;
 use grid_cells::{Agent, Grid, OutOfMemory, Size};
 use plan_table::{Mode, Plans, Row};
 use std::alloc::Global;
+use thiserror::Error;
 
 /// Why tasks make no scene.
-#[derive(Clone, Copy, Debug, PartialEq, Eq)]
+#[derive(Clone, Copy, Debug, PartialEq, Eq, Error)]
 pub enum TaskFault {
     /// There are only so many tasks.
+    #[error("too few tasks, {have}")]
     TooFewTasks { have: u32 },
     /// More than MOST_AGENTS agents are asked for.
+    #[error("too many agents")]
     TooManyAgents,
     /// The start or the goal of that task isn't on the map. It is the first such task, counted
     /// from 0.
+    #[error("task {task} out of map")]
     OutOfMap { task: u32 },
+    #[error("out of memory")]
     OutOfMemory,
 }
 
