@@ -1,7 +1,8 @@
 #!/usr/bin/env python3
 """Writes the maps and scenarios of this folder, in the text forms of the MovingAI benchmarks.
 
-The same files go to crates/demo_maps/data, where the gate reads them.
+The same files go to crates/demo_maps/data, where the gate reads them. The corridor's map, session and
+answers are written by hand; they are copied to crates/demo_session, where the gate runs them.
 
 Each run writes the same files: the generator below has a fixed seed and uses integers alone.
 A scenario's tasks have distinct starts and distinct goals, and each goal can be reached. The
@@ -103,11 +104,20 @@ def write(name, rows, numbers):
     write_lines(folders, f"{name}.scen", lines)
 
 
+def copy_corridor():
+    demo = Path(__file__).resolve().parent
+    crate = demo.parent / "crates" / "demo_session"
+    for name in ["corridor.map", "corridor.session"]:
+        (crate / "data" / name).write_bytes((demo / name).read_bytes())
+    (crate / "stdout").write_bytes((demo / "corridor.answers").read_bytes())
+
+
 def main():
     numbers = Numbers(2019)
     write("open", open_map(32, 32), numbers)
     write("warehouse", warehouse(52, 35), numbers)
     write("random", random_obstacles(48, 48, numbers), numbers)
+    copy_corridor()
 
 
 if __name__ == "__main__":

@@ -22,7 +22,7 @@ mod writers;
 pub use bounds::{Bounds, ServeFault, StartFault};
 pub use counters::Counter;
 pub use serving::serve;
-pub use starting::serve_with_map;
+pub use starting::{hear_map, serve_with_map};
 
 #[cfg(test)]
 mod tests;

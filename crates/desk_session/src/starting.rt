@@ -10,8 +10,13 @@ use desk_report::{Sink, Source};
 use plan_table::Mode;
 use std::alloc::Global;
 
-// The text of the map that comes first.
-fn hear_map<R: Source>(alloc: Global, reader: &mut R, most: u64) -> Result<Vec<u8>, ServeFault>
+/// The text of a map that comes first: four lines, and the rows that these announce, or those lines
+/// that there are. It has at most `most` bytes.
+///
+/// # Errors
+///
+/// The reader failed, a byte came after `most` bytes, or want of memory.
+pub fn hear_map<R: Source>(alloc: Global, reader: &mut R, most: u64) -> Result<Vec<u8>, ServeFault>
     ensures heard { IfOk result (λ text. HearsMap (R.left reader.old) (R.left reader.new) most text.items) }
     ensures stopped { IfErr result (StopsInMap (R.left reader.old) (R.left reader.new) most) }
     ensures failed { R.failed reader.new ≡ (R.failed reader.old || is_read_failed result) }

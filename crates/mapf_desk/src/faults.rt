@@ -1,0 +1,94 @@
+ghost use Rattle.std.specs.Prelude.{◌≡◌};
+ghost use Rattle.mapf_desk.specs.Faults.{of_map, of_scen, of_session, of_start, of_tasks};
+
+use bench_reader::{MapFault, ScenFault};
+use desk_session::{ServeFault, StartFault};
+use scene_edits::TaskFault;
+use thiserror::Error;
+
+/// Why a run did not come to its end.
+#[derive(Clone, Copy, Debug, PartialEq, Eq, Error)]
+pub enum RunFault {
+    /// The map's text is no map.
+    #[error("map: {0}")]
+    Map(MapFault),
+    /// The scenario's text is no scenario for the map.
+    #[error("scen: {0}")]
+    Scen(ScenFault),
+    /// The first tasks of the scenario make no scene on the map.
+    #[error("scen: {0}")]
+    Tasks(TaskFault),
+    /// The session ended before its input did.
+    #[error("{0}")]
+    Serve(ServeFault),
+    #[error("out of memory")]
+    OutOfMemory,
+}
+
+impl From<MapFault> for RunFault {
+    ghost from_gives = { λ why fault. fault ≡ of_map why };
+
+    fn from(fault: MapFault) -> RunFault {
+        match fault {
+            MapFault::OutOfMemory => RunFault::OutOfMemory,
+            fault => RunFault::Map(fault),
+        }
+    }
+}
+
+impl From<ScenFault> for RunFault {
+    ghost from_gives = { λ why fault. fault ≡ of_scen why };
+
+    fn from(fault: ScenFault) -> RunFault {
+        match fault {
+            ScenFault::OutOfMemory => RunFault::OutOfMemory,
+            fault => RunFault::Scen(fault),
+        }
+    }
+}
+
+impl From<TaskFault> for RunFault {
+    ghost from_gives = { λ why fault. fault ≡ of_tasks why };
+
+    fn from(fault: TaskFault) -> RunFault {
+        match fault {
+            TaskFault::OutOfMemory => RunFault::OutOfMemory,
+            fault => RunFault::Tasks(fault),
+        }
+    }
+}
+
+impl From<ServeFault> for RunFault {
+    ghost from_gives = { λ why fault. fault ≡ of_session why };
+
+    fn from(fault: ServeFault) -> RunFault {
+        match fault {
+            ServeFault::OutOfMemory => RunFault::OutOfMemory,
+            fault => RunFault::Serve(fault),
+        }
+    }
+}
+
+impl From<StartFault> for RunFault {
+    ghost from_gives = { λ why fault. fault ≡ of_start why };
+
+    fn from(fault: StartFault) -> RunFault {
+        match fault {
+            StartFault::Map(why) => RunFault::from(why),
+            StartFault::Serve(why) => RunFault::from(why),
+        }
+    }
+}
+
+/// Why the program did not do what its words ask for.
+#[derive(Debug, Drop, Error)]
+pub enum Fault<'a> {
+    /// Agents are asked for, and there is no scenario that has their tasks.
+    #[error("--agents needs --scen")]
+    AgentsWithoutScen,
+    /// A file can't be opened or read, or has too many bytes.
+    #[error("can't read {file}")]
+    CannotRead { file: &'a str },
+    #[error("{0}")]
+    Run(RunFault),
+}

@@ -1,0 +1,51 @@
+//! The program: a desk that serves a planner's session over files and standard streams.
+#![tactic(auto)]
+
+mod faults;
+mod files;
+mod scenes;
+mod serving;
+mod streams;
+#[cfg(test)]
+mod tests;
+mod words;
+
+use faults::{Fault, RunFault};
+use serving::serve_streams;
+use std::process::ExitCode;
+use std::rt::Files;
+use std::{env, io};
+use words::{Asked, Words, read_words};
+
+// Does what the words ask for.
+fn obey<'a, R: Files + AllocGlobal + Print + Input>(
+    rt: &R,
+    words: &Words<'a>,
+) -> Result<ExitCode, Fault<'a>> {
+    match words {
+        Words::Serve(serve) => match serve_streams(rt, serve) {
+            Ok(()) => Ok(ExitCode::SUCCESS),
+            Err(fault) => Err(fault),
+        },
+    }
+}
+
+fn main(rt: HostRuntime) -> io::Result<ExitCode> {
+    let alloc = rt.alloc();
+    let given: Vec<String> = env::args(&rt)?.collect(alloc)?;
+    let done = match read_words(alloc, given.as_slice()) {
+        Asked::Refused(error) => {
+            error.print(&rt)?;
+            return Ok(ExitCode::from(if error.use_stderr() { 2 } else { 0 }));
+        }
+        Asked::NoMemory => Err(Fault::Run(RunFault::OutOfMemory)),
+        Asked::For(words) => obey(&rt, &words),
+    };
+    match done {
+        Ok(status) => Ok(status),
+        Err(fault) => {
+            eprintln!(rt; "mapf_desk: {fault}")?;
+            Ok(ExitCode::from(2))
+        }
+    }
+}

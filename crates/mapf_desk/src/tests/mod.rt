@@ -1,0 +1,3 @@
+//! Runs of the commands' functions over bytes, and the texts of their faults. Answers and texts are written by hand.
+mod faults;
+mod runs;

@@ -1,0 +1,156 @@
+//! The program's words.
+use clap::{Arg, ArgMatches, Command, Error, value_parser};
+use desk_core::{Limit, MOST_ENTRIES};
+use plan_table::Mode;
+use std::alloc::{AllocError, Global};
+
+/// What the words ask for.
+#[derive(Drop)]
+pub enum Words<'a> {
+    Serve(ServeWords<'a>),
+}
+
+/// The words of `serve`.
+#[derive(Drop)]
+pub struct ServeWords<'a> {
+    pub map: Option<&'a str>,
+    pub scen: Option<&'a str>,
+    pub agents: u32,
+    pub limit: Limit,
+    pub mode: Mode,
+}
+
+/// What the words come to.
+#[derive(Drop)]
+pub enum Asked<'a> {
+    For(Words<'a>),
+    /// Words that aren't the program's, or a request for help.
+    Refused(Error),
+    NoMemory,
+}
+
+/// How many commits the journal takes where the words don't say.
+const USUAL_LIMIT: u32 = 100_000;
+
+const ABOUT: &str =
+    "A live plan desk for multi-agent path finding: it takes planners' edits of one \
+map's agents and paths, and reports conflicts, costs and bounds that are always current.";
+
+const PROGRAM_EXAMPLE: &str = "\
+With no words, `mapf_desk` is `mapf_desk serve`: a map stands first on standard input, and a
+session follows it.
+
+Example:
+  printf 'type octile\\nheight 1\\nwidth 3\\nmap\\n...\\nagent 0 0,0 2,0\\nreport\\n' | mapf_desk";
+
+const SERVE_EXAMPLE: &str = "\
+Each line of standard input is answered on standard output. An edit line (agent, drop, goal, path,
+tail, open, close) is committed at once; begin, watch .., edit lines and commit gather a commit of
+several edits; report, distance, solves and version ask.
+
+Example:
+  mapf_desk serve --map demo/warehouse.map --scen demo/warehouse.scen --agents 10";
+
+fn map_argument<'a>(alloc: Global) -> Arg<'a> {
+    Arg::new(alloc, "map").long("map").value_name("F").help(
+        "The map, a MovingAI .map file; without it the map stands first on standard input",
+    )
+}
+
+fn scen_argument<'a>(alloc: Global) -> Arg<'a> {
+    Arg::new(alloc, "scen")
+        .long("scen")
+        .value_name("F")
+        .help("A MovingAI .scen file, whose first tasks are the agents")
+}
+
+fn agents_argument<'a>(alloc: Global) -> Arg<'a> {
+    Arg::new(alloc, "agents")
+        .long("agents")
+        .value_name("K")
+        .value_parser(value_parser!(u32).range(0..=8192))
+        .default_value("0")
+        .help("How many agents the scenario gives, from 0 to 8192")
+}
+
+fn mode_argument<'a>(alloc: Global) -> Arg<'a> {
+    Arg::new(alloc, "mode")
+        .long("mode")
+        .value_name("M")
+        .value_parser(["stay", "disappear"].as_slice())
+        .default_value("stay")
+        .help("Whether an agent stays at its goal or leaves the map there")
+}
+
+fn limit_argument<'a>(alloc: Global) -> Arg<'a> {
+    Arg::new(alloc, "limit")
+        .long("limit")
+        .value_name("N")
+        .value_parser(value_parser!(u32).range(1..=1_000_000))
+        .default_value("100000")
+        .help("How many commits the journal takes, from 1 to 1000000")
+}
+
+fn serve_command<'a>(alloc: Global) -> Result<Command<'a>, AllocError> {
+    Command::new(alloc, "serve")
+        .about("Serves one planner's session from standard input to standard output")
+        .after_help(SERVE_EXAMPLE)
+        .arg(map_argument(alloc))?
+        .arg(scen_argument(alloc))?
+        .arg(agents_argument(alloc))?
+        .arg(limit_argument(alloc))?
+        .arg(mode_argument(alloc))
+}
+
+fn command<'a>(alloc: Global) -> Result<Command<'a>, AllocError> {
+    Command::new(alloc, "mapf_desk")
+        .about(ABOUT)
+        .after_help(PROGRAM_EXAMPLE)
+        .subcommand(serve_command(alloc)?)
+}
+
+fn mode_of(matches: &ArgMatches<'_>) -> Mode {
+    match matches.get_str("mode") {
+        Some("disappear") => Mode::Disappear,
+        _ => Mode::Stay,
+    }
+}
+
+// The journal's limit, which `clap` has held to its range.
+fn limit_of(matches: &ArgMatches<'_>) -> Limit {
+    let entries = matches.get_one::<u32>("limit").unwrap_or(USUAL_LIMIT);
+    match Limit::new(entries.clamp(1, MOST_ENTRIES)) {
+        Some(limit) => limit,
+        None => unreachable!(),
+    }
+}
+
+fn words_of<'a>(matches: &ArgMatches<'a>) -> Words<'a> {
+    match matches.subcommand() {
+        Some((_, inner)) => Words::Serve(ServeWords {
+            map: inner.get_str("map"),
+            scen: inner.get_str("scen"),
+            agents: inner.get_one::<u32>("agents").unwrap_or(0),
+            limit: limit_of(inner),
+            mode: mode_of(inner),
+        }),
+        None => Words::Serve(ServeWords {
+            map: None,
+            scen: None,
+            agents: 0,
+            limit: limit_of(matches),
+            mode: Mode::Stay,
+        }),
+    }
+}
+
+/// What the program's words, its name first, ask for.
+pub fn read_words<'a>(alloc: Global, words: &'a [String]) -> Asked<'a> {
+    let Ok(command) = command(alloc) else {
+        return Asked::NoMemory;
+    };
+    match command.try_get_matches_from(words) {
+        Ok(matches) => Asked::For(words_of(&matches)),
+        Err(error) => Asked::Refused(error),
+    }
+}
