@@ -3,6 +3,7 @@ use crate::faults::{Fault, RunFault};
 use desk_session::ServeFault;
 use plan_table::Mode;
 use scene_edits::TaskFault;
+use std::process::Abort;
 
 // A map, a scenario, how many agents, and the text of the fault.
 const FAULTS: [(&str, &str, u32, &str); 15] = [
@@ -73,6 +74,14 @@ const FAULTS: [(&str, &str, u32, &str); 15] = [
     (MAP, SCEN, 8193, "scen: too few tasks, 1"),
 ];
 
+// The fault of a run that is to have one.
+fn refused(rt: &impl Abort, ended: Result<u32, RunFault>) -> RunFault {
+    match ended {
+        Err(fault) => fault,
+        Ok(_) => panic!(rt; "no fault"),
+    }
+}
+
 #[test]
 fn faults_of_files(rt: HostRuntime) {
     for (map, scen, agents, wanted) in FAULTS {
@@ -85,9 +94,7 @@ fn faults_of_files(rt: HostRuntime) {
             Mode::Stay,
             "report\n",
         );
-        let Err(fault) = ended else {
-            panic!(rt; "no fault: {wanted}");
-        };
+        let fault = refused(&rt, ended);
         let text = format!(in rt.alloc(); "{fault}").expect(&rt, "a text");
         assert!(rt; text.as_str() == wanted, "{text}");
         assert!(rt; written.is_empty());
