@@ -1,4 +1,5 @@
 //! Worked examples: commits of several planners on a small map.
 mod build;
 mod commits;
+mod rows;
 mod runs;

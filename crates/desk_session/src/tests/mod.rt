@@ -1,6 +1,7 @@
 mod fakes;
 mod lines;
 mod replies;
+mod reports;
 mod served;
 mod sessions;
 mod started;
