@@ -1,7 +1,8 @@
 use grid_cells::{Agent, Cell, Step};
 
 /// A blocked visit: the agent's path has a closed cell at that time, up to its last index.
-#[derive(Clone, Copy, Debug, PartialEq, Eq)]
+/// Visits compare by agent, then time, then cell.
+#[derive(Clone, Copy, Debug, PartialEq, Eq, PartialOrd, Ord)]
 pub struct Visit {
     pub agent: Agent,
     pub time: Step,

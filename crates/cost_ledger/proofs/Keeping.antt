@@ -1,0 +1,215 @@
+-- What is kept beside the rows, after an edit of the rows.
+use Rattle.std.proofs.Common.{◌≡◌, ◌≢◌, ◌⊎◌, inl, inr, ℕ, ◌+◌, ◌*◌, ◌<◌, ◌≤◌, List, length, get_or, Some, None, Option, Contains, refl, sym, ap, ◌∙◌, subst, arith}
+use mathlib.Core.Logic.{◌↔◌}
+use Rattle.std.specs.Prelude.{sum_by, All, slice_get}
+use Rattle.std.specs.List.Sorted.{IsStrictlySortedBy}
+use Rattle.std.specs.Ordering.{nat_cmp}
+use Rattle.std.specs.declared.cmp.Ordering.TheVariants.{Less, Equal}
+use Rattle.std.proofs.lemmas.Option.{same_Some, slice_get-get_or}
+use Rattle.std.proofs.lemmas.List.Sums.{sum_by-le}
+use Rattle.std.proofs.lemmas.Map.Keys.{Less-from_sorted}
+use Rattle.std.proofs.lemmas.Cmp.{tied_itself}
+use Rattle.grid_cells.specs.Cell.{Point}
+use Rattle.grid_cells.specs.Grid.{Chart, IsClosed}
+use Rattle.grid_cells.specs.declared.numbers.TheConstants.{MOST_AGENT}
+use Rattle.plan_table.specs.declared.paths.TheConstants.{MOST_LAST_INDEX}
+use Rattle.plan_table.specs.Path.{last_index, place, IsPath}
+use Rattle.plan_table.specs.Plans.{IsByAgent, AreRows, row_of, ChangesRow}
+use Rattle.plan_table.specs.Order.{ComesBefore}
+use Rattle.plan_table.specs.declared.plans.Row.{Row}
+use Rattle.plan_table.proofs.Fleets.{row_here}
+use Rattle.plan_table.proofs.Rows.{rows_few}
+use Rattle.cost_ledger.specs.Kept.{Keeps, AreSpots, AreRests, SwapsRow, last_of_row, ends_elsewhere, sum_of_rows, rest, visit_cmp}
+use Rattle.cost_ledger.specs.Ledger.{Ledger, StandsFor, SameBut, SameAt}
+use Rattle.cost_ledger.specs.Spots.{spot_of, Gains, Loses, GainsAll, LosesAll, IsSpotIn, AreThrough}
+use Rattle.cost_ledger.specs.Visits.{IsBlocked, IsVisit, visit_key, AreVisits}
+use Rattle.cost_ledger.specs.VisitSearch.{IsVisitIn}
+use Rattle.cost_ledger.specs.declared.rests.Rest.{Rest}
+use Rattle.cost_ledger.specs.declared.spots.Spot.{Spot}
+use Rattle.cost_ledger.specs.declared.visits.Visit.{Visit}
+use Rattle.cost_ledger.proofs.KeyOrders.{visit_total}
+use Rattle.cost_ledger.proofs.SpotOrder.{from_lt, from_eq, cases3}
+use Rattle.cost_ledger.proofs.Visiting.{key_before}
+
+same_or_apart : (a b : ℕ) → (a ≡ b) ⊎ (a ≢ b)
+same_or_apart a b = grind arith
+
+none_some : {X G : Type 0} (o : Option X) (x : X) → o ≡ None → o ≡ Some x → G
+none_some o x none some = absurd (cc)
+
+-- ---- lists of what the rows of agents have
+module _ {X : Type 0} (agent_of : X → ℕ) (P : Row → X → Type 0) where
+  abbrev pub AreOf : List (ℕ × Row) → List X → Type 0
+  AreOf rows list = (x : X) → Contains list x ↔ ((row : Row) × (row_of rows (agent_of x) ≡ Some row) × P row x)
+
+  module _ (rows new : List (ℕ × Row)) (agent : ℕ) (old list : List X) where
+    pub of_put : (row : Row) (Q : X → Type 0) → row_of rows agent ≡ None → ChangesRow rows new agent (Some row) → ((x : X) → Q x ↔ ((agent_of x ≡ agent) × P row x)) → AreOf rows old → GainsAll old list Q → AreOf new list
+    of_put row Q absent change is before gains x = (
+        (λ h. elim ((gains x).0 h) [
+          | inl o ↦
+              let had = (before x).0 o in
+              let apart : agent_of x ≢ agent = λ e. none_some (row_of rows agent) had.0 absent (sym (ap (row_of rows) e) ∙ had.1) in
+              (had.0, change.other_agents (agent_of x) apart ∙ had.1, had.2)
+          | inr q ↦ let now = (is x).0 q in (row, ap (row_of new) now.0 ∙ change.this_agent, now.1)
+        ]),
+        (λ h. elim (same_or_apart (agent_of x) agent) [
+          | inl e ↦
+              let one : h.0 ≡ row = same_Some h.0 row (sym h.1 ∙ ap (row_of new) e ∙ change.this_agent) in
+              (gains x).1 (inr ((is x).1 (e, subst (λ (r : Row). P r x) one h.2)))
+          | inr apart ↦ (gains x).1 (inl ((before x).1 (h.0, sym (change.other_agents (agent_of x) apart) ∙ h.1, h.2)))
+        ]))
+
+    pub of_take : (row : Row) (Q : X → Type 0) → row_of rows agent ≡ Some row → ChangesRow rows new agent None → ((x : X) → Q x → agent_of x ≡ agent) → ((x : X) → agent_of x ≡ agent → P row x → Q x) → AreOf rows old → LosesAll old list Q → AreOf new list
+    of_take row Q live change only all before loses x = (
+        (λ h.
+          let kept = (loses x).0 h in
+          let had = (before x).0 kept.0 in
+          elim (same_or_apart (agent_of x) agent) [
+            | inl e ↦
+                let one : had.0 ≡ row = same_Some had.0 row (sym had.1 ∙ ap (row_of rows) e ∙ live) in
+                absurd (kept.1 (all x e (subst (λ (r : Row). P r x) one had.2)))
+            | inr apart ↦ (had.0, change.other_agents (agent_of x) apart ∙ had.1, had.2)
+          ]),
+        (λ h. elim (same_or_apart (agent_of x) agent) [
+          | inl e ↦ none_some (row_of new agent) h.0 change.this_agent (sym (ap (row_of new) e) ∙ h.1)
+          | inr apart ↦ (loses x).1 ((before x).1 (h.0, sym (change.other_agents (agent_of x) apart) ∙ h.1, h.2), λ q. apart (only x q))
+        ]))
+
+  module _ (rows new : List (ℕ × Row)) (agent : ℕ) (list : List X) where
+    pub of_swap : (row after : Row) → row_of rows agent ≡ Some row → ChangesRow rows new agent (Some after) → ((x : X) → P row x ↔ P after x) → AreOf rows list → AreOf new list
+    of_swap row after live change same before x = (
+        (λ h.
+          let had = (before x).0 h in
+          elim (same_or_apart (agent_of x) agent) [
+            | inl e ↦
+                let one : had.0 ≡ row = same_Some had.0 row (sym had.1 ∙ ap (row_of rows) e ∙ live) in
+                (after, ap (row_of new) e ∙ change.this_agent, (same x).0 (subst (λ (r : Row). P r x) one had.2))
+            | inr apart ↦ (had.0, change.other_agents (agent_of x) apart ∙ had.1, had.2)
+          ]),
+        (λ h. elim (same_or_apart (agent_of x) agent) [
+          | inl e ↦
+              let one : h.0 ≡ after = same_Some h.0 after (sym h.1 ∙ ap (row_of new) e ∙ change.this_agent) in
+              (before x).1 (row, ap (row_of rows) e ∙ live, (same x).1 (subst (λ (r : Row). P r x) one h.2))
+          | inr apart ↦ (before x).1 (h.0, sym (change.other_agents (agent_of x) apart) ∙ h.1, h.2)
+        ]))
+
+-- ---- spots and rests
+abbrev SpotOf : Row → Spot → Type 0
+SpotOf row s = IsSpotIn s.agent row.plan (last_of_row row + 1) s
+
+abbrev RestOf : Row → Rest → Type 0
+RestOf row r = r.time ≡ last_of_row row
+
+spot_in : (agent : ℕ) (row : Row) (s : Spot) → IsSpotIn agent row.plan (last_of_row row + 1) s ↔ ((s.agent ≡ agent) × SpotOf row s)
+spot_in agent row s = (
+    (λ is. (is.same_agent, record { same_agent = refl; early = is.early; there = is.there })),
+    (λ h. record { same_agent = h.0; early = h.1.early; there = h.1.there }))
+
+rest_in : (agent : ℕ) (row : Row) (r : Rest) → (r ≡ rest (last_of_row row) agent) ↔ ((r.agent ≡ agent) × RestOf row r)
+rest_in agent row r = (
+    (λ e. (ap (λ (q : Rest). q.agent) e, ap (λ (q : Rest). q.time) e)),
+    (λ h. λ i. record { time = h.1 i; agent = h.0 i }))
+
+pub spots_put : (rows new : List (ℕ × Row)) (agent : ℕ) (row : Row) (old spots : List Spot) → row_of rows agent ≡ None → ChangesRow rows new agent (Some row) → AreSpots rows old → GainsAll old spots (IsSpotIn agent row.plan (last_of_row row + 1)) → AreSpots new spots
+spots_put rows new agent row old spots absent change before gains =
+    of_put (λ (s : Spot). s.agent) SpotOf rows new agent old spots row (IsSpotIn agent row.plan (last_of_row row + 1)) absent change (spot_in agent row) before gains
+
+pub spots_take : (rows new : List (ℕ × Row)) (agent : ℕ) (row : Row) (old spots : List Spot) → row_of rows agent ≡ Some row → ChangesRow rows new agent None → AreSpots rows old → LosesAll old spots (IsSpotIn agent row.plan (last_of_row row + 1)) → AreSpots new spots
+spots_take rows new agent row old spots live change before loses =
+    of_take (λ (s : Spot). s.agent) SpotOf rows new agent old spots row (IsSpotIn agent row.plan (last_of_row row + 1)) live change (λ s is. is.same_agent) (λ s e is. (spot_in agent row s).1 (e, is)) before loses
+
+pub rests_put : (rows new : List (ℕ × Row)) (agent : ℕ) (row : Row) (old rests : List Rest) → row_of rows agent ≡ None → ChangesRow rows new agent (Some row) → AreRests rows old → Gains old rests (rest (last_of_row row) agent) → AreRests new rests
+rests_put rows new agent row old rests absent change before gains =
+    of_put (λ (r : Rest). r.agent) RestOf rows new agent old rests row (λ r. r ≡ rest (last_of_row row) agent) absent change (rest_in agent row) before gains
+
+pub rests_take : (rows new : List (ℕ × Row)) (agent : ℕ) (row : Row) (old rests : List Rest) → row_of rows agent ≡ Some row → ChangesRow rows new agent None → AreRests rows old → Loses old rests (rest (last_of_row row) agent) → AreRests new rests
+rests_take rows new agent row old rests live change before loses =
+    of_take (λ (r : Rest). r.agent) RestOf rows new agent old rests row (λ r. r ≡ rest (last_of_row row) agent) live change (λ r e. ap (λ (q : Rest). q.agent) e) (λ r e is. (rest_in agent row r).1 (e, is)) before loses
+
+-- ---- visits
+abbrev VisitOf : Chart → Row → Visit → Type 0
+VisitOf grid row v = IsBlocked grid row.plan v.time v.cell
+
+abbrev pub VisitsOf : Chart → List (ℕ × Row) → List Visit → Type 0
+VisitsOf grid rows visits = AreOf (λ (v : Visit). v.agent) (VisitOf grid) rows visits
+
+pub visits_of : (grid : Chart) (rows : List (ℕ × Row)) (visits : List Visit) → AreVisits grid rows visits → VisitsOf grid rows visits
+visits_of grid rows visits are v = (
+    (λ h. let is = (are.exact v).0 h in (is.row, is.live, is.blocked)),
+    (λ h. (are.exact v).1 (record { row = h.0; live = h.1; blocked = h.2 })))
+
+-- of one agent at one time there is one visit, so visits in their whole order are in the order of agents and times
+before_key : (a b : Visit) → visit_cmp a b ≡ Less → (a.agent ≡ b.agent → a.time ≡ b.time → a.cell ≡ b.cell) → ComesBefore (visit_key a) (visit_key b)
+before_key a b less same = elim (cases3 (nat_cmp a.agent b.agent)) [
+    | inl lt ↦ key_before a b.agent b.time (inl (from_lt a.agent b.agent lt))
+    | inr rest ↦ elim rest [
+      | inl e ↦ elim (cases3 (nat_cmp a.time b.time)) [
+        | inl lt ↦ key_before a b.agent b.time (inr (from_eq a.agent b.agent e, from_lt a.time b.time lt))
+        | inr more ↦ elim more [
+          | inl t ↦
+              let agents = from_eq a.agent b.agent e in
+              let times = from_eq a.time b.time t in
+              let cells = same agents times in
+              let one : a ≡ b = λ i. record { agent = agents i; time = times i; cell = cells i } in
+              let tied : visit_cmp a b ≡ Equal = ap (λ (v : Visit). visit_cmp v b) one ∙ tied_itself visit_total b in
+              absurd (cc)
+          | inr gt ↦ ?
+        ]
+      ]
+      | inr gt ↦ ?
+    ]
+  ]
+
+pub visits_listed : (grid : Chart) (rows : List (ℕ × Row)) (visits : List Visit) → IsStrictlySortedBy visit_cmp visits → VisitsOf grid rows visits → AreVisits grid rows visits
+visits_listed grid rows visits sorted are = record {
+  ascending = λ i j d lt within.
+      let a = get_or visits i d in
+      let b = get_or visits j d in
+      let of_a = (are a).0 (i, omega arith, ?) in
+      let of_b = (are b).0 (j, within, ?) in
+      before_key a b (Less-from_sorted visit_cmp visits i j d sorted lt within) (λ agents times.
+          let one : of_a.0 ≡ of_b.0 = same_Some of_a.0 of_b.0 (sym of_a.1 ∙ ap (row_of rows) agents ∙ of_b.1) in
+          same_Some a.cell b.cell (sym of_a.2.there ∙ ap (λ (r : Row). place r.plan a.time) one ∙ ap (place of_b.0.plan) times ∙ of_b.2.there));
+  exact = λ v. ((λ h. let is = (are v).0 h in record { row = is.0; live = is.1; blocked = is.2 }), (λ is. (are v).1 (is.row, is.live, is.blocked)));
+}
+
+visit_in : (grid : Chart) (agent : ℕ) (row : Row) (v : Visit) → IsVisitIn grid agent row.plan 0 (last_of_row row + 1) v ↔ ((v.agent ≡ agent) × VisitOf grid row v)
+visit_in grid agent row v = (
+    (λ is. (is.same_agent, is.blocked)),
+    (λ h. record { same_agent = h.0; late = omega arith; early = omega (arith, h.1.on_path); blocked = h.1 }))
+
+pub visits_put : (grid : Chart) (rows new : List (ℕ × Row)) (agent : ℕ) (row : Row) (old visits : List Visit) → IsStrictlySortedBy visit_cmp visits → row_of rows agent ≡ None → ChangesRow rows new agent (Some row) → AreVisits grid rows old → GainsAll old visits (IsVisitIn grid agent row.plan 0 (last_of_row row + 1)) → AreVisits grid new visits
+visits_put grid rows new agent row old visits sorted absent change before gains =
+    visits_listed grid new visits sorted (of_put (λ (v : Visit). v.agent) (VisitOf grid) rows new agent old visits row (IsVisitIn grid agent row.plan 0 (last_of_row row + 1)) absent change (visit_in grid agent row) (visits_of grid rows old before) gains)
+
+pub visits_take : (grid : Chart) (rows new : List (ℕ × Row)) (agent : ℕ) (row : Row) (old visits : List Visit) → IsStrictlySortedBy visit_cmp visits → row_of rows agent ≡ Some row → ChangesRow rows new agent None → AreVisits grid rows old → LosesAll old visits (λ v. IsSpotIn agent row.plan (last_of_row row + 1) (spot_of v)) → AreVisits grid new visits
+visits_take grid rows new agent row old visits sorted live change before loses =
+    visits_listed grid new visits sorted (of_take (λ (v : Visit). v.agent) (VisitOf grid) rows new agent old visits row (λ v. IsSpotIn agent row.plan (last_of_row row + 1) (spot_of v)) live change (λ v is. is.same_agent) (λ v e is. record { same_agent = e; early = omega (arith, is.on_path); there = is.there }) (visits_of grid rows old before) loses)
+
+pub visits_swap : (grid : Chart) (rows new : List (ℕ × Row)) (agent : ℕ) (row after : Row) (visits : List Visit) → row.plan ≡ after.plan → row_of rows agent ≡ Some row → ChangesRow rows new agent (Some after) → AreVisits grid rows visits → AreVisits grid new visits
+visits_swap grid rows new agent row after visits plans live change before =
+    let of = of_swap (λ (v : Visit). v.agent) (VisitOf grid) rows new agent visits row after live change (λ v. (subst (λ (p : List Point). IsBlocked grid p v.time v.cell) plans, subst (λ (p : List Point). IsBlocked grid p v.time v.cell) (sym plans))) (visits_of grid rows visits before) in
+    record {
+      ascending = before.ascending;
+      exact = λ v. ((λ h. let is = (of v).0 h in record { row = is.0; live = is.1; blocked = is.2 }), (λ is. (of v).1 (is.row, is.live, is.blocked)));
+    }
+
+-- ---- all that is kept
+module _ (rows : List (ℕ × Row)) (spots : List Spot) (rests : List Rest) (total elsewhere : ℕ) (keeps : Keeps rows spots rests total elsewhere) where
+  row_at : (k : ℕ) (d : ℕ × Row) → k < length rows → row_of rows (get_or rows k d).0 ≡ Some (get_or rows k d).1
+  row_at k d within = (row_here rows keeps.by_agent k (get_or rows k d).0 (get_or rows k d).1 (slice_get-get_or rows k d within)).0
+
+  pub all_paths : All (λ entry. IsPath entry.1.plan) rows
+  all_paths k d within = (keeps.lawful (get_or rows k d).0 (get_or rows k d).1 (row_at k d within)).1
+
+  few : length rows ≤ MOST_AGENT + 1
+  few = rows_few rows (record { by_agent = keeps.by_agent; numbers = λ k d within. (keeps.lawful (get_or rows k d).0 (get_or rows k d).1 (row_at k d within)).0 })
+
+  one_at_most : (row : Row) → ends_elsewhere row ≤ 1
+  one_at_most row = ?
+
+  pub total_small : total ≤ length rows * MOST_LAST_INDEX
+  total_small = omega (arith, keeps.total_is, sum_by-le (λ (entry : ℕ × Row). last_of_row entry.1) MOST_LAST_INDEX rows (λ k d within. (all_paths k d within).walkable.short))
+
+  pub elsewhere_small : elsewhere ≤ length rows * 1
+  elsewhere_small = omega (arith, keeps.elsewhere_is, sum_by-le (λ (entry : ℕ × Row). ends_elsewhere entry.1) 1 rows (λ k d within. one_at_most (get_or rows k d).1))

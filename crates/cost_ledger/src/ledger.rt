@@ -1,0 +1,198 @@
+ghost use Rattle.std.specs.Prelude.{◌≡◌, ◌↔◌, [], None, Some, IfOk, IfSome, IfNone, IsTrue};
+ghost use Rattle.grid_cells.specs.Grid.{Chart};
+ghost use Rattle.plan_table.specs.Plans.{row_of, ChangesRow, IsByAgent};
+ghost use Rattle.cost_ledger.specs.Costs.{IsSumOfCosts, IsMakespan};
+ghost use Rattle.cost_ledger.specs.Visits.{AreVisits};
+ghost use Rattle.cost_ledger.specs.Ledger.{StandsFor, SameBut, SameAt, IsSettleOf, IsFinishedIn, IsUnfinishedCount};
+
+use crate::along::{add_spots, block, lose_spots, set_blocked, unblock};
+use crate::blocked::Blocked;
+use crate::rests::Rests;
+use crate::rows::{Rows, elsewhere};
+use crate::search::is_closed;
+use crate::spots::Spots;
+use crate::totals::{is_finished, settle_time};
+use crate::visits::Visit;
+use grid_cells::{Agent, Cell, Grid, List, OutOfMemory};
+use plan_table::{MOST_LAST_INDEX, Plan, Row};
+use std::alloc::Global;
+use std::marker::Model;
+
+/// The costs and the blocked visits of the rows put into it, kept under changes.
+#[derive(Debug, Drop)]
+pub struct CostLedger {
+    alloc: Global,
+    rows: Rows,
+    spots: Spots,
+    blocked: Blocked,
+    rests: Rests,
+    total: u64,
+    elsewhere: u32,
+}
+
+impl Model for CostLedger {
+    ghost use Rattle.cost_ledger.specs.Ledger.{Ledger};
+    ghost use Rattle.cost_ledger.specs.Kept.{Keeps};
+
+    ghost Value = { Ledger };
+
+    ghost view = { λ l. record { rows = l.rows; visits = l.blocked } };
+
+    ghost invariant = { λ l. Keeps l.rows l.spots l.rests l.total l.elsewhere };
+}
+
+impl CostLedger {
+    /// A ledger with no agent, for every map.
+    pub fn new(alloc: Global) -> CostLedger
+        ensures rows { result.rows ≡ [] }
+        ensures stands { (grid : Chart) → StandsFor result grid }
+    {
+        CostLedger {
+            alloc,
+            rows: Rows::new(alloc),
+            spots: Spots::new(alloc),
+            blocked: Blocked::new(alloc),
+            rests: Rests::new(alloc),
+            total: 0,
+            elsewhere: 0,
+        }
+    }
+
+    /// Puts in an agent that is not in it. The grid is the one that the ledger stands for.
+    ///
+    /// # Errors
+    ///
+    /// Want of memory. The ledger is gone then.
+    pub fn put(
+        mut self,
+        agent: Agent,
+        goal: Cell,
+        plan: &Plan,
+        grid: &Grid,
+    ) -> Result<CostLedger, OutOfMemory>
+        requires absent { row_of self.rows agent ≡ None }
+        ensures row { IfOk result (λ ledger. ChangesRow self.rows ledger.rows agent (Some (record { goal = goal; plan = plan.now }))) }
+        ensures by_agent { IfOk result (λ ledger. IsByAgent ledger.rows) }
+        ensures stands { IfOk result (λ ledger. StandsFor self grid.now → StandsFor ledger grid.now) }
+    {
+        let _number = agent.number();
+        let last = plan.last();
+        let row = Row {
+            goal,
+            plan: plan.copy()?,
+        };
+        let away = elsewhere(&row);
+        add_spots(&mut self.spots, agent, plan)?;
+        block(&mut self.blocked, grid, agent, plan)?;
+        self.rests.add(last, agent)?;
+        self.rows.insert(agent, row)?;
+        self.total += u64::from(last);
+        self.elsewhere += away;
+        let _count = self.blocked.count();
+        Ok(self)
+    }
+
+    /// Takes the agent out, if it is in it.
+    pub fn take(&mut self, agent: Agent)
+        ensures row { ChangesRow self.old.rows self.new.rows agent None }
+        ensures by_agent { IsByAgent self.new.rows }
+        ensures stands { (grid : Chart) → StandsFor self.old grid → StandsFor self.new grid }
+        ensures none { row_of self.old.rows agent ≡ None → self.new ≡ self.old }
+    {
+        let Some(row) = self.rows.remove(agent) else {
+            return;
+        };
+        let last = row.plan.last();
+        lose_spots(&mut self.spots, agent, &row.plan);
+        unblock(&mut self.blocked, agent, &row.plan);
+        self.rests.lose(last, agent);
+        self.total -= u64::from(last);
+        self.elsewhere -= elsewhere(&row);
+        let _count = self.blocked.count();
+    }
+
+    /// Gives the agent another goal, if it is in it.
+    pub fn aim(&mut self, agent: Agent, goal: Cell)
+        ensures row { IfSome (row_of self.old.rows agent) (λ row. ChangesRow self.old.rows self.new.rows agent (Some (record row { goal = goal }))) }
+        ensures by_agent { IsByAgent self.new.rows }
+        ensures stands { (grid : Chart) → StandsFor self.old grid → StandsFor self.new grid }
+        ensures none { IfNone (row_of self.old.rows agent) (self.new ≡ self.old) }
+    {
+        let Some((before, after)) = self.rows.aim(agent, goal) else {
+            return;
+        };
+        self.elsewhere = self.elsewhere - before + after;
+    }
+
+    /// Gives the cell the state that it has in the grid.
+    ///
+    /// # Errors
+    ///
+    /// Want of memory. The ledger is gone then.
+    pub fn flip(mut self, cell: Cell, grid: &Grid) -> Result<CostLedger, OutOfMemory>
+        ensures rows { IfOk result (λ ledger. ledger.rows ≡ self.rows) }
+        ensures stands { IfOk result (λ ledger. (old new : Chart) → StandsFor self old → SameBut old new cell → SameAt grid.now new cell → StandsFor ledger new) }
+    {
+        let spots = self.spots.through(self.alloc, cell, MOST_LAST_INDEX)?;
+        set_blocked(&mut self.blocked, &spots, is_closed(grid, cell))?;
+        let _count = self.blocked.count();
+        Ok(self)
+    }
+
+    /// The agent's settle time in steps, if it is in it.
+    pub fn settle(&self, agent: Agent) -> Option<u32>
+        ensures { IsSettleOf self.now.rows agent result }
+    {
+        match self.rows.row(agent) {
+            Some(row) => Some(settle_time(&row.plan)),
+            None => None,
+        }
+    }
+
+    /// Whether the agent is in it and comes to rest in its goal.
+    pub fn finished(&self, agent: Agent) -> bool
+        ensures { IsTrue result ↔ IsFinishedIn self.now.rows agent }
+    {
+        match self.rows.row(agent) {
+            Some(row) => is_finished(row),
+            None => false,
+        }
+    }
+
+    /// The sum of the costs in steps, if every agent is finished.
+    pub fn sum(&self) -> Option<u64>
+        ensures { IsSumOfCosts self.now.rows result }
+    {
+        if self.elsewhere == 0 {
+            Some(self.total)
+        } else {
+            None
+        }
+    }
+
+    /// The greatest of the costs in steps, if every agent is finished.
+    pub fn makespan(&self) -> Option<u32>
+        ensures { IsMakespan self.now.rows result }
+    {
+        if self.elsewhere == 0 {
+            Some(self.rests.greatest())
+        } else {
+            None
+        }
+    }
+
+    /// How many agents aren't finished.
+    pub fn unfinished(&self) -> u32
+        ensures { IsUnfinishedCount self.now.rows result }
+    {
+        self.elsewhere
+    }
+
+    /// The blocked visits of the agents, by agent, then time.
+    pub fn blocked_visits(&self) -> Result<List<Visit>, OutOfMemory>
+        ensures is { IfOk result (λ visits. visits ≡ self.now.visits) }
+        ensures blocked { IfOk result (λ visits. (grid : Chart) → StandsFor self.now grid → AreVisits grid self.now.rows visits) }
+    {
+        self.blocked.listed(self.alloc)
+    }
+}

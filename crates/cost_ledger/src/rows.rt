@@ -1,0 +1,89 @@
+ghost use Rattle.std.specs.Prelude.{◌≡◌, ◌+◌, ℕ, [], None, Some, OnOk, IfSome, IfNone};
+ghost use Rattle.std.specs.Option.{option_copied};
+ghost use Rattle.plan_table.specs.Plans.{row_of, ChangesRow, IsByAgent};
+ghost use Rattle.plan_table.specs.declared.plans.Row.{Row};
+ghost use Rattle.cost_ledger.specs.Kept.{ends_elsewhere, sum_of_rows, SwapsRow};
+
+use grid_cells::{Agent, Cell, OutOfMemory, Step};
+use plan_table::Row;
+use std::alloc::Global;
+use std::collections::BTreeMap;
+use std::marker::Model;
+
+/// The rows of agents, by agent.
+#[derive(Debug, Drop)]
+pub struct Rows {
+    rows: BTreeMap<Agent, Row>,
+}
+
+impl Model for Rows {
+    ghost use Rattle.std.specs.Prelude.{List, ℕ};
+    ghost use Rattle.plan_table.specs.declared.plans.Row.{Row};
+
+    ghost Value = { List (ℕ × Row) };
+
+    ghost view = { λ r. r.rows.entries };
+}
+
+impl Rows {
+    /// No rows.
+    pub fn new(alloc: Global) -> Rows
+        ensures { result ≡ [] }
+    {
+        Rows {
+            rows: BTreeMap::new(alloc),
+        }
+    }
+
+    /// The agent's row, if it has one.
+    pub fn row(&self, agent: Agent) -> Option<&Row>
+        ensures { option_copied result ≡ row_of self.now agent }
+    {
+        self.rows.get(&agent)
+    }
+
+    /// Adds an agent's row.
+    pub fn insert(&mut self, agent: Agent, row: Row) -> Result<(), OutOfMemory>
+        requires absent { row_of self.old agent ≡ None }
+        ensures row { OnOk result (ChangesRow self.old self.new agent (Some row)) }
+        ensures sums { OnOk result ((number : Row → ℕ) → sum_of_rows number self.new ≡ sum_of_rows number self.old + number row) }
+        ensures by_agent { OnOk result (IsByAgent self.new) }
+    {
+        self.rows.insert(agent, row)?;
+        Ok(())
+    }
+
+    /// Takes an agent's row out, if it has one.
+    pub fn remove(&mut self, agent: Agent) -> Option<Row>
+        ensures value { result ≡ row_of self.old agent }
+        ensures gone { ChangesRow self.old self.new agent None }
+        ensures sums { IfSome result (λ row. (number : Row → ℕ) → sum_of_rows number self.new + number row ≡ sum_of_rows number self.old) }
+        ensures none { IfNone result (self.new ≡ self.old) }
+        ensures by_agent { IsByAgent self.new }
+    {
+        self.rows.remove(&agent)
+    }
+
+    /// Gives an agent's row another goal, and answers how many paths of that row ended elsewhere
+    /// than at its goal, before and after.
+    pub fn aim(&mut self, agent: Agent, goal: Cell) -> Option<(u32, u32)>
+        ensures none { IfNone result ((row_of self.old agent ≡ None) × (self.new ≡ self.old)) }
+        ensures some { IfSome result (λ n. (row : Row) × SwapsRow self.old self.new agent row (record row { goal = goal }) × (n.0 ≡ ends_elsewhere row) × (n.1 ≡ ends_elsewhere (record row { goal = goal }))) }
+        ensures by_agent { IsByAgent self.new }
+    {
+        let Some(row) = self.rows.get_mut(&agent) else {
+            return None;
+        };
+        let before = elsewhere(row);
+        row.goal = goal;
+        Some((before, elsewhere(row)))
+    }
+}
+
+/// 0 where the row's path ends at its goal, and 1 otherwise.
+pub fn elsewhere(row: &Row) -> u32
+    ensures { result ≡ ends_elsewhere row.now }
+{
+    let end = row.plan.at(Step::new(row.plan.last()));
+    if end == row.goal { 0 } else { 1 }
+}
