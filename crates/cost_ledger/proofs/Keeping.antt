@@ -1,11 +1,14 @@
 -- What is kept beside the rows, after an edit of the rows.
-use Rattle.std.proofs.Common.{◌≡◌, ◌≢◌, ◌⊎◌, inl, inr, ℕ, ◌+◌, ◌*◌, ◌<◌, ◌≤◌, List, length, get_or, Some, None, Option, Contains, refl, sym, ap, ◌∙◌, subst, arith}
+use Rattle.std.proofs.Common.{◌≡◌, ◌≢◌, ◌⊎◌, inl, inr, ℕ, ◌+◌, ◌*◌, ◌<◌, ◌≤◌, List, length, get_or, Some, None, Option, Contains, Bool, true, false, cond, IsTrue, refl, sym, ap, ◌∙◌, subst, arith}
 use mathlib.Core.Logic.{◌↔◌}
+use mathlib.Core.Bool.{false≢true}
 use Rattle.std.specs.Prelude.{sum_by, All, slice_get}
 use Rattle.std.specs.List.Sorted.{IsStrictlySortedBy}
-use Rattle.std.specs.Ordering.{nat_cmp}
-use Rattle.std.specs.declared.cmp.Ordering.TheVariants.{Less, Equal}
+use Rattle.std.specs.Ordering.{nat_cmp, ordering_then}
+use Rattle.std.specs.declared.cmp.Ordering.{Ordering}
+use Rattle.std.specs.declared.cmp.Ordering.TheVariants.{Less, Equal, Greater}
 use Rattle.std.proofs.lemmas.Option.{same_Some, slice_get-get_or}
+use Rattle.std.proofs.lemmas.List.{get_or_default}
 use Rattle.std.proofs.lemmas.List.Sums.{sum_by-le}
 use Rattle.std.proofs.lemmas.Map.Keys.{Less-from_sorted}
 use Rattle.std.proofs.lemmas.Cmp.{tied_itself}
@@ -30,6 +33,7 @@ use Rattle.cost_ledger.specs.declared.visits.Visit.{Visit}
 use Rattle.cost_ledger.proofs.KeyOrders.{visit_total}
 use Rattle.cost_ledger.proofs.SpotOrder.{from_lt, from_eq, cases3}
 use Rattle.cost_ledger.proofs.Visiting.{key_before}
+use Rattle.cost_ledger.proofs.RowSums.{sum_remove}
 
 same_or_apart : (a b : ℕ) → (a ≡ b) ⊎ (a ≢ b)
 same_or_apart a b = grind arith
@@ -140,7 +144,9 @@ visits_of grid rows visits are v = (
 
 -- of one agent at one time there is one visit, so visits in their whole order are in the order of agents and times
 before_key : (a b : Visit) → visit_cmp a b ≡ Less → (a.agent ≡ b.agent → a.time ≡ b.time → a.cell ≡ b.cell) → ComesBefore (visit_key a) (visit_key b)
-before_key a b less same = elim (cases3 (nat_cmp a.agent b.agent)) [
+before_key a b less same =
+  let then_cells : Ordering → Ordering = λ o. ordering_then o (ordering_then (nat_cmp a.cell.y b.cell.y) (nat_cmp a.cell.x b.cell.x)) in
+  elim (cases3 (nat_cmp a.agent b.agent)) [
     | inl lt ↦ key_before a b.agent b.time (inl (from_lt a.agent b.agent lt))
     | inr rest ↦ elim rest [
       | inl e ↦ elim (cases3 (nat_cmp a.time b.time)) [
@@ -153,10 +159,13 @@ before_key a b less same = elim (cases3 (nat_cmp a.agent b.agent)) [
               let one : a ≡ b = λ i. record { agent = agents i; time = times i; cell = cells i } in
               let tied : visit_cmp a b ≡ Equal = ap (λ (v : Visit). visit_cmp v b) one ∙ tied_itself visit_total b in
               absurd (cc)
-          | inr gt ↦ ?
+          | inr gt ↦
+              let within : then_cells (nat_cmp a.time b.time) ≡ Less = subst (λ o. ordering_then o (then_cells (nat_cmp a.time b.time)) ≡ Less) e less in
+              let wrong : Greater ≡ Less = subst (λ o. then_cells o ≡ Less) gt within in
+              absurd (cc)
         ]
       ]
-      | inr gt ↦ ?
+      | inr gt ↦ let wrong : Greater ≡ Less = subst (λ o. ordering_then o (then_cells (nat_cmp a.time b.time)) ≡ Less) gt less in absurd (cc)
     ]
   ]
 
@@ -165,8 +174,8 @@ visits_listed grid rows visits sorted are = record {
   ascending = λ i j d lt within.
       let a = get_or visits i d in
       let b = get_or visits j d in
-      let of_a = (are a).0 (i, omega arith, ?) in
-      let of_b = (are b).0 (j, within, ?) in
+      let of_a = (are a).0 (i, omega arith, get_or_default visits i a d (omega arith)) in
+      let of_b = (are b).0 (j, within, get_or_default visits j b d within) in
       before_key a b (Less-from_sorted visit_cmp visits i j d sorted lt within) (λ agents times.
           let one : of_a.0 ≡ of_b.0 = same_Some of_a.0 of_b.0 (sym of_a.1 ∙ ap (row_of rows) agents ∙ of_b.1) in
           same_Some a.cell b.cell (sym of_a.2.there ∙ ap (λ (r : Row). place r.plan a.time) one ∙ ap (place of_b.0.plan) times ∙ of_b.2.there));
@@ -195,6 +204,17 @@ visits_swap grid rows new agent row after visits plans live change before =
     }
 
 -- ---- all that is kept
+zero_or_one : (b : Bool) → cond b 0 1 ≤ 1
+zero_or_one true = omega arith
+zero_or_one false = omega arith
+
+pub one_at_most : (row : Row) → ends_elsewhere row ≤ 1
+one_at_most row = zero_or_one _
+
+-- an agent's number is part of the sum
+pub row_counts : (number : Row → ℕ) (rows : List (ℕ × Row)) (agent : ℕ) (row : Row) → row_of rows agent ≡ Some row → number row ≤ sum_of_rows number rows
+row_counts number rows agent row live = omega (arith, sum_remove number agent row rows live)
+
 module _ (rows : List (ℕ × Row)) (spots : List Spot) (rests : List Rest) (total elsewhere : ℕ) (keeps : Keeps rows spots rests total elsewhere) where
   row_at : (k : ℕ) (d : ℕ × Row) → k < length rows → row_of rows (get_or rows k d).0 ≡ Some (get_or rows k d).1
   row_at k d within = (row_here rows keeps.by_agent k (get_or rows k d).0 (get_or rows k d).1 (slice_get-get_or rows k d within)).0
@@ -205,11 +225,114 @@ module _ (rows : List (ℕ × Row)) (spots : List Spot) (rests : List Rest) (tot
   few : length rows ≤ MOST_AGENT + 1
   few = rows_few rows (record { by_agent = keeps.by_agent; numbers = λ k d within. (keeps.lawful (get_or rows k d).0 (get_or rows k d).1 (row_at k d within)).0 })
 
-  one_at_most : (row : Row) → ends_elsewhere row ≤ 1
-  one_at_most row = ?
+  pub total_small : total ≤ 8589934592
+  total_small = omega (arith, few, keeps.total_is, sum_by-le (λ (entry : ℕ × Row). last_of_row entry.1) MOST_LAST_INDEX rows (λ k d within. (all_paths k d within).walkable.short))
 
-  pub total_small : total ≤ length rows * MOST_LAST_INDEX
-  total_small = omega (arith, keeps.total_is, sum_by-le (λ (entry : ℕ × Row). last_of_row entry.1) MOST_LAST_INDEX rows (λ k d within. (all_paths k d within).walkable.short))
+  pub elsewhere_small : elsewhere ≤ 65536
+  elsewhere_small = omega (arith, few, keeps.elsewhere_is, sum_by-le (λ (entry : ℕ × Row). ends_elsewhere entry.1) 1 rows (λ k d within. one_at_most (get_or rows k d).1))
 
-  pub elsewhere_small : elsewhere ≤ length rows * 1
-  elsewhere_small = omega (arith, keeps.elsewhere_is, sum_by-le (λ (entry : ℕ × Row). ends_elsewhere entry.1) 1 rows (λ k d within. one_at_most (get_or rows k d).1))
+module _ (rows new : List (ℕ × Row)) (spots new_spots : List Spot) (rests new_rests : List Rest) (total elsewhere new_total new_elsewhere : ℕ) (agent : ℕ) where
+  pub keeps_put : (row : Row) (time : ℕ) → Keeps rows spots rests total elsewhere → row_of rows agent ≡ None → agent ≤ MOST_AGENT → IsPath row.plan → ChangesRow rows new agent (Some row) → IsByAgent new → ((number : Row → ℕ) → sum_of_rows number new ≡ sum_of_rows number rows + number row) → GainsAll spots new_spots (IsSpotIn agent row.plan (last_of_row row + 1)) → time ≡ last_of_row row → Gains rests new_rests (rest time agent) → new_total ≡ total + time → new_elsewhere ≡ elsewhere + ends_elsewhere row → Keeps new new_spots new_rests new_total new_elsewhere
+  keeps_put row time keeps absent number_small path change by_agent sums spots_gain last rests_gain totals elsewheres = record {
+    by_agent = by_agent;
+    lawful = λ a r live. elim (same_or_apart a agent) [
+      | inl e ↦
+          let one : row ≡ r = same_Some row r (sym change.this_agent ∙ ap (row_of new) (sym e) ∙ live) in
+          (omega (arith, e), subst (λ (q : Row). IsPath q.plan) one path)
+      | inr apart ↦ keeps.lawful a r (sym (change.other_agents a apart) ∙ live)
+    ];
+    spots_are = spots_put rows new agent row spots new_spots absent change keeps.spots_are spots_gain;
+    rests_are = rests_put rows new agent row rests new_rests absent change keeps.rests_are (subst (λ t. Gains rests new_rests (rest t agent)) last rests_gain);
+    total_is = omega (arith, keeps.total_is, sums last_of_row);
+    elsewhere_is = omega (arith, keeps.elsewhere_is, sums ends_elsewhere);
+  }
+
+  pub keeps_take : (row : Row) (time : ℕ) → Keeps rows spots rests total elsewhere → row_of rows agent ≡ Some row → ChangesRow rows new agent None → IsByAgent new → ((number : Row → ℕ) → sum_of_rows number new + number row ≡ sum_of_rows number rows) → LosesAll spots new_spots (IsSpotIn agent row.plan (last_of_row row + 1)) → time ≡ last_of_row row → Loses rests new_rests (rest time agent) → new_total + time ≡ total → new_elsewhere + ends_elsewhere row ≡ elsewhere → Keeps new new_spots new_rests new_total new_elsewhere
+  keeps_take row time keeps live change by_agent sums spots_lose last rests_lose totals elsewheres = record {
+    by_agent = by_agent;
+    lawful = λ a r now. elim (same_or_apart a agent) [
+      | inl e ↦ none_some (row_of new agent) r change.this_agent (ap (row_of new) (sym e) ∙ now)
+      | inr apart ↦ keeps.lawful a r (sym (change.other_agents a apart) ∙ now)
+    ];
+    spots_are = spots_take rows new agent row spots new_spots live change keeps.spots_are spots_lose;
+    rests_are = rests_take rows new agent row rests new_rests live change keeps.rests_are (subst (λ t. Loses rests new_rests (rest t agent)) last rests_lose);
+    total_is = omega (arith, keeps.total_is, sums last_of_row);
+    elsewhere_is = omega (arith, keeps.elsewhere_is, sums ends_elsewhere);
+  }
+
+  pub keeps_aim : (row : Row) (goal : Point) → Keeps rows spots rests total elsewhere → SwapsRow rows new agent row (record row { goal = goal }) → IsByAgent new → new_elsewhere + ends_elsewhere row ≡ elsewhere + ends_elsewhere (record row { goal = goal }) → Keeps new spots rests total new_elsewhere
+  keeps_aim row goal keeps swap by_agent elsewheres =
+      let after : Row = record row { goal = goal } in
+      record {
+        by_agent = by_agent;
+        lawful = λ a r now. elim (same_or_apart a agent) [
+          | inl e ↦
+              let one : after ≡ r = same_Some after r (sym swap.now.this_agent ∙ ap (row_of new) (sym e) ∙ now) in
+              let was : row_of rows a ≡ Some row = ap (row_of rows) e ∙ swap.was in
+              let old = keeps.lawful a row was in
+              (old.0, subst (λ (q : Row). IsPath q.plan) one old.1)
+          | inr apart ↦ keeps.lawful a r (sym (swap.now.other_agents a apart) ∙ now)
+        ];
+        spots_are = of_swap (λ (s : Spot). s.agent) SpotOf rows new agent spots row after swap.was swap.now (λ s. ((λ h. record { same_agent = h.same_agent; early = h.early; there = h.there }), (λ h. record { same_agent = h.same_agent; early = h.early; there = h.there }))) keeps.spots_are;
+        rests_are = of_swap (λ (r : Rest). r.agent) RestOf rows new agent rests row after swap.was swap.now (λ r. ((λ h. h), (λ h. h))) keeps.rests_are;
+        total_is = omega (arith, keeps.total_is, swap.sums last_of_row);
+        elsewhere_is = omega (arith, keeps.elsewhere_is, swap.sums ends_elsewhere);
+      }
+
+-- ---- a cell that is opened or closed
+point_cases : (a b : Point) → (a ≡ b) ⊎ (a ≢ b)
+point_cases a b = elim (same_or_apart a.x b.x) [
+    | inr apart ↦ inr (λ e. apart (ap (λ (p : Point). p.x) e))
+    | inl xs ↦ elim (same_or_apart a.y b.y) [
+      | inr apart ↦ inr (λ e. apart (ap (λ (p : Point). p.y) e))
+      | inl ys ↦ inl (λ i. record { x = xs i; y = ys i })
+    ]
+  ]
+
+module _ (old new grid : Chart) (rows : List (ℕ × Row)) (spots found : List Spot) (cell : Point) (before visits : List Visit) (paths : (agent : ℕ) (row : Row) → row_of rows agent ≡ Some row → IsPath row.plan) (are : AreSpots rows spots) (through : AreThrough spots cell MOST_LAST_INDEX found) (but : SameBut old new cell) (at : SameAt grid new cell) (sorted : IsStrictlySortedBy visit_cmp visits) (were : AreVisits old rows before) where
+  found_at : (v : Visit) → Contains found (spot_of v) → (v.cell ≡ cell) × ((row : Row) × (row_of rows v.agent ≡ Some row) × (v.time ≤ last_index row.plan) × (place row.plan v.time ≡ Some v.cell))
+  found_at v h =
+      let is = (through (spot_of v)).0 h in
+      let of = (are (spot_of v)).0 is.0 in
+      (is.1, (of.0, of.1, omega (arith, of.2.early), of.2.there))
+
+  at_found : (v : Visit) (row : Row) → v.cell ≡ cell → row_of rows v.agent ≡ Some row → v.time ≤ last_index row.plan → place row.plan v.time ≡ Some v.cell → Contains found (spot_of v)
+  at_found v row e live on there =
+      let short : last_index row.plan ≤ MOST_LAST_INDEX = (paths v.agent row live).walkable.short in
+      (through (spot_of v)).1 ((are (spot_of v)).1 (row, live, record { same_agent = refl; early = omega arith; there = there }), e, omega arith)
+
+  pub visits_closed : IsClosed grid cell → GainsAll before visits (λ v. Contains found (spot_of v)) → AreVisits new rows visits
+  visits_closed closed gains = visits_listed new rows visits sorted (λ v. elim (point_cases v.cell cell) [
+      | inl e ↦
+          let now : IsClosed new v.cell = subst (IsClosed new) (sym e) (at.0 closed) in
+          ((λ h. elim ((gains v).0 h) [
+            | inl o ↦ let is = (were.exact v).0 o in (is.row, is.live, record { on_path = is.blocked.on_path; there = is.blocked.there; closed = now })
+            | inr f ↦ let is = found_at v f in (is.1.0, is.1.1, record { on_path = is.1.2; there = is.1.3; closed = now })
+          ]),
+          (λ h. (gains v).1 (inr (at_found v h.0 e h.1 h.2.on_path h.2.there))))
+      | inr apart ↦
+          ((λ h. elim ((gains v).0 h) [
+            | inl o ↦ let is = (were.exact v).0 o in (is.row, is.live, record { on_path = is.blocked.on_path; there = is.blocked.there; closed = (but v.cell apart).0 is.blocked.closed })
+            | inr f ↦ absurd (apart (found_at v f).0)
+          ]),
+          (λ h. (gains v).1 (inl ((were.exact v).1 (record { row = h.0; live = h.1; blocked = record { on_path = h.2.on_path; there = h.2.there; closed = (but v.cell apart).1 h.2.closed } })))))
+    ])
+
+  pub visits_opened : (IsClosed grid cell → ⊥) → LosesAll before visits (λ v. Contains found (spot_of v)) → AreVisits new rows visits
+  visits_opened opened loses = visits_listed new rows visits sorted (λ v. elim (point_cases v.cell cell) [
+      | inl e ↦
+          ((λ h.
+            let kept = (loses v).0 h in
+            let is = (were.exact v).0 kept.0 in
+            absurd (kept.1 (at_found v is.row e is.live is.blocked.on_path is.blocked.there))),
+          (λ h. absurd (opened (at.1 (subst (IsClosed new) e h.2.closed)))))
+      | inr apart ↦
+          ((λ h.
+            let is = (were.exact v).0 ((loses v).0 h).0 in
+            (is.row, is.live, record { on_path = is.blocked.on_path; there = is.blocked.there; closed = (but v.cell apart).0 is.blocked.closed })),
+          (λ h. (loses v).1 ((were.exact v).1 (record { row = h.0; live = h.1; blocked = record { on_path = h.2.on_path; there = h.2.there; closed = (but v.cell apart).1 h.2.closed } }), λ f. apart (found_at v f).0)))
+    ])
+
+  pub visits_flipped : (closed : Bool) → (IsTrue closed ↔ IsClosed grid cell) → (closed ≡ true → GainsAll before visits (λ v. Contains found (spot_of v))) → (closed ≡ false → LosesAll before visits (λ v. Contains found (spot_of v))) → AreVisits new rows visits
+  visits_flipped true is adds takes = visits_closed (is.0 refl) (adds refl)
+  visits_flipped false is adds takes = visits_opened (λ shut. false≢true (is.1 shut)) (takes refl)

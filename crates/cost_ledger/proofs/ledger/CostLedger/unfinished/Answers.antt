@@ -1,0 +1,10 @@
+use Rattle.std.proofs.Common.{◌∙◌}
+use Rattle.cost_ledger.proofs.Keeping.{all_paths}
+use Rattle.cost_ledger.proofs.KeptTotals.{costs_of, are_costs, missing_costs}
+use Rattle.cost_ledger.proofs.ledger.CostLedger.unfinished.Goals as goal
+
+pub returns : goal.returns
+returns c =
+    let k = c.self.invariant in
+    let rows = c.self.inside.rows in
+    rw (← c.self.view_is) (costs_of rows, are_costs rows (all_paths rows _ _ _ _ k), k.elsewhere_is ∙ missing_costs rows)
