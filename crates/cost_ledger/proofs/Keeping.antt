@@ -49,23 +49,24 @@ module _ {X : Type 0} (agent_of : X → ℕ) (P : Row → X → Type 0) where
   module _ (rows new : List (ℕ × Row)) (agent : ℕ) (old list : List X) where
     pub of_put : (row : Row) (Q : X → Type 0) → row_of rows agent ≡ None → ChangesRow rows new agent (Some row) → ((x : X) → Q x ↔ ((agent_of x ≡ agent) × P row x)) → AreOf rows old → GainsAll old list Q → AreOf new list
     of_put row Q absent change is before gains x = (
-        (λ h. elim ((gains x).0 h) [
-          | inl o ↦
-              let had = (before x).0 o in
-              let apart : agent_of x ≢ agent = λ e. none_some (row_of rows agent) had.0 absent (sym (ap (row_of rows) e) ∙ had.1) in
-              (had.0, change.other_agents (agent_of x) apart ∙ had.1, had.2)
-          | inr q ↦ let now = (is x).0 q in (row, ap (row_of new) now.0 ∙ change.this_agent, now.1)
-        ]),
-        (λ h. elim (same_or_apart (agent_of x) agent) [
-          | inl e ↦
-              let one : h.0 ≡ row = same_Some h.0 row (sym h.1 ∙ ap (row_of new) e ∙ change.this_agent) in
-              (gains x).1 (inr ((is x).1 (e, subst (λ (r : Row). P r x) one h.2)))
-          | inr apart ↦ (gains x).1 (inl ((before x).1 (h.0, sym (change.other_agents (agent_of x) apart) ∙ h.1, h.2)))
-        ]))
+      (λ h. elim ((gains x).0 h) [
+        | inl o ↦
+            let had = (before x).0 o in
+            let apart : agent_of x ≢ agent = λ e. none_some (row_of rows agent) had.0 absent (sym (ap (row_of rows) e) ∙ had.1) in
+            (had.0, change.other_agents (agent_of x) apart ∙ had.1, had.2)
+        | inr q ↦ let now = (is x).0 q in (row, ap (row_of new) now.0 ∙ change.this_agent, now.1)
+      ]),
+      (λ h. elim (same_or_apart (agent_of x) agent) [
+        | inl e ↦
+            let one : h.0 ≡ row = same_Some h.0 row (sym h.1 ∙ ap (row_of new) e ∙ change.this_agent) in
+            (gains x).1 (inr ((is x).1 (e, subst (λ (r : Row). P r x) one h.2)))
+        | inr apart ↦ (gains x).1 (inl ((before x).1 (h.0, sym (change.other_agents (agent_of x) apart) ∙ h.1, h.2)))
+      ]),
+    )
 
     pub of_take : (row : Row) (Q : X → Type 0) → row_of rows agent ≡ Some row → ChangesRow rows new agent None → ((x : X) → Q x → agent_of x ≡ agent) → ((x : X) → agent_of x ≡ agent → P row x → Q x) → AreOf rows old → LosesAll old list Q → AreOf new list
     of_take row Q live change only all before loses x = (
-        (λ h.
+      (λ h.
           let kept = (loses x).0 h in
           let had = (before x).0 kept.0 in
           elim (same_or_apart (agent_of x) agent) [
@@ -74,15 +75,16 @@ module _ {X : Type 0} (agent_of : X → ℕ) (P : Row → X → Type 0) where
                 absurd (kept.1 (all x e (subst (λ (r : Row). P r x) one had.2)))
             | inr apart ↦ (had.0, change.other_agents (agent_of x) apart ∙ had.1, had.2)
           ]),
-        (λ h. elim (same_or_apart (agent_of x) agent) [
-          | inl e ↦ none_some (row_of new agent) h.0 change.this_agent (sym (ap (row_of new) e) ∙ h.1)
-          | inr apart ↦ (loses x).1 ((before x).1 (h.0, sym (change.other_agents (agent_of x) apart) ∙ h.1, h.2), λ q. apart (only x q))
-        ]))
+      (λ h. elim (same_or_apart (agent_of x) agent) [
+        | inl e ↦ none_some (row_of new agent) h.0 change.this_agent (sym (ap (row_of new) e) ∙ h.1)
+        | inr apart ↦ (loses x).1 ((before x).1 (h.0, sym (change.other_agents (agent_of x) apart) ∙ h.1, h.2), λ q. apart (only x q))
+      ]),
+    )
 
   module _ (rows new : List (ℕ × Row)) (agent : ℕ) (list : List X) where
     pub of_swap : (row after : Row) → row_of rows agent ≡ Some row → ChangesRow rows new agent (Some after) → ((x : X) → P row x ↔ P after x) → AreOf rows list → AreOf new list
     of_swap row after live change same before x = (
-        (λ h.
+      (λ h.
           let had = (before x).0 h in
           elim (same_or_apart (agent_of x) agent) [
             | inl e ↦
@@ -90,12 +92,13 @@ module _ {X : Type 0} (agent_of : X → ℕ) (P : Row → X → Type 0) where
                 (after, ap (row_of new) e ∙ change.this_agent, (same x).0 (subst (λ (r : Row). P r x) one had.2))
             | inr apart ↦ (had.0, change.other_agents (agent_of x) apart ∙ had.1, had.2)
           ]),
-        (λ h. elim (same_or_apart (agent_of x) agent) [
-          | inl e ↦
-              let one : h.0 ≡ after = same_Some h.0 after (sym h.1 ∙ ap (row_of new) e ∙ change.this_agent) in
-              (before x).1 (row, ap (row_of rows) e ∙ live, (same x).1 (subst (λ (r : Row). P r x) one h.2))
-          | inr apart ↦ (before x).1 (h.0, sym (change.other_agents (agent_of x) apart) ∙ h.1, h.2)
-        ]))
+      (λ h. elim (same_or_apart (agent_of x) agent) [
+        | inl e ↦
+            let one : h.0 ≡ after = same_Some h.0 after (sym h.1 ∙ ap (row_of new) e ∙ change.this_agent) in
+            (before x).1 (row, ap (row_of rows) e ∙ live, (same x).1 (subst (λ (r : Row). P r x) one h.2))
+        | inr apart ↦ (before x).1 (h.0, sym (change.other_agents (agent_of x) apart) ∙ h.1, h.2)
+      ]),
+    )
 
 -- ---- spots and rests
 abbrev SpotOf : Row → Spot → Type 0
@@ -106,13 +109,15 @@ RestOf row r = r.time ≡ last_of_row row
 
 spot_in : (agent : ℕ) (row : Row) (s : Spot) → IsSpotIn agent row.plan (last_of_row row + 1) s ↔ ((s.agent ≡ agent) × SpotOf row s)
 spot_in agent row s = (
-    (λ is. (is.same_agent, record { same_agent = refl; early = is.early; there = is.there })),
-    (λ h. record { same_agent = h.0; early = h.1.early; there = h.1.there }))
+  (λ is. (is.same_agent, record { same_agent = refl; early = is.early; there = is.there })),
+  (λ h. record { same_agent = h.0; early = h.1.early; there = h.1.there }),
+)
 
 rest_in : (agent : ℕ) (row : Row) (r : Rest) → (r ≡ rest (last_of_row row) agent) ↔ ((r.agent ≡ agent) × RestOf row r)
 rest_in agent row r = (
-    (λ e. (ap (λ (q : Rest). q.agent) e, ap (λ (q : Rest). q.time) e)),
-    (λ h. λ i. record { time = h.1 i; agent = h.0 i }))
+  (λ e. (ap (λ (q : Rest). q.agent) e, ap (λ (q : Rest). q.time) e)),
+  (λ h. λ i. record { time = h.1 i; agent = h.0 i }),
+)
 
 pub spots_put : (rows new : List (ℕ × Row)) (agent : ℕ) (row : Row) (old spots : List Spot) → row_of rows agent ≡ None → ChangesRow rows new agent (Some row) → AreSpots rows old → GainsAll old spots (IsSpotIn agent row.plan (last_of_row row + 1)) → AreSpots new spots
 spots_put rows new agent row old spots absent change before gains =
@@ -139,35 +144,36 @@ VisitsOf grid rows visits = AreOf (λ (v : Visit). v.agent) (VisitOf grid) rows 
 
 pub visits_of : (grid : Chart) (rows : List (ℕ × Row)) (visits : List Visit) → AreVisits grid rows visits → VisitsOf grid rows visits
 visits_of grid rows visits are v = (
-    (λ h. let is = (are.exact v).0 h in (is.row, is.live, is.blocked)),
-    (λ h. (are.exact v).1 (record { row = h.0; live = h.1; blocked = h.2 })))
+  (λ h. let is = (are.exact v).0 h in (is.row, is.live, is.blocked)),
+  (λ h. (are.exact v).1 (record { row = h.0; live = h.1; blocked = h.2 })),
+)
 
 -- of one agent at one time there is one visit, so visits in their whole order are in the order of agents and times
 before_key : (a b : Visit) → visit_cmp a b ≡ Less → (a.agent ≡ b.agent → a.time ≡ b.time → a.cell ≡ b.cell) → ComesBefore (visit_key a) (visit_key b)
 before_key a b less same =
-  let then_cells : Ordering → Ordering = λ o. ordering_then o (ordering_then (nat_cmp a.cell.y b.cell.y) (nat_cmp a.cell.x b.cell.x)) in
-  elim (cases3 (nat_cmp a.agent b.agent)) [
-    | inl lt ↦ key_before a b.agent b.time (inl (from_lt a.agent b.agent lt))
-    | inr rest ↦ elim rest [
-      | inl e ↦ elim (cases3 (nat_cmp a.time b.time)) [
-        | inl lt ↦ key_before a b.agent b.time (inr (from_eq a.agent b.agent e, from_lt a.time b.time lt))
-        | inr more ↦ elim more [
-          | inl t ↦
-              let agents = from_eq a.agent b.agent e in
-              let times = from_eq a.time b.time t in
-              let cells = same agents times in
-              let one : a ≡ b = λ i. record { agent = agents i; time = times i; cell = cells i } in
-              let tied : visit_cmp a b ≡ Equal = ap (λ (v : Visit). visit_cmp v b) one ∙ tied_itself visit_total b in
-              absurd (cc)
-          | inr gt ↦
-              let within : then_cells (nat_cmp a.time b.time) ≡ Less = subst (λ o. ordering_then o (then_cells (nat_cmp a.time b.time)) ≡ Less) e less in
-              let wrong : Greater ≡ Less = subst (λ o. then_cells o ≡ Less) gt within in
-              absurd (cc)
+    let then_cells : Ordering → Ordering = λ o. ordering_then o (ordering_then (nat_cmp a.cell.y b.cell.y) (nat_cmp a.cell.x b.cell.x)) in
+    elim (cases3 (nat_cmp a.agent b.agent)) [
+      | inl lt ↦ key_before a b.agent b.time (inl (from_lt a.agent b.agent lt))
+      | inr rest ↦ elim rest [
+        | inl e ↦ elim (cases3 (nat_cmp a.time b.time)) [
+          | inl lt ↦ key_before a b.agent b.time (inr (from_eq a.agent b.agent e, from_lt a.time b.time lt))
+          | inr more ↦ elim more [
+            | inl t ↦
+                let agents = from_eq a.agent b.agent e in
+                let times = from_eq a.time b.time t in
+                let cells = same agents times in
+                let one : a ≡ b = λ i. record { agent = agents i; time = times i; cell = cells i } in
+                let tied : visit_cmp a b ≡ Equal = ap (λ (v : Visit). visit_cmp v b) one ∙ tied_itself visit_total b in
+                absurd (cc)
+            | inr gt ↦
+                let within : then_cells (nat_cmp a.time b.time) ≡ Less = subst (λ o. ordering_then o (then_cells (nat_cmp a.time b.time)) ≡ Less) e less in
+                let wrong : Greater ≡ Less = subst (λ o. then_cells o ≡ Less) gt within in
+                absurd (cc)
+          ]
         ]
+        | inr gt ↦ let wrong : Greater ≡ Less = subst (λ o. ordering_then o (then_cells (nat_cmp a.time b.time)) ≡ Less) gt less in absurd (cc)
       ]
-      | inr gt ↦ let wrong : Greater ≡ Less = subst (λ o. ordering_then o (then_cells (nat_cmp a.time b.time)) ≡ Less) gt less in absurd (cc)
     ]
-  ]
 
 pub visits_listed : (grid : Chart) (rows : List (ℕ × Row)) (visits : List Visit) → IsStrictlySortedBy visit_cmp visits → VisitsOf grid rows visits → AreVisits grid rows visits
 visits_listed grid rows visits sorted are = record {
@@ -177,15 +183,16 @@ visits_listed grid rows visits sorted are = record {
       let of_a = (are a).0 (i, omega arith, get_or_default visits i a d (omega arith)) in
       let of_b = (are b).0 (j, within, get_or_default visits j b d within) in
       before_key a b (Less-from_sorted visit_cmp visits i j d sorted lt within) (λ agents times.
-          let one : of_a.0 ≡ of_b.0 = same_Some of_a.0 of_b.0 (sym of_a.1 ∙ ap (row_of rows) agents ∙ of_b.1) in
-          same_Some a.cell b.cell (sym of_a.2.there ∙ ap (λ (r : Row). place r.plan a.time) one ∙ ap (place of_b.0.plan) times ∙ of_b.2.there));
+      let one : of_a.0 ≡ of_b.0 = same_Some of_a.0 of_b.0 (sym of_a.1 ∙ ap (row_of rows) agents ∙ of_b.1) in
+      same_Some a.cell b.cell (sym of_a.2.there ∙ ap (λ (r : Row). place r.plan a.time) one ∙ ap (place of_b.0.plan) times ∙ of_b.2.there));
   exact = λ v. ((λ h. let is = (are v).0 h in record { row = is.0; live = is.1; blocked = is.2 }), (λ is. (are v).1 (is.row, is.live, is.blocked)));
 }
 
 visit_in : (grid : Chart) (agent : ℕ) (row : Row) (v : Visit) → IsVisitIn grid agent row.plan 0 (last_of_row row + 1) v ↔ ((v.agent ≡ agent) × VisitOf grid row v)
 visit_in grid agent row v = (
-    (λ is. (is.same_agent, is.blocked)),
-    (λ h. record { same_agent = h.0; late = omega arith; early = omega (arith, h.1.on_path); blocked = h.1 }))
+  (λ is. (is.same_agent, is.blocked)),
+  (λ h. record { same_agent = h.0; late = omega arith; early = omega (arith, h.1.on_path); blocked = h.1 }),
+)
 
 pub visits_put : (grid : Chart) (rows new : List (ℕ × Row)) (agent : ℕ) (row : Row) (old visits : List Visit) → IsStrictlySortedBy visit_cmp visits → row_of rows agent ≡ None → ChangesRow rows new agent (Some row) → AreVisits grid rows old → GainsAll old visits (IsVisitIn grid agent row.plan 0 (last_of_row row + 1)) → AreVisits grid new visits
 visits_put grid rows new agent row old visits sorted absent change before gains =
@@ -282,12 +289,12 @@ module _ (rows new : List (ℕ × Row)) (spots new_spots : List Spot) (rests new
 -- ---- a cell that is opened or closed
 point_cases : (a b : Point) → (a ≡ b) ⊎ (a ≢ b)
 point_cases a b = elim (same_or_apart a.x b.x) [
-    | inr apart ↦ inr (λ e. apart (ap (λ (p : Point). p.x) e))
-    | inl xs ↦ elim (same_or_apart a.y b.y) [
-      | inr apart ↦ inr (λ e. apart (ap (λ (p : Point). p.y) e))
-      | inl ys ↦ inl (λ i. record { x = xs i; y = ys i })
-    ]
+  | inr apart ↦ inr (λ e. apart (ap (λ (p : Point). p.x) e))
+  | inl xs ↦ elim (same_or_apart a.y b.y) [
+    | inr apart ↦ inr (λ e. apart (ap (λ (p : Point). p.y) e))
+    | inl ys ↦ inl (λ i. record { x = xs i; y = ys i })
   ]
+]
 
 module _ (old new grid : Chart) (rows : List (ℕ × Row)) (spots found : List Spot) (cell : Point) (before visits : List Visit) (paths : (agent : ℕ) (row : Row) → row_of rows agent ≡ Some row → IsPath row.plan) (are : AreSpots rows spots) (through : AreThrough spots cell MOST_LAST_INDEX found) (but : SameBut old new cell) (at : SameAt grid new cell) (sorted : IsStrictlySortedBy visit_cmp visits) (were : AreVisits old rows before) where
   found_at : (v : Visit) → Contains found (spot_of v) → (v.cell ≡ cell) × ((row : Row) × (row_of rows v.agent ≡ Some row) × (v.time ≤ last_index row.plan) × (place row.plan v.time ≡ Some v.cell))
@@ -303,35 +310,39 @@ module _ (old new grid : Chart) (rows : List (ℕ × Row)) (spots found : List S
 
   pub visits_closed : IsClosed grid cell → GainsAll before visits (λ v. Contains found (spot_of v)) → AreVisits new rows visits
   visits_closed closed gains = visits_listed new rows visits sorted (λ v. elim (point_cases v.cell cell) [
-      | inl e ↦
-          let now : IsClosed new v.cell = subst (IsClosed new) (sym e) (at.0 closed) in
-          ((λ h. elim ((gains v).0 h) [
+    | inl e ↦
+        let now : IsClosed new v.cell = subst (IsClosed new) (sym e) (at.0 closed) in (
+          (λ h. elim ((gains v).0 h) [
             | inl o ↦ let is = (were.exact v).0 o in (is.row, is.live, record { on_path = is.blocked.on_path; there = is.blocked.there; closed = now })
             | inr f ↦ let is = found_at v f in (is.1.0, is.1.1, record { on_path = is.1.2; there = is.1.3; closed = now })
           ]),
-          (λ h. (gains v).1 (inr (at_found v h.0 e h.1 h.2.on_path h.2.there))))
-      | inr apart ↦
-          ((λ h. elim ((gains v).0 h) [
-            | inl o ↦ let is = (were.exact v).0 o in (is.row, is.live, record { on_path = is.blocked.on_path; there = is.blocked.there; closed = (but v.cell apart).0 is.blocked.closed })
-            | inr f ↦ absurd (apart (found_at v f).0)
-          ]),
-          (λ h. (gains v).1 (inl ((were.exact v).1 (record { row = h.0; live = h.1; blocked = record { on_path = h.2.on_path; there = h.2.there; closed = (but v.cell apart).1 h.2.closed } })))))
-    ])
+          (λ h. (gains v).1 (inr (at_found v h.0 e h.1 h.2.on_path h.2.there))),
+        )
+    | inr apart ↦ (
+      (λ h. elim ((gains v).0 h) [
+        | inl o ↦ let is = (were.exact v).0 o in (is.row, is.live, record { on_path = is.blocked.on_path; there = is.blocked.there; closed = (but v.cell apart).0 is.blocked.closed })
+        | inr f ↦ absurd (apart (found_at v f).0)
+      ]),
+      (λ h. (gains v).1 (inl ((were.exact v).1 (record { row = h.0; live = h.1; blocked = record { on_path = h.2.on_path; there = h.2.there; closed = (but v.cell apart).1 h.2.closed } })))),
+    )
+  ])
 
   pub visits_opened : (IsClosed grid cell → ⊥) → LosesAll before visits (λ v. Contains found (spot_of v)) → AreVisits new rows visits
   visits_opened opened loses = visits_listed new rows visits sorted (λ v. elim (point_cases v.cell cell) [
-      | inl e ↦
-          ((λ h.
-            let kept = (loses v).0 h in
-            let is = (were.exact v).0 kept.0 in
-            absurd (kept.1 (at_found v is.row e is.live is.blocked.on_path is.blocked.there))),
-          (λ h. absurd (opened (at.1 (subst (IsClosed new) e h.2.closed)))))
-      | inr apart ↦
-          ((λ h.
-            let is = (were.exact v).0 ((loses v).0 h).0 in
-            (is.row, is.live, record { on_path = is.blocked.on_path; there = is.blocked.there; closed = (but v.cell apart).0 is.blocked.closed })),
-          (λ h. (loses v).1 ((were.exact v).1 (record { row = h.0; live = h.1; blocked = record { on_path = h.2.on_path; there = h.2.there; closed = (but v.cell apart).1 h.2.closed } }), λ f. apart (found_at v f).0)))
-    ])
+    | inl e ↦ (
+      (λ h.
+          let kept = (loses v).0 h in
+          let is = (were.exact v).0 kept.0 in
+          absurd (kept.1 (at_found v is.row e is.live is.blocked.on_path is.blocked.there))),
+      (λ h. absurd (opened (at.1 (subst (IsClosed new) e h.2.closed)))),
+    )
+    | inr apart ↦ (
+      (λ h.
+          let is = (were.exact v).0 ((loses v).0 h).0 in
+          (is.row, is.live, record { on_path = is.blocked.on_path; there = is.blocked.there; closed = (but v.cell apart).0 is.blocked.closed })),
+      (λ h. (loses v).1 ((were.exact v).1 (record { row = h.0; live = h.1; blocked = record { on_path = h.2.on_path; there = h.2.there; closed = (but v.cell apart).1 h.2.closed } }), λ f. apart (found_at v f).0)),
+    )
+  ])
 
   pub visits_flipped : (closed : Bool) → (IsTrue closed ↔ IsClosed grid cell) → (closed ≡ true → GainsAll before visits (λ v. Contains found (spot_of v))) → (closed ≡ false → LosesAll before visits (λ v. Contains found (spot_of v))) → AreVisits new rows visits
   visits_flipped true is adds takes = visits_closed (is.0 refl) (adds refl)

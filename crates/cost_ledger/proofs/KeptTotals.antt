@@ -37,11 +37,12 @@ ends_cases row = ends (get_or row.plan (last_index row.plan) row.goal) row.goal
   where
     coordinates : (a b c d : ℕ) → (((if_both a b c d) ≡ 0) × (a ≡ b) × (c ≡ d)) ⊎ (((if_both a b c d) ≡ 1) × (a ≡ b → c ≡ d → ⊥))
     coordinates a b c d = grind (arith, nat_tests)
+
     ends : (end goal : Point) → ((if_both end.y goal.y end.x goal.x ≡ 0) × (end ≡ goal)) ⊎ ((if_both end.y goal.y end.x goal.x ≡ 1) × (end ≡ goal → ⊥))
     ends end goal = elim (coordinates end.y goal.y end.x goal.x) [
-        | inl (zeroed, ys, xs) ↦ inl (zeroed, same_point end goal ys xs)
-        | inr (one, apart) ↦ inr (one, λ e. apart (ap (λ (p : Point). p.y) e) (ap (λ (p : Point). p.x) e))
-      ]
+      | inl (zeroed, ys, xs) ↦ inl (zeroed, same_point end goal ys xs)
+      | inr (one, apart) ↦ inr (one, λ e. apart (ap (λ (p : Point). p.y) e) (ap (λ (p : Point). p.x) e))
+    ]
 
 place_last : (row : Row) → IsPath row.plan → place row.plan (last_index row.plan) ≡ Some (get_or row.plan (last_index row.plan) row.goal)
 place_last row path =
@@ -51,15 +52,15 @@ place_last row path =
 
 pub is_cost : (row : Row) → IsPath row.plan → IsCost row (cost_of row)
 is_cost row path = elim (ends_cases row) [
-    | inl (zeroed, end) ↦
-        let finished : IsFinished row = (last_index row.plan, settles row.plan path, place_last row path ∙ ap Some end) in
-        record { time = last_index row.plan; settles = settles row.plan path; given = subst (λ n. SomeIff (given n (last_of_row row)) (IsFinished row) (last_index row.plan)) (sym zeroed) (finished, refl) }
-    | inr (one, apart) ↦
-        let never : IsFinished row → ⊥ = λ f.
-            let time : f.0 ≡ last_index row.plan = settle_once row.plan f.0 (last_index row.plan) f.1 (settles row.plan path) in
-            apart (same_Some _ _ (sym (place_last row path) ∙ ap (place row.plan) (sym time) ∙ f.2)) in
-        record { time = last_index row.plan; settles = settles row.plan path; given = subst (λ n. SomeIff (given n (last_of_row row)) (IsFinished row) (last_index row.plan)) (sym one) never }
-  ]
+  | inl (zeroed, end) ↦
+      let finished : IsFinished row = (last_index row.plan, settles row.plan path, place_last row path ∙ ap Some end) in
+      record { time = last_index row.plan; settles = settles row.plan path; given = subst (λ n. SomeIff (given n (last_of_row row)) (IsFinished row) (last_index row.plan)) (sym zeroed) (finished, refl) }
+  | inr (one, apart) ↦
+      let never : IsFinished row → ⊥ = λ f.
+      let time : f.0 ≡ last_index row.plan = settle_once row.plan f.0 (last_index row.plan) f.1 (settles row.plan path) in
+      apart (same_Some _ _ (sym (place_last row path) ∙ ap (place row.plan) (sym time) ∙ f.2)) in
+      record { time = last_index row.plan; settles = settles row.plan path; given = subst (λ n. SomeIff (given n (last_of_row row)) (IsFinished row) (last_index row.plan)) (sym one) never }
+]
 
 abbrev pub costs_of : List (ℕ × Row) → List (Option ℕ)
 costs_of rows = map (λ entry. cost_of entry.1) rows
@@ -125,9 +126,9 @@ max_grows (x ∷ xs) most = let more = max_grows xs (max most x) in omega arith
 max_covers : (xs : List ℕ) (most x : ℕ) → Contains xs x → x ≤ fold max most xs
 max_covers [] most x h = absurd (Contains-nil x h)
 max_covers (y ∷ xs) most x h = elim (Contains-cons_cases y xs x h) [
-    | inl is ↦ let more = max_grows xs (max most y) in omega arith
-    | inr later ↦ max_covers xs (max most y) x later
-  ]
+  | inl is ↦ let more = max_grows xs (max most y) in omega arith
+  | inr later ↦ max_covers xs (max most y) x later
+]
 
 last_in : (rows : List (ℕ × Row)) (k agent : ℕ) (row : Row) → slice_get rows k ≡ Some (agent, row) → Contains (map (λ entry. last_of_row entry.1) rows) (last_of_row row)
 last_in [] k agent row at = absurd (cc)
@@ -139,9 +140,9 @@ last_in (x ∷ rows) (suc k) agent row at = Contains-cons_tail (last_of_row x.1)
 in_last : (rows : List (ℕ × Row)) (n : ℕ) → Contains (map (λ entry. last_of_row entry.1) rows) n → (k : ℕ) × (x : ℕ × Row) × (slice_get rows k ≡ Some x) × (last_of_row x.1 ≡ n)
 in_last [] n h = absurd (Contains-nil n h)
 in_last (x ∷ rows) n h = elim (Contains-cons_cases (last_of_row x.1) (map (λ entry. last_of_row entry.1) rows) n h) [
-    | inl is ↦ (0, x, refl, is)
-    | inr later ↦ let found = in_last rows n later in (suc found.0, found.1, found.2, found.3)
-  ]
+  | inl is ↦ (0, x, refl, is)
+  | inr later ↦ let found = in_last rows n later in (suc found.0, found.1, found.2, found.3)
+]
 
 module _ (rows : List (ℕ × Row)) (rests : List Rest) (by_agent : IsByAgent rows) (are : AreRests rows rests) (greatest : ℕ) (most : (r : Rest) → Contains rests r → r.time ≤ greatest) (one : ((rests ≡ []) × (greatest ≡ 0)) ⊎ ((r : Rest) × Contains rests r × (r.time ≡ greatest))) where
   reached : (r : Rest) → Contains rests r → r.time ≤ fold max 0 (map (λ entry. last_of_row entry.1) rows)
@@ -174,9 +175,9 @@ module _ (rows : List (ℕ × Row)) (rests : List Rest) (by_agent : IsByAgent ro
 -- how many costs aren't given
 missing : (row : Row) → cond (is_none (cost_of row)) 1 0 ≡ ends_elsewhere row
 missing row = elim (ends_cases row) [
-    | inl (zeroed, end) ↦ ap (λ n. cond (is_none (given n (last_of_row row))) 1 0) zeroed ∙ sym zeroed
-    | inr (one, apart) ↦ ap (λ n. cond (is_none (given n (last_of_row row))) 1 0) one ∙ sym one
-  ]
+  | inl (zeroed, end) ↦ ap (λ n. cond (is_none (given n (last_of_row row))) 1 0) zeroed ∙ sym zeroed
+  | inr (one, apart) ↦ ap (λ n. cond (is_none (given n (last_of_row row))) 1 0) one ∙ sym one
+]
 
 pub missing_costs : (rows : List (ℕ × Row)) → sum_of_rows ends_elsewhere rows ≡ count_by is_none (costs_of rows)
 missing_costs [] = refl

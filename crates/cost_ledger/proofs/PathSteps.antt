@@ -21,30 +21,32 @@ module _ (agent : ℕ) (path : List Point) where
 
   pub spot_more : (time : ℕ) (cell : Point) → place path time ≡ Some cell → (s : Spot) → IsSpotIn agent path (time + 1) s ↔ (IsSpotIn agent path time s ⊎ (s ≡ spot cell time agent))
   spot_more time cell there s = (
-      (λ is. elim (cases_lt s.time time) [
-        | inl lt ↦ inl (record { same_agent = is.same_agent; early = lt; there = is.there })
-        | inr late ↦
-            let now : s.time ≡ time = omega (arith, is.early) in
-            let cells : s.cell ≡ cell = same_Some s.cell cell (sym is.there ∙ ap (place path) now ∙ there) in
-            inr (λ i. record { cell = cells i; time = now i; agent = is.same_agent i })
-      ]),
-      (λ h. elim h [
-        | inl is ↦ record { same_agent = is.same_agent; early = omega (arith, is.early); there = is.there }
-        | inr is ↦ subst (IsSpotIn agent path (time + 1)) (sym is) (record { same_agent = refl; early = omega arith; there = there })
-      ]))
+    (λ is. elim (cases_lt s.time time) [
+      | inl lt ↦ inl (record { same_agent = is.same_agent; early = lt; there = is.there })
+      | inr late ↦
+          let now : s.time ≡ time = omega (arith, is.early) in
+          let cells : s.cell ≡ cell = same_Some s.cell cell (sym is.there ∙ ap (place path) now ∙ there) in
+          inr (λ i. record { cell = cells i; time = now i; agent = is.same_agent i })
+    ]),
+    (λ h. elim h [
+      | inl is ↦ record { same_agent = is.same_agent; early = omega (arith, is.early); there = is.there }
+      | inr is ↦ subst (IsSpotIn agent path (time + 1)) (sym is) (record { same_agent = refl; early = omega arith; there = there })
+    ]),
+  )
 
   pub visit_more : (time : ℕ) (cell : Point) → place path time ≡ Some cell → (v : Visit) → IsSpotIn agent path (time + 1) (spot_of v) ↔ (IsSpotIn agent path time (spot_of v) ⊎ (v ≡ record { agent = agent; time = time; cell = cell }))
   visit_more time cell there v =
-      let more = spot_more time cell there (spot_of v) in
-      ((λ is. elim (more.0 is) [
-        | inl before ↦ inl before
-        | inr e ↦
-            let agents : v.agent ≡ agent = ap (λ (s : Spot). s.agent) e in
-            let times : v.time ≡ time = ap (λ (s : Spot). s.time) e in
-            let cells : v.cell ≡ cell = ap (λ (s : Spot). s.cell) e in
-            inr (λ i. record { agent = agents i; time = times i; cell = cells i })
-      ]),
-      (λ h. elim h [ | inl before ↦ more.1 (inl before) | inr e ↦ more.1 (inr (ap spot_of e)) ]))
+      let more = spot_more time cell there (spot_of v) in (
+        (λ is. elim (more.0 is) [
+          | inl before ↦ inl before
+          | inr e ↦
+              let agents : v.agent ≡ agent = ap (λ (s : Spot). s.agent) e in
+              let times : v.time ≡ time = ap (λ (s : Spot). s.time) e in
+              let cells : v.cell ≡ cell = ap (λ (s : Spot). s.cell) e in
+              inr (λ i. record { agent = agents i; time = times i; cell = cells i })
+        ]),
+        (λ h. elim h [ inl before ↦ more.1 (inl before) | inr e ↦ more.1 (inr (ap spot_of e)) ]),
+      )
 
 module _ (grid : Chart) (agent : ℕ) (path : List Point) where
   pub no_visit : (v : Visit) → IsVisitIn grid agent path 0 0 v → ⊥
@@ -52,34 +54,37 @@ module _ (grid : Chart) (agent : ℕ) (path : List Point) where
 
   pub blocked_more : (time : ℕ) (v : Visit) → IsVisitIn grid agent path 0 (time + 1) v ↔ (IsVisitIn grid agent path 0 time v ⊎ IsVisitIn grid agent path time (time + 1) v)
   blocked_more time v = (
-      (λ is. elim (cases_lt v.time time) [
-        | inl lt ↦ inl (record { same_agent = is.same_agent; late = is.late; early = lt; blocked = is.blocked })
-        | inr late ↦ inr (record { same_agent = is.same_agent; late = late; early = is.early; blocked = is.blocked })
-      ]),
-      (λ h. elim h [
-        | inl is ↦ record { same_agent = is.same_agent; late = is.late; early = omega (arith, is.early); blocked = is.blocked }
-        | inr is ↦ record { same_agent = is.same_agent; late = omega arith; early = is.early; blocked = is.blocked }
-      ]))
+    (λ is. elim (cases_lt v.time time) [
+      | inl lt ↦ inl (record { same_agent = is.same_agent; late = is.late; early = lt; blocked = is.blocked })
+      | inr late ↦ inr (record { same_agent = is.same_agent; late = late; early = is.early; blocked = is.blocked })
+    ]),
+    (λ h. elim h [
+      | inl is ↦ record { same_agent = is.same_agent; late = is.late; early = omega (arith, is.early); blocked = is.blocked }
+      | inr is ↦ record { same_agent = is.same_agent; late = omega arith; early = is.early; blocked = is.blocked }
+    ]),
+  )
 
   pub blocked_here : (time : ℕ) (cell : Point) → time ≤ last_index path → place path time ≡ Some cell → IsClosed grid cell → (v : Visit) → IsVisitIn grid agent path time (time + 1) v ↔ (v ≡ record { agent = agent; time = time; cell = cell })
   blocked_here time cell on there closed v = (
-      (λ is.
+    (λ is.
         let now : v.time ≡ time = omega (arith, is.early, is.late) in
         let cells : v.cell ≡ cell = same_Some v.cell cell (sym is.blocked.there ∙ ap (place path) now ∙ there) in
         λ i. record { agent = is.same_agent i; time = now i; cell = cells i }),
-      (λ e. subst (IsVisitIn grid agent path time (time + 1)) (sym e) (record { same_agent = refl; late = omega arith; early = omega arith; blocked = record { on_path = on; there = there; closed = closed } })))
+    (λ e. subst (IsVisitIn grid agent path time (time + 1)) (sym e) (record { same_agent = refl; late = omega arith; early = omega arith; blocked = record { on_path = on; there = there; closed = closed } })),
+  )
 
 -- the first elements of a list, one further
 pub taken_more : {X : Type 0} (xs : List X) (i : ℕ) (d : X) → i < length xs → (y : X) → Contains (take (i + 1) xs) y ↔ (Contains (take i xs) y ⊎ (get_or xs i d ≡ y))
-taken_more xs i d within y = rw (take_more xs i d within)
-    ((λ h. elim (Contains-append_cases (take i xs) (get_or xs i d ∷ []) y h) [
-      | inl before ↦ inl before
-      | inr here ↦ elim (Contains-cons_cases (get_or xs i d) [] y here) [ | inl is ↦ inr is | inr none ↦ absurd (Contains-nil y none) ]
-    ]),
-    (λ h. elim h [
-      | inl before ↦ Contains-append_left (take i xs) (get_or xs i d ∷ []) y before
-      | inr is ↦ Contains-append_right (take i xs) (get_or xs i d ∷ []) y (subst (Contains (get_or xs i d ∷ [])) is (Contains-cons_head (get_or xs i d) []))
-    ]))
+taken_more xs i d within y = rw (take_more xs i d within) (
+  (λ h. elim (Contains-append_cases (take i xs) (get_or xs i d ∷ []) y h) [
+    | inl before ↦ inl before
+    | inr here ↦ elim (Contains-cons_cases (get_or xs i d) [] y here) [ inl is ↦ inr is | inr none ↦ absurd (Contains-nil y none) ]
+  ]),
+  (λ h. elim h [
+    | inl before ↦ Contains-append_left (take i xs) (get_or xs i d ∷ []) y before
+    | inr is ↦ Contains-append_right (take i xs) (get_or xs i d ∷ []) y (subst (Contains (get_or xs i d ∷ [])) is (Contains-cons_head (get_or xs i d) []))
+  ]),
+)
 
 same_visit : (v w : Visit) → spot_of v ≡ spot_of w → v ≡ w
 same_visit v w e =
@@ -91,6 +96,7 @@ same_visit v w e =
 -- the visits at the first spots of a list, one further
 pub taken_visit : (spots : List Spot) (i : ℕ) (d : Spot) (at : Visit) → i < length spots → spot_of at ≡ get_or spots i d → (v : Visit) → Contains (take (i + 1) spots) (spot_of v) ↔ (Contains (take i spots) (spot_of v) ⊎ (v ≡ at))
 taken_visit spots i d at within is v =
-    let more = taken_more spots i d within (spot_of v) in
-    ((λ h. elim (more.0 h) [ | inl before ↦ inl before | inr e ↦ inr (same_visit v at (sym e ∙ sym is)) ]),
-    (λ h. elim h [ | inl before ↦ more.1 (inl before) | inr e ↦ more.1 (inr (sym is ∙ sym (ap spot_of e))) ]))
+    let more = taken_more spots i d within (spot_of v) in (
+      (λ h. elim (more.0 h) [ inl before ↦ inl before | inr e ↦ inr (same_visit v at (sym e ∙ sym is)) ]),
+      (λ h. elim h [ inl before ↦ more.1 (inl before) | inr e ↦ more.1 (inr (sym is ∙ sym (ap spot_of e))) ]),
+    )

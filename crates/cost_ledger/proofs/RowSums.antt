@@ -33,6 +33,7 @@ changes old new agent row updates = record {
   where
     here : (a : ℕ) → is_eq (nat_cmp a a) ≡ true
     here a = grind (arith, nat_tests)
+
     there : (a : ℕ) → a ≢ agent → is_eq (nat_cmp agent a) ≡ false
     there a apart = grind (arith, nat_tests)
 

@@ -127,20 +127,22 @@ module _ {X : Type 0} (old mid new : List X) (P Q : X → Type 0) (x : X) (more 
 -- what has one property or the other, gained in two steps
 pub gains_then : {X : Type 0} (old mid new : List X) (P Q R : X → Type 0) → ((y : X) → R y ↔ (P y ⊎ Q y)) → GainsAll old mid P → GainsAll mid new Q → GainsAll old new R
 gains_then old mid new P Q R more first second y = (
-    (λ h. elim ((second y).0 h) [
-      | inl m ↦ elim ((first y).0 m) [ | inl o ↦ inl o | inr p ↦ inr ((more y).1 (inl p)) ]
-      | inr q ↦ inr ((more y).1 (inr q))
-    ]),
-    (λ h. elim h [
-      | inl o ↦ (second y).1 (inl ((first y).1 (inl o)))
-      | inr r ↦ elim ((more y).0 r) [ | inl p ↦ (second y).1 (inl ((first y).1 (inr p))) | inr q ↦ (second y).1 (inr q) ]
-    ]))
+  (λ h. elim ((second y).0 h) [
+    | inl m ↦ elim ((first y).0 m) [ inl o ↦ inl o | inr p ↦ inr ((more y).1 (inl p)) ]
+    | inr q ↦ inr ((more y).1 (inr q))
+  ]),
+  (λ h. elim h [
+    | inl o ↦ (second y).1 (inl ((first y).1 (inl o)))
+    | inr r ↦ elim ((more y).0 r) [ inl p ↦ (second y).1 (inl ((first y).1 (inr p))) | inr q ↦ (second y).1 (inr q) ]
+  ]),
+)
 
 -- one element is all that has a property
 pub gains_one : {X : Type 0} (old new : List X) (P : X → Type 0) (x : X) → ((y : X) → P y ↔ (y ≡ x)) → Gains old new x → GainsAll old new P
 gains_one old new P x is gains y = (
-    (λ h. elim ((gains y).0 h) [ | inl o ↦ inl o | inr e ↦ inr ((is y).1 e) ]),
-    (λ h. elim h [ | inl o ↦ (gains y).1 (inl o) | inr p ↦ (gains y).1 (inr ((is y).0 p)) ]))
+  (λ h. elim ((gains y).0 h) [ inl o ↦ inl o | inr e ↦ inr ((is y).1 e) ]),
+  (λ h. elim h [ inl o ↦ (gains y).1 (inl o) | inr p ↦ (gains y).1 (inr ((is y).0 p)) ]),
+)
 
 module _ {X : Type 0} (old : List X) (P : X → Type 0) (none : (y : X) → P y → ⊥) where
   pub gains_none : GainsAll old old P

@@ -12,8 +12,14 @@ mod spots;
 mod totals;
 mod visits;
 
-pub use laws::{one_sum_and_makespan, one_visit_list, settles_at_last};
+pub use laws::{
+    empty_stands_for_all, one_sum_and_makespan, one_visit_list, setting_changes_one,
+    settles_at_last,
+};
 pub use ledger::CostLedger;
 pub use search::{blocked_visits, is_closed, is_unblocked};
 pub use totals::{costs, greatest_of, is_finished, makespan, settle_time, sum_of, sum_of_costs};
 pub use visits::Visit;
+
+#[cfg(test)]
+mod tests;

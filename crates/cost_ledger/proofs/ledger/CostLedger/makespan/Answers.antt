@@ -7,8 +7,11 @@ pub returns-then-self-eq0 : goal.returns-then-self-eq0
 returns-then-self-eq0 c =
     let k = c.self.invariant in
     let rows = c.self.inside.rows in
-    rw (← c.self.view_is) (costs_of rows, are_costs rows (all_paths rows _ _ _ _ k),
-      greatest_given rows c.self.inside.rests k.by_agent k.rests_are c.greatest.result c.greatest.ensures.most c.greatest.ensures.one (sym k.elsewhere_is ∙ c.if-self-eq0.true))
+    rw (← c.self.view_is) (
+      costs_of rows,
+      are_costs rows (all_paths rows _ _ _ _ k),
+      greatest_given rows c.self.inside.rests k.by_agent k.rests_are c.greatest.result c.greatest.ensures.most c.greatest.ensures.one (sym k.elsewhere_is ∙ c.if-self-eq0.true),
+    )
 
 pub returns-else-self-eq0 : goal.returns-else-self-eq0
 returns-else-self-eq0 c =

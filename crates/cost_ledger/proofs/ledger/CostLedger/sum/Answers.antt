@@ -8,8 +8,11 @@ pub returns-then-self-eq0 : goal.returns-then-self-eq0
 returns-then-self-eq0 c =
     let k = c.self.invariant in
     let rows = c.self.inside.rows in
-    rw (← c.self.view_is) (costs_of rows, are_costs rows (all_paths rows _ _ _ _ k),
-      subst (λ n. IsSumOf (costs_of rows) (Some n)) (sym k.total_is) (sum_given rows (sym k.elsewhere_is ∙ c.if-self-eq0.true)))
+    rw (← c.self.view_is) (
+      costs_of rows,
+      are_costs rows (all_paths rows _ _ _ _ k),
+      subst (λ n. IsSumOf (costs_of rows) (Some n)) (sym k.total_is) (sum_given rows (sym k.elsewhere_is ∙ c.if-self-eq0.true)),
+    )
 
 pub returns-else-self-eq0 : goal.returns-else-self-eq0
 returns-else-self-eq0 c =
