@@ -1,8 +1,8 @@
 -- What is kept beside the rows, after an edit of the rows.
-use Rattle.std.proofs.Common.{◌≡◌, ◌≢◌, ◌⊎◌, inl, inr, ℕ, ◌+◌, ◌*◌, ◌<◌, ◌≤◌, List, length, get_or, Some, None, Option, Contains, Bool, true, false, cond, IsTrue, refl, sym, ap, ◌∙◌, subst, arith}
+use Rattle.std.proofs.Common.{◌≡◌, ◌≢◌, ◌⊎◌, inl, inr, ℕ, ◌+◌, ◌<◌, ◌≤◌, List, length, get_or, Some, None, Option, Contains, Bool, true, false, cond, IsTrue, refl, sym, ap, ◌∙◌, subst, arith}
 use mathlib.Core.Logic.{◌↔◌}
 use mathlib.Core.Bool.{false≢true}
-use Rattle.std.specs.Prelude.{sum_by, All, slice_get}
+use Rattle.std.specs.Prelude.{All}
 use Rattle.std.specs.List.Sorted.{IsStrictlySortedBy}
 use Rattle.std.specs.Ordering.{nat_cmp, ordering_then}
 use Rattle.std.specs.declared.cmp.Ordering.{Ordering}
@@ -17,15 +17,15 @@ use Rattle.grid_cells.specs.Grid.{Chart, IsClosed}
 use Rattle.grid_cells.specs.declared.numbers.TheConstants.{MOST_AGENT}
 use Rattle.plan_table.specs.declared.paths.TheConstants.{MOST_LAST_INDEX}
 use Rattle.plan_table.specs.Path.{last_index, place, IsPath}
-use Rattle.plan_table.specs.Plans.{IsByAgent, AreRows, row_of, ChangesRow}
+use Rattle.plan_table.specs.Plans.{IsByAgent, row_of, ChangesRow}
 use Rattle.plan_table.specs.Order.{ComesBefore}
 use Rattle.plan_table.specs.declared.plans.Row.{Row}
 use Rattle.plan_table.proofs.Fleets.{row_here}
 use Rattle.plan_table.proofs.Rows.{rows_few}
 use Rattle.cost_ledger.specs.Kept.{Keeps, AreSpots, AreRests, SwapsRow, last_of_row, ends_elsewhere, sum_of_rows, rest, visit_cmp}
-use Rattle.cost_ledger.specs.Ledger.{Ledger, StandsFor, SameBut, SameAt}
+use Rattle.cost_ledger.specs.Ledger.{SameBut, SameAt}
 use Rattle.cost_ledger.specs.Spots.{spot_of, Gains, Loses, GainsAll, LosesAll, IsSpotIn, AreThrough}
-use Rattle.cost_ledger.specs.Visits.{IsBlocked, IsVisit, visit_key, AreVisits}
+use Rattle.cost_ledger.specs.Visits.{IsBlocked, visit_key, AreVisits}
 use Rattle.cost_ledger.specs.VisitSearch.{IsVisitIn}
 use Rattle.cost_ledger.specs.declared.rests.Rest.{Rest}
 use Rattle.cost_ledger.specs.declared.spots.Spot.{Spot}

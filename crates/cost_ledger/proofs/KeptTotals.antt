@@ -1,18 +1,18 @@
 -- The costs of rows, and what their kept sums say of them.
-use Rattle.std.proofs.Common.{◌≡◌, ◌≢◌, ◌⊎◌, inl, inr, ℕ, zero, suc, ◌+◌, ◌<◌, ◌≤◌, min, Bool, true, false, cond, eqb, ◌&&◌, List, [], ◌∷◌, length, get_or, Some, None, Option, Contains, refl, sym, ap, ◌∙◌, subst, arith}
-use Rattle.std.specs.Prelude.{IsSome, All, map, sum, sum_by, count_by, fold, max, unwrap_or, slice_get}
+use Rattle.std.proofs.Common.{◌≡◌, ◌⊎◌, inl, inr, ℕ, zero, suc, ◌+◌, ◌≤◌, min, cond, eqb, ◌&&◌, List, [], ◌∷◌, get_or, Some, None, Option, Contains, refl, sym, ap, ◌∙◌, subst, arith}
+use Rattle.std.specs.Prelude.{IsSome, All, map, sum, count_by, fold, max, unwrap_or, slice_get}
 use Rattle.std.specs.Option.{SomeIff, is_none}
 use Rattle.std.proofs.lemmas.Bool.Decides.{nat_tests}
-use Rattle.std.proofs.lemmas.Option.{same_Some, slice_get-get_or, get_or_from_slice_get, slice_get_within}
+use Rattle.std.proofs.lemmas.Option.{same_Some, slice_get-get_or}
 use Rattle.std.proofs.lemmas.List.Elements.{All-cons, All-head, All-tail}
 use Rattle.std.proofs.lemmas.List.Sums.{sum_by-cons}
 use Rattle.plan_table.proofs.Order.{Contains-cons_cases, Contains-cons_head, Contains-cons_tail, Contains-nil}
 use Rattle.plan_table.proofs.Fleets.{rank_of, row_at_rank, row_here}
 use Rattle.grid_cells.specs.Cell.{Point}
 use Rattle.plan_table.specs.Path.{last_index, place, IsPath}
-use Rattle.plan_table.specs.Plans.{IsByAgent, row_of}
+use Rattle.plan_table.specs.Plans.{IsByAgent}
 use Rattle.plan_table.specs.declared.plans.Row.{Row}
-use Rattle.cost_ledger.specs.Costs.{IsSettleTime, IsFinished, IsCost, AreCosts, IsSumOf, IsGreatestOf}
+use Rattle.cost_ledger.specs.Costs.{IsFinished, IsCost, AreCosts, IsSumOf, IsGreatestOf}
 use Rattle.cost_ledger.specs.Kept.{last_of_row, ends_elsewhere, sum_of_rows, AreRests, rest}
 use Rattle.cost_ledger.specs.declared.rests.Rest.{Rest}
 use Rattle.cost_ledger.proofs.Settling.{settles, settle_once}

@@ -1,17 +1,14 @@
 -- Maps that differ in one cell, and ledgers with no agent.
-use Rattle.std.proofs.Common.{◌≡◌, ◌≢◌, ℕ, zero, suc, ◌*◌, Bool, List, [], ◌∷◌, Some, None, Option, refl, sym, ap, ◌∙◌}
+use Rattle.std.proofs.Common.{◌≡◌, ◌≢◌, ℕ, zero, suc, Bool, List, [], ◌∷◌, Some, None, refl, sym, ap, ◌∙◌}
 use Rattle.std.proofs.Math.ListN.{set}
 use Rattle.std.specs.List.{slice_get}
 use Rattle.std.proofs.lemmas.Nat.{same_from_place}
 use Rattle.grid_cells.specs.Cell.{Point}
 use Rattle.grid_cells.specs.Size.{Extent, Holds}
-use Rattle.grid_cells.specs.Grid.{Chart, IsOpen, flag_index, with_cell}
+use Rattle.grid_cells.specs.Grid.{Chart, flag_index}
 use Rattle.plan_table.specs.Plans.{row_of}
 use Rattle.plan_table.specs.declared.plans.Row.{Row}
 use Rattle.cost_ledger.specs.Laws.{EmptyStandsForAll, SettingChangesOne}
-use Rattle.cost_ledger.specs.Ledger.{Ledger}
-use Rattle.cost_ledger.specs.Visits.{IsVisit}
-use Rattle.cost_ledger.specs.declared.visits.Visit.{Visit}
 
 -- an element after a write at another place
 set_elsewhere : (xs : List Bool) (i j : ℕ) (v : Bool) → j ≢ i → slice_get (set xs i v) j ≡ slice_get xs j

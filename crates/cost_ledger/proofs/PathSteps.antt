@@ -10,7 +10,6 @@ use Rattle.grid_cells.specs.Cell.{Point}
 use Rattle.grid_cells.specs.Grid.{Chart, IsClosed}
 use Rattle.plan_table.specs.Path.{last_index, place}
 use Rattle.cost_ledger.specs.Spots.{spot, spot_of, IsSpotIn}
-use Rattle.cost_ledger.specs.Visits.{IsBlocked}
 use Rattle.cost_ledger.specs.VisitSearch.{IsVisitIn}
 use Rattle.cost_ledger.specs.declared.spots.Spot.{Spot}
 use Rattle.cost_ledger.specs.declared.visits.Visit.{Visit}

@@ -2,14 +2,14 @@
 use Rattle.std.proofs.Common.{◌≡◌, ◌≤◌, ◌<◌, ◌⊎◌, ℕ, refl, sym, ap, ◌∙◌, subst, List, Contains, Bool, true, false, ◌&&◌, not, arith, inl, inr}
 use mathlib.Core.Logic.{◌↔◌}
 use Rattle.std.specs.List.{filter}
-use Rattle.std.specs.Ordering.{is_lt, is_gt, is_le}
+use Rattle.std.specs.Ordering.{is_lt, is_le}
 use Rattle.grid_cells.specs.Cell.{Point}
 use Rattle.std.specs.BTreeMap.Range.{range_contains}
 use Rattle.std.specs.declared.ops.Bound.TheVariants.{Included}
 use Rattle.std.proofs.lemmas.Cmp.{ranked, tied_itself}
 use Rattle.std.specs.Ordering.{MatchOrdering}
 use Rattle.std.specs.Cmp.{IsTotalOrder}
-use Rattle.std.specs.Ordering.{nat_cmp, ordering_then, on, then_cmp}
+use Rattle.std.specs.Ordering.{nat_cmp, ordering_then}
 use Rattle.std.specs.declared.cmp.Ordering.{Ordering}
 use Rattle.std.specs.declared.cmp.Ordering.TheVariants.{Less, Equal, Greater}
 use Rattle.std.proofs.lemmas.Map.Lookups.{CmpEqualImpliesEq, exact_unsigned}

@@ -1,5 +1,5 @@
-use Rattle.std.proofs.Common.{◌≡◌, ◌+◌, Some, subst, arith}
-use Rattle.plan_table.specs.Path.{last_index, place}
+use Rattle.std.proofs.Common.{◌≡◌, ◌+◌, subst, arith}
+use Rattle.plan_table.specs.Path.{last_index}
 use Rattle.cost_ledger.specs.Spots.{GainsAll}
 use Rattle.cost_ledger.specs.VisitSearch.{IsVisitIn}
 use Rattle.cost_ledger.proofs.Sets.{gains_then, gains_none}

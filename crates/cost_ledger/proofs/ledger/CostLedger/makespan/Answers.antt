@@ -1,4 +1,4 @@
-use Rattle.std.proofs.Common.{◌≡◌, sym, ◌∙◌}
+use Rattle.std.proofs.Common.{sym, ◌∙◌}
 use Rattle.cost_ledger.proofs.Keeping.{all_paths}
 use Rattle.cost_ledger.proofs.KeptTotals.{costs_of, are_costs, greatest_given, given_all}
 use Rattle.cost_ledger.proofs.ledger.CostLedger.makespan.Goals as goal

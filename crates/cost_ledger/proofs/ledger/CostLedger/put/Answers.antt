@@ -1,9 +1,8 @@
-use Rattle.std.proofs.Common.{◌≡◌, ℕ, List, ◌+◌, Some, subst, arith, ◌∙◌}
+use Rattle.std.proofs.Common.{◌≡◌, ℕ, List, ◌+◌, Some, subst, arith}
 use Rattle.grid_cells.specs.Cell.{Point}
 use Rattle.plan_table.specs.Plans.{ChangesRow}
 use Rattle.plan_table.specs.declared.plans.Row.{Row}
 use Rattle.cost_ledger.specs.Kept.{ends_elsewhere, sum_of_rows}
-use Rattle.cost_ledger.specs.Ledger.{Ledger}
 use Rattle.cost_ledger.proofs.Keeping.{keeps_put, visits_put, total_small, elsewhere_small, one_at_most}
 use Rattle.cost_ledger.proofs.ledger.CostLedger.put.Goals as goal
 

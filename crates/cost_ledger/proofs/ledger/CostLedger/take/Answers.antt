@@ -1,5 +1,4 @@
-use Rattle.std.proofs.Common.{◌≡◌, ◌+◌, Some, sym, arith}
-use Rattle.plan_table.specs.Plans.{row_of}
+use Rattle.std.proofs.Common.{sym, arith}
 use Rattle.cost_ledger.specs.Kept.{ends_elsewhere, last_of_row}
 use Rattle.cost_ledger.proofs.Keeping.{keeps_take, visits_take}
 use Rattle.cost_ledger.proofs.ledger.CostLedger.take.Goals as goal

@@ -1,5 +1,3 @@
-use Rattle.std.proofs.Common.{◌≡◌, None, subst}
-use Rattle.plan_table.specs.Plans.{row_of}
 use Rattle.cost_ledger.proofs.RowSums.{changes, sum_insert, by_agent_sorted}
 use Rattle.cost_ledger.proofs.rows.Rows.insert.Goals as goal
 

@@ -1,4 +1,4 @@
-use Rattle.std.proofs.Common.{◌≡◌, ◌≤◌, inl, inr, subst, sym, arith}
+use Rattle.std.proofs.Common.{◌≤◌, inl, inr, subst, sym, arith}
 use Rattle.grid_cells.specs.declared.numbers.TheConstants.{MOST_AGENT}
 use Rattle.cost_ledger.proofs.Sets.{set_gains}
 use Rattle.cost_ledger.proofs.SpotOrder.{spot_total, spot_exact}
