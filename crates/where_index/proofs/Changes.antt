@@ -1,0 +1,238 @@
+-- One record put in or taken out, as a change of the agents' records over time.
+use Rattle.std.proofs.Common.{◌≡◌, ◌≢◌, ◌⊎◌, inl, inr, ℕ, zero, suc, ◌+◌, ◌<◌, ◌≤◌, nat_lt, List, Option, Some, None, true, false, cond, ◌&&◌, ◌==◌, refl, sym, ap, ◌∙◌, subst, arith}
+use Rattle.std.proofs.lemmas.Bool.Decides.{nat_tests}
+use Rattle.grid_cells.specs.Cell.{Point}
+use Rattle.where_index.specs.declared.moves.Move.{Move}
+use Rattle.where_index.specs.declared.hops.Place.{Place}
+use Rattle.where_index.specs.declared.spots.Spot.{Spot}
+use Rattle.where_index.specs.declared.trails.Hop.{Hop}
+use Rattle.where_index.specs.Spot.{spot, Gains, Loses}
+use Rattle.where_index.specs.Hops.{GainsAt, LosesAt}
+use Rattle.where_index.specs.Records.{changes_below, changed, changed_hop, same_point}
+use Rattle.where_index.specs.Changes.{HasSpots, HasHops, set_at, set_row, mixed}
+
+pub HasSpots-ext : (spots : List Spot) (f g : ℕ → ℕ → Option Point) → ((a t : ℕ) → f a t ≡ g a t) → HasSpots spots f → HasSpots spots g
+HasSpots-ext spots f g same has s = ((λ h. sym (same s.agent s.time) ∙ (has s).0 h), (λ h. (has s).1 (same s.agent s.time ∙ h)))
+
+pub HasHops-ext : (lists : List (Place × List Move)) (f g : ℕ → ℕ → Option Hop) → ((a t : ℕ) → f a t ≡ g a t) → HasHops lists f → HasHops lists g
+HasHops-ext lists f g same has c t m = ((λ h. sym (same m.agent t) ∙ (has c t m).0 h), (λ h. (has c t m).1 (same m.agent t ∙ h)))
+
+-- whether it is that agent at that time
+pub at_cases : (a b x y : ℕ) → (((a ≡ b) × (x ≡ y)) × ((a == b && (x == y)) ≡ true)) ⊎ (((a ≡ b) → (x ≡ y) → ⊥) × ((a == b && (x == y)) ≡ false))
+at_cases a b x y = grind (arith, nat_tests)
+
+module _ {X : Type 0} (f : ℕ → ℕ → X) (agent time : ℕ) (v : X) where
+  pub set_here : (a t : ℕ) → (a == agent && (t == time)) ≡ true → set_at f agent time v a t ≡ v
+  set_here a t e = ap (λ b. cond b v (f a t)) e
+
+  pub set_there : (a t : ℕ) → (a == agent && (t == time)) ≡ false → set_at f agent time v a t ≡ f a t
+  set_there a t e = ap (λ b. cond b v (f a t)) e
+
+pub set_same : {X : Type 0} (f : ℕ → ℕ → X) (agent time : ℕ) (v : X) → f agent time ≡ v → (a t : ℕ) → f a t ≡ set_at f agent time v a t
+set_same f agent time v is a t = elim (at_cases a agent t time) [
+  | inl at ↦ ap (λ q. f q t) at.0.0 ∙ (ap (λ q. f agent q) at.0.1 ∙ (is ∙ sym (set_here f agent time v a t at.1)))
+  | inr away ↦ sym (set_there f agent time v a t away.1)
+]
+
+pub set_twice : {X : Type 0} (f : ℕ → ℕ → X) (agent time : ℕ) (u v : X) (a t : ℕ) → set_at (set_at f agent time u) agent time v a t ≡ set_at f agent time v a t
+set_twice f agent time u v a t = elim (at_cases a agent t time) [
+  | inl at ↦ set_here (set_at f agent time u) agent time v a t at.1 ∙ sym (set_here f agent time v a t at.1)
+  | inr away ↦ set_there (set_at f agent time u) agent time v a t away.1 ∙ (set_there f agent time u a t away.1 ∙ sym (set_there f agent time v a t away.1))
+]
+
+spot_of : (s : Spot) (cell : Point) (time agent : ℕ) → s.cell ≡ cell → s.time ≡ time → s.agent ≡ agent → s ≡ spot cell time agent
+spot_of s cell time agent a b c = λ i. record { cell = a i; time = b i; agent = c i }
+
+none_some : {X G : Type 0} (o : Option X) (x : X) → o ≡ None → o ≡ Some x → G
+none_some o x a b = absurd (cc)
+
+some_one : {X : Type 0} (o : Option X) (x y : X) → o ≡ Some x → o ≡ Some y → x ≡ y
+some_one o x y a b = cc
+
+pub clears : (old new : List Spot) (agent time : ℕ) (cell : Point) (f : ℕ → ℕ → Option Point) → Loses old new (spot cell time agent) → HasSpots old f → f agent time ≡ Some cell → HasSpots new (set_at f agent time None)
+clears old new agent time cell f loses has is s = elim (at_cases s.agent agent s.time time) [
+  | inl at ↦
+      let now = set_here f agent time None s.agent s.time at.1 in
+      let same : f s.agent s.time ≡ Some cell = ap (λ q. f q s.time) at.0.0 ∙ (ap (λ q. f agent q) at.0.1 ∙ is) in (
+        (λ h. let old_s = (loses s).0 h in absurd (old_s.1 (spot_of s cell time agent (some_one _ _ _ ((has s).0 old_s.0) same) at.0.1 at.0.0))),
+        (λ h. none_some _ _ now h),
+      )
+  | inr away ↦
+      let now = set_there f agent time None s.agent s.time away.1 in (
+        (λ h. now ∙ (has s).0 ((loses s).0 h).0),
+        (λ h. (loses s).1 ((has s).1 (sym now ∙ h), λ one. away.0 (ap (λ (q : Spot). q.agent) one) (ap (λ (q : Spot). q.time) one))),
+      )
+]
+
+pub fills : (old new : List Spot) (agent time : ℕ) (cell : Point) (f : ℕ → ℕ → Option Point) → Gains old new (spot cell time agent) → HasSpots old f → f agent time ≡ None → HasSpots new (set_at f agent time (Some cell))
+fills old new agent time cell f gains has is s = elim (at_cases s.agent agent s.time time) [
+  | inl at ↦
+      let now = set_here f agent time (Some cell) s.agent s.time at.1 in
+      let same : f s.agent s.time ≡ None = ap (λ q. f q s.time) at.0.0 ∙ (ap (λ q. f agent q) at.0.1 ∙ is) in (
+        (λ h. elim ((gains s).0 h) [
+          | inl o ↦ none_some _ _ same ((has s).0 o)
+          | inr one ↦ now ∙ ap (λ (q : Spot). Some q.cell) (sym one)
+        ]),
+        (λ h. (gains s).1 (inr (spot_of s cell time agent (some_one _ _ _ h now) at.0.1 at.0.0))),
+      )
+  | inr away ↦
+      let now = set_there f agent time (Some cell) s.agent s.time away.1 in (
+        (λ h. elim ((gains s).0 h) [
+          | inl o ↦ now ∙ (has s).0 o
+          | inr one ↦ absurd (away.0 (ap (λ (q : Spot). q.agent) one) (ap (λ (q : Spot). q.time) one))
+        ]),
+        (λ h. (gains s).1 (inl ((has s).1 (sym now ∙ h)))),
+      )
+]
+
+pub clears_hop : (old new : List (Place × List Move)) (agent time : ℕ) (hop : Hop) (f : ℕ → ℕ → Option Hop) → LosesAt old new hop.from time agent → HasHops old f → f agent time ≡ Some hop → HasHops new (set_at f agent time None)
+clears_hop old new agent time hop f loses has is c t m = elim (at_cases m.agent agent t time) [
+  | inl at ↦
+      let now = set_here f agent time None m.agent t at.1 in
+      let same : f m.agent t ≡ Some hop = ap (λ q. f q t) at.0.0 ∙ (ap (λ q. f agent q) at.0.1 ∙ is) in (
+        (λ h. let old_m = (loses c t m).0 h in
+            let one = some_one _ _ _ ((has c t m).0 old_m.0) same in
+            absurd (old_m.1 (ap (λ (q : Hop). q.from) one, at.0.1, at.0.0))),
+        (λ h. none_some _ _ now h),
+      )
+  | inr away ↦
+      let now = set_there f agent time None m.agent t away.1 in (
+        (λ h. now ∙ (has c t m).0 ((loses c t m).0 h).0),
+        (λ h. (loses c t m).1 ((has c t m).1 (sym now ∙ h), λ is_here. away.0 is_here.2 is_here.1)),
+      )
+]
+
+pub fills_hop : (old new : List (Place × List Move)) (agent time : ℕ) (hop : Hop) (f : ℕ → ℕ → Option Hop) → GainsAt old new hop.from time (record { agent = agent; to = hop.to }) → HasHops old f → f agent time ≡ None → HasHops new (set_at f agent time (Some hop))
+fills_hop old new agent time hop f gains has is c t m = elim (at_cases m.agent agent t time) [
+  | inl at ↦
+      let now = set_here f agent time (Some hop) m.agent t at.1 in
+      let same : f m.agent t ≡ None = ap (λ q. f q t) at.0.0 ∙ (ap (λ q. f agent q) at.0.1 ∙ is) in (
+        (λ h. elim ((gains c t m).0 h) [
+          | inl o ↦ none_some _ _ same ((has c t m).0 o.0)
+          | inr one ↦
+              let hops : hop ≡ record { from = c; to = m.to } = λ i. record { from = sym one.0 i; to = sym (ap (λ (q : Move). q.to) one.2) i } in
+              now ∙ ap (λ (q : Hop). Some q) hops
+        ]),
+        (λ h. let one = some_one _ _ _ h now in
+            (gains c t m).1 (inr (ap (λ (q : Hop). q.from) one, at.0.1, λ i. record { agent = at.0.0 i; to = (one i).to }))),
+      )
+  | inr away ↦
+      let now = set_there f agent time (Some hop) m.agent t away.1 in (
+        (λ h. elim ((gains c t m).0 h) [
+          | inl o ↦ now ∙ (has c t m).0 o.0
+          | inr one ↦ absurd (away.0 (ap (λ (q : Move). q.agent) one.2) one.1)
+        ]),
+        (λ h. (gains c t m).1 (inl ((has c t m).1 (sym now ∙ h), λ one. away.0 one.2 one.1))),
+      )
+]
+
+pub set_itself : {X : Type 0} (f : ℕ → ℕ → X) (agent time : ℕ) (v : X) → set_at f agent time v agent time ≡ v
+set_itself f agent time v = elim (at_cases agent agent time time) [
+  | inl at ↦ set_here f agent time v agent time at.1
+  | inr away ↦ absurd (away.0 refl refl)
+]
+
+pub row_cases : (a b : ℕ) → ((a ≡ b) × ((a == b) ≡ true)) ⊎ ((a ≢ b) × ((a == b) ≡ false))
+row_cases a b = grind (arith, nat_tests)
+
+time_cases : (t x : ℕ) → ((t < x) × (nat_lt t x ≡ true)) ⊎ ((x ≤ t) × (nat_lt t x ≡ false))
+time_cases t x = grind (arith, nat_tests)
+
+same_or_apart : (t x : ℕ) → (t ≡ x) ⊎ (t ≢ x)
+same_or_apart t x = grind arith
+
+module _ {X : Type 0} (f : ℕ → ℕ → X) (agent : ℕ) (o n : ℕ → X) where
+  pub row_here : (v : ℕ → X) (a t : ℕ) → (a == agent) ≡ true → set_row f agent v a t ≡ v t
+  row_here v a t e = ap (λ b. cond b (v t) (f a t)) e
+
+  pub row_there : (v : ℕ → X) (a t : ℕ) → (a == agent) ≡ false → set_row f agent v a t ≡ f a t
+  row_there v a t e = ap (λ b. cond b (v t) (f a t)) e
+
+  mixed_new : (x t : ℕ) → nat_lt t x ≡ true → mixed o n x t ≡ n t
+  mixed_new x t e = ap (λ b. cond b (n t) (o t)) e
+
+  mixed_old : (x t : ℕ) → nat_lt t x ≡ false → mixed o n x t ≡ o t
+  mixed_old x t e = ap (λ b. cond b (n t) (o t)) e
+
+  pub mixed_start : (from : ℕ) → ((t : ℕ) → t < from → o t ≡ n t) → ((t : ℕ) → f agent t ≡ o t) → (a t : ℕ) → f a t ≡ set_row f agent (mixed o n from) a t
+  mixed_start from same agree a t = elim (row_cases a agent) [
+    | inl at ↦
+        let is : f a t ≡ o t = ap (λ q. f q t) at.0 ∙ agree t in
+        elim (time_cases t from) [
+          | inl early ↦ is ∙ (same t early.0 ∙ (sym (mixed_new from t early.1) ∙ sym (row_here (mixed o n from) a t at.1)))
+          | inr late ↦ is ∙ (sym (mixed_old from t late.1) ∙ sym (row_here (mixed o n from) a t at.1))
+        ]
+    | inr away ↦ sym (row_there (mixed o n from) a t away.1)
+  ]
+
+  pub mixed_here : (x : ℕ) → set_row f agent (mixed o n x) agent x ≡ o x
+  mixed_here x = elim (row_cases agent agent) [
+    | inl at ↦ elim (time_cases x x) [
+      | inl early ↦ absurd (omega (arith, early.0))
+      | inr late ↦ row_here (mixed o n x) agent x at.1 ∙ mixed_old x x late.1
+    ]
+    | inr away ↦ absurd (away.0 refl)
+  ]
+
+  pub mixed_more : (x a t : ℕ) → set_at (set_row f agent (mixed o n x)) agent x (n x) a t ≡ set_row f agent (mixed o n (x + 1)) a t
+  mixed_more x a t = elim (row_cases a agent) [
+    | inl at ↦
+        let next = row_here (mixed o n (x + 1)) a t at.1 in
+        elim (at_cases a agent t x) [
+          | inl now ↦ elim (time_cases t (x + 1)) [
+            | inl early ↦ set_here (set_row f agent (mixed o n x)) agent x (n x) a t now.1 ∙ (sym (ap n now.0.1) ∙ (sym (mixed_new (x + 1) t early.1) ∙ sym next))
+            | inr late ↦ absurd (omega (arith, late.0, now.0.1))
+          ]
+          | inr other ↦
+              let before = set_there (set_row f agent (mixed o n x)) agent x (n x) a t other.1 ∙ row_here (mixed o n x) a t at.1 in
+              elim (time_cases t x) [
+                | inl early ↦ elim (time_cases t (x + 1)) [
+                  | inl more ↦ before ∙ (mixed_new x t early.1 ∙ (sym (mixed_new (x + 1) t more.1) ∙ sym next))
+                  | inr late ↦ absurd (omega (arith, late.0, early.0))
+                ]
+                | inr late ↦ elim (time_cases t (x + 1)) [
+                  | inl more ↦ elim (same_or_apart t x) [
+                    | inl is ↦ absurd (other.0 at.0 is)
+                    | inr apart ↦ absurd (apart (omega (arith, late.0, more.0)))
+                  ]
+                  | inr later ↦ before ∙ (mixed_old x t late.1 ∙ (sym (mixed_old (x + 1) t later.1) ∙ sym next))
+                ]
+              ]
+        ]
+    | inr away ↦ elim (at_cases a agent t x) [
+      | inl now ↦ absurd (away.0 now.0.0)
+      | inr other ↦ set_there (set_row f agent (mixed o n x)) agent x (n x) a t other.1 ∙ (row_there (mixed o n x) a t away.1 ∙ sym (row_there (mixed o n (x + 1)) a t away.1))
+    ]
+  ]
+
+  pub mixed_end : (to : ℕ) → ((t : ℕ) → to ≤ t → o t ≡ n t) → (a t : ℕ) → set_row f agent (mixed o n to) a t ≡ set_row f agent n a t
+  mixed_end to same a t = elim (row_cases a agent) [
+    | inl at ↦ elim (time_cases t to) [
+      | inl early ↦ row_here (mixed o n to) a t at.1 ∙ (mixed_new to t early.1 ∙ sym (row_here n a t at.1))
+      | inr late ↦ row_here (mixed o n to) a t at.1 ∙ (mixed_old to t late.1 ∙ (same t late.0 ∙ sym (row_here n a t at.1)))
+    ]
+    | inr away ↦ row_there (mixed o n to) a t away.1 ∙ sym (row_there n a t away.1)
+  ]
+
+pub none_below : {X : Type 0} (change : X → X → ℕ) (o n : ℕ → X) → ((a : X) → change a a ≡ 0) → (from : ℕ) → ((t : ℕ) → t < from → o t ≡ n t) → changes_below change o n from ≡ 0
+none_below change o n itself zero same = refl
+none_below change o n itself (suc x) same =
+    let rest = none_below change o n itself x (λ t h. same t (omega arith)) in
+    let last : change (o x) (n x) ≡ 0 = subst (λ v. change (o x) v ≡ 0) (same x (omega arith)) (itself (o x)) in
+    omega arith
+
+pub one_more : {X : Type 0} (change : X → X → ℕ) (o n : ℕ → X) (x count more : ℕ) → count ≡ changes_below change o n x → more ≡ change (o x) (n x) → count + more ≡ changes_below change o n (x + 1)
+one_more change o n x count more a b =
+    let next : suc x ≡ x + 1 = omega arith in
+    subst (λ q. count + more ≡ changes_below change o n q) next (omega arith)
+
+same_points : (a : Point) → same_point a a ≡ true
+same_points a = grind (arith, nat_tests)
+
+pub changed_itself : (a : Option Point) → changed a a ≡ 0
+changed_itself None = refl
+changed_itself (Some a) = ap (λ b. cond b 0 2) (same_points a)
+
+pub changed_hop_itself : (a : Option Hop) → changed_hop a a ≡ 0
+changed_hop_itself None = refl
+changed_hop_itself (Some a) = ap (λ b. cond (b && same_point a.to a.to) 0 2) (same_points a.from) ∙ ap (λ b. cond b 0 2) (same_points a.to)

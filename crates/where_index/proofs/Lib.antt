@@ -1,0 +1,9 @@
+pub mod Sets
+pub mod SpotOrder
+pub mod MoveSearch
+pub mod Rising
+pub mod HopOrder
+pub mod Changes
+pub mod Standing
+pub mod Positions
+pub mod Gathered

@@ -1,0 +1,114 @@
+-- Ordered sets and maps as lists of their keys.
+use Rattle.std.proofs.Common.{◌≡◌, ◌⊎◌, inl, inr, zero, suc, List, [], ◌∷◌, Contains, refl, sym, ap, ◌∙◌, subst, Bool, true, false, cond, arith, IsTrue}
+use mathlib.Core.Logic.{◌↔◌}
+use Rattle.std.specs.List.{filter}
+use Rattle.std.specs.Cmp.{IsTotalOrder}
+use Rattle.std.specs.Ordering.{is_eq}
+use Rattle.std.specs.declared.cmp.Ordering.{Ordering}
+use Rattle.std.specs.declared.cmp.Ordering.TheVariants.{Less, Equal, Greater}
+use Rattle.std.specs.BTreeSet as sorted
+use Rattle.std.specs.BTreeSet.{BTreeSet}
+use Rattle.std.proofs.lemmas.Map.Lookups.{CmpEqualImpliesEq}
+use Rattle.std.proofs.lemmas.Map.Views.{btree_set_contains_iff}
+use Rattle.std.proofs.lemmas.Cmp.{tied_itself}
+
+-- ---- what a filter keeps
+pub Contains-cons_cases : {X : Type 0} (x : X) (xs : List X) (y : X) → Contains (x ∷ xs) y → (x ≡ y) ⊎ Contains xs y
+Contains-cons_cases x xs y (zero, within, is) = inl is
+Contains-cons_cases x xs y (suc k, within, is) = inr (k, omega arith, is)
+
+pub Contains-nil : {X : Type 0} (x : X) → Contains [] x → ⊥
+Contains-nil x (k, within, is) = omega arith
+
+pub Contains-head : {X : Type 0} (x : X) (xs : List X) → Contains (x ∷ xs) x
+Contains-head x xs = (0, omega arith, refl)
+
+pub Contains-tail : {X : Type 0} (x : X) (xs : List X) (y : X) → Contains xs y → Contains (x ∷ xs) y
+Contains-tail x xs y (k, within, is) = (suc k, omega arith, is)
+
+bool_cases : (b : Bool) → (b ≡ true) ⊎ (b ≡ false)
+bool_cases true = inl refl
+bool_cases false = inr refl
+
+pub filter_keeps : {X : Type 0} (p : X → Bool) (xs : List X) (y : X) → Contains (filter p xs) y ↔ (Contains xs y × (p y ≡ true))
+filter_keeps p [] y = ((λ h. absurd (Contains-nil y h)), (λ h. h.0))
+filter_keeps p (x ∷ xs) y =
+    let rest = filter_keeps p xs y in
+    elim (bool_cases (p x)) [
+      | inl passes ↦
+          let is : filter p (x ∷ xs) ≡ x ∷ filter p xs = ap (λ b. cond b (x ∷ filter p xs) (filter p xs)) passes in
+          subst (λ l. Contains l y ↔ (Contains (x ∷ xs) y × (p y ≡ true))) (sym is) (
+            (λ h. elim (Contains-cons_cases x (filter p xs) y h) [
+              | inl same ↦ (subst (λ v. Contains (x ∷ xs) v) same (Contains-head x xs), subst (λ v. p v ≡ true) same passes)
+              | inr more ↦ (Contains-tail x xs y (rest.0 more).0, (rest.0 more).1)
+            ]),
+            (λ h. elim (Contains-cons_cases x xs y h.0) [
+              | inl same ↦ subst (λ v. Contains (x ∷ filter p xs) v) same (Contains-head x (filter p xs))
+              | inr more ↦ Contains-tail x (filter p xs) y (rest.1 (more, h.1))
+            ]),
+          )
+      | inr fails ↦
+          let is : filter p (x ∷ xs) ≡ filter p xs = ap (λ b. cond b (x ∷ filter p xs) (filter p xs)) fails in
+          subst (λ l. Contains l y ↔ (Contains (x ∷ xs) y × (p y ≡ true))) (sym is) (
+            (λ h. (Contains-tail x xs y (rest.0 h).0, (rest.0 h).1)),
+            (λ h. elim (Contains-cons_cases x xs y h.0) [
+              | inl same ↦ let wrong : true ≡ false = sym h.1 ∙ (ap p (sym same) ∙ fails) in absurd (cc)
+              | inr more ↦ rest.1 (more, h.1)
+            ]),
+          )
+    ]
+
+pub tied_or_not : (o : Ordering) → (o ≡ Equal) ⊎ (is_eq o ≡ false)
+tied_or_not Less = inr refl
+tied_or_not Equal = inl refl
+tied_or_not Greater = inr refl
+
+module _ {K : Type 0} {R : K → K → Ordering} (o : IsTotalOrder R) (exact : CmpEqualImpliesEq R) where
+  pub set_has : (s : BTreeSet K) (k : K) (b : Bool) → b ≡ sorted.contains R s k → IsTrue b ↔ Contains s.keys k
+  set_has s k b e = subst (λ v. IsTrue v ↔ Contains s.keys k) (sym e) (btree_set_contains_iff o exact s k)
+
+  pub set_gains : (s n : BTreeSet K) (k : K) → sorted.Updates R s n k true → (q : K) → Contains n.keys q ↔ (Contains s.keys q ⊎ (q ≡ k))
+  set_gains s n k h q =
+      let now = btree_set_contains_iff o exact n q in
+      let before = btree_set_contains_iff o exact s q in
+      elim (tied_or_not (R k q)) [
+        | inl same ↦
+            let one : k ≡ q = exact k q same in
+            let here : sorted.contains R n q ≡ true = h.0 q ∙ ap (λ v. cond (is_eq v) true (sorted.contains R s q)) same in
+            ((λ _. inr (sym one)), (λ _. now.0 here))
+        | inr apart ↦
+            let here : sorted.contains R n q ≡ sorted.contains R s q = h.2 q apart in (
+              (λ w. inl (before.0 (subst IsTrue here (now.1 w)))),
+              (λ w. elim w [
+                | inl old ↦ now.0 (subst IsTrue (sym here) (before.1 old))
+                | inr is ↦
+                    let tied : R k q ≡ Equal = subst (λ v. R k v ≡ Equal) (sym is) (tied_itself o k) in
+                    let wrong : is_eq (R k q) ≡ true = ap is_eq tied in
+                    let no : true ≡ false = sym wrong ∙ apart in
+                    absurd (cc)
+              ]),
+            )
+      ]
+
+  pub set_loses : (s n : BTreeSet K) (k : K) → sorted.Updates R s n k false → (q : K) → Contains n.keys q ↔ (Contains s.keys q × (q ≡ k → ⊥))
+  set_loses s n k h q =
+      let now = btree_set_contains_iff o exact n q in
+      let before = btree_set_contains_iff o exact s q in
+      elim (tied_or_not (R k q)) [
+        | inl same ↦
+            let one : k ≡ q = exact k q same in
+            let here : sorted.contains R n q ≡ false = h.0 q ∙ ap (λ v. cond (is_eq v) false (sorted.contains R s q)) same in
+            ((λ w. let no : false ≡ true = sym here ∙ now.1 w in absurd (cc)), (λ w. absurd (w.1 (sym one))))
+        | inr apart ↦
+            let here : sorted.contains R n q ≡ sorted.contains R s q = h.2 q apart in (
+              (λ w. (
+                before.0 (subst IsTrue here (now.1 w)),
+                λ is.
+                    let tied : R k q ≡ Equal = subst (λ v. R k v ≡ Equal) (sym is) (tied_itself o k) in
+                    let wrong : is_eq (R k q) ≡ true = ap is_eq tied in
+                    let no : true ≡ false = sym wrong ∙ apart in
+                    absurd (cc),
+              )),
+              (λ w. now.0 (subst IsTrue (sym here) (before.1 w.0))),
+            )
+      ]

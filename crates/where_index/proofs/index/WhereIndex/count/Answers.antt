@@ -1,0 +1,36 @@
+use Rattle.std.proofs.Common.{◌≡◌, ◌<◌, ℕ, Option, Some, None, refl, sym, ◌∙◌, arith}
+use mathlib.Core.Logic.{◌↔◌}
+use Rattle.std.specs.Option.{IsSome}
+use Rattle.std.specs.Ordering.{nat_cmp}
+use Rattle.std.specs.declared.cmp.Ordering.TheVariants.{Less}
+use Rattle.std.specs.BTreeMap as tree
+use Rattle.std.proofs.lemmas.Bool.Decides.{nat_tests}
+use Rattle.std.proofs.lemmas.List.{length-map}
+use Rattle.std.proofs.lemmas.Cmp.{nat_cmp_total}
+use Rattle.std.proofs.lemmas.Map.Lookups.{exact_unsigned}
+use Rattle.std.proofs.lemmas.Map.Views.{btree_map_contains_key_iff}
+use Rattle.plan_table.specs.Route.{Route}
+use Rattle.where_index.specs.declared.ends.End.{End}
+use Rattle.where_index.specs.Ends.{IsEndOf}
+use Rattle.where_index.proofs.Gathered.{ascends}
+use Rattle.where_index.proofs.index.WhereIndex.count.Goals as goal
+
+lesser : (a b : ℕ) → nat_cmp a b ≡ Less → a < b
+lesser a b h = grind (arith, nat_tests)
+
+both : (e : Option End) (o : Option Route) → IsEndOf e o → IsSome e ↔ IsSome o
+both None None is = ((λ h. h), (λ h. cc))
+both None (Some r) is = absurd is
+both (Some e) None is = absurd is
+both (Some e) (Some r) is = ((λ h. refl), (λ h. refl))
+
+pub returns : goal.returns
+returns c = λ fleet has.
+    let records = rw (← c.self.view_is) at has in
+    let keyed = btree_map_contains_key_iff nat_cmp_total exact_unsigned c.self.inside.ends in
+    record {
+      agents = tree.keys c.self.inside.ends;
+      ascending = λ i j d lt within. lesser _ _ (ascends nat_cmp (tree.keys c.self.inside.ends) c.len.ensures.ordered i j d lt within);
+      exact = λ a. let is = both _ (fleet a) (records.ends a) in ((λ h. is.0 ((keyed a).1 h)), (λ h. (keyed a).0 (is.1 h)));
+      many = length-map c.self.inside.ends.entries (λ e. e.0) ∙ sym c.len.ensures.len;
+    }

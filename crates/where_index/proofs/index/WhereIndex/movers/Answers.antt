@@ -1,0 +1,27 @@
+use Rattle.std.proofs.Common.{◌≡◌, ℕ, ◌<◌, List, ◌∷◌, [], Contains, sym, ap, subst, arith}
+use mathlib.Core.Logic.{◌↔◌}
+use Rattle.std.specs.List.{AllPairs}
+use Rattle.std.specs.Ordering.{nat_cmp, ordering_then}
+use Rattle.std.specs.declared.cmp.Ordering.TheVariants.{Less, Equal}
+use Rattle.std.proofs.lemmas.Bool.Decides.{nat_tests}
+use Rattle.plan_table.specs.Order.{ComesBefore}
+use Rattle.where_index.specs.declared.moves.Move.{Move}
+use Rattle.where_index.specs.Moves.{AreByAgent}
+use Rattle.where_index.specs.Asked.{MovesFrom}
+use Rattle.where_index.proofs.Positions.{movers_exact}
+use Rattle.where_index.proofs.index.WhereIndex.movers.Goals as goal
+
+less : (a b : ℕ) → a < b → nat_cmp a b ≡ Less
+less a b h = grind (arith, nat_tests)
+
+movers_ascend : (moves : List Move) → AreByAgent moves → AllPairs (λ (a b : Move). ComesBefore (a.agent ∷ []) (b.agent ∷ [])) moves
+movers_ascend moves rise i j d lt within = ap (λ o. ordering_then o Equal) (less _ _ (rise i j d lt within))
+
+pub returns : goal.returns
+returns c = λ fleet has.
+    let records = rw (← c.self.view_is) at has in
+    let is = rw c.number.ensures at c.at.ensures.is in
+    record {
+      ascending = movers_ascend c.at.result.now c.at.ensures.by_agent;
+      exact = λ m. subst (λ (l : List Move). Contains l m ↔ MovesFrom fleet c.args.step c.args.cell m) (sym is) (movers_exact c.self.inside.records.hops fleet c.args.cell c.args.step records.hops m);
+    }

@@ -1,0 +1,15 @@
+use Rattle.std.proofs.Common.{◌+◌, Some, None, arith}
+use Rattle.plan_table.specs.Route.{route_of}
+use Rattle.where_index.specs.Records.{nothing}
+use Rattle.where_index.proofs.Standing.{same_past, stands_next}
+use Rattle.where_index.proofs.index.WhereIndex.take.Goals as goal
+
+pub replace-changed-requires-clause-same_after : goal.replace-changed-requires-clause-same_after
+replace-changed-requires-clause-same_after c = λ t h.
+    let walkable = c.of-trail.ensures.path.walkable in
+    rw (c.none.ensures, c.of-trail.ensures.is) (same_past (route_of c.args.track) nothing (c.last-last.result + 1) t (omega (arith, walkable.some_cell, c.last-last.ensures.is)) (omega arith) h)
+
+pub returns-clause-stands : goal.returns-clause-stands
+returns-clause-stands c = λ fleet has was.
+    let g = rw (c.none.ensures, c.of-trail.ensures.is) at c.in-Ok.ensures in
+    stands_next fleet c.args.agent (Some (route_of c.args.track)) None was _ _ None (rw (← c.self.view_is) at has) g.stands g.tails g.hops c.remove.ensures.updates.0 tt (omega arith) (omega arith)

@@ -1,0 +1,39 @@
+-- What an index is asked about the fleet that it stands for (Stern et al. 2019 for positions and moves; the questions are
+-- this project's choice).
+use Rattle.std.specs.Prelude.{◌≡◌, ◌≢◌, ◌↔◌, ℕ, ◌+◌, ◌<◌, ◌≤◌, Some, IsSome, List, [], ◌∷◌, length, Contains, AllPairs}
+use Rattle.grid_cells.specs.Cell.{Point}
+use Rattle.plan_table.specs.Order.{ListsAll}
+use Rattle.plan_table.specs.Route.{Fleet, position_of, last_of}
+use Rattle.where_index.specs.declared.moves.Move.{Move}
+use Rattle.where_index.specs.declared.passings.Passing.{Passing}
+
+-- the agents whose position at that time is the cell, ascending
+abbrev pub AreStandingAt : Fleet → ℕ → Point → List ℕ → Type 0
+AreStandingAt fleet time cell agents = ListsAll (λ agent. agent ∷ []) (λ agent. position_of fleet agent time ≡ Some cell) agents
+
+-- in the step that begins at that time the agent goes from the one cell to the other; a wait is no move
+pub record MovesFrom (fleet : Fleet) (time : ℕ) (from : Point) (move : Move) : Type 0 where
+  pub starts : position_of fleet move.agent time ≡ Some from
+  pub arrives : position_of fleet move.agent (time + 1) ≡ Some move.to
+  pub moves : from ≢ move.to
+
+-- the moves out of the cell in the step, by agent
+abbrev pub AreMovers : Fleet → ℕ → Point → List Move → Type 0
+AreMovers fleet time from moves = ListsAll (λ move. move.agent ∷ []) (MovesFrom fleet time from) moves
+
+-- from that time on, and no later than its last index, the agent is in the cell
+pub record Passes (fleet : Fleet) (cell : Point) (from : ℕ) (passing : Passing) : Type 0 where
+  pub not_before : from ≤ passing.time
+  pub not_after : passing.time ≤ last_of fleet passing.agent
+  pub there : position_of fleet passing.agent passing.time ≡ Some cell
+
+-- those who pass through the cell from that time on, by time, then agent
+abbrev pub ArePassing : Fleet → Point → ℕ → List Passing → Type 0
+ArePassing fleet cell from passings = ListsAll (λ passing. passing.time ∷ passing.agent ∷ []) (Passes fleet cell from) passings
+
+-- so many agents have a route
+pub record CountsAgents (fleet : Fleet) (count : ℕ) : Type 0 where
+  pub agents : List ℕ
+  pub ascending : AllPairs (λ a b. a < b) agents
+  pub exact : (agent : ℕ) → Contains agents agent ↔ IsSome (fleet agent)
+  pub many : length agents ≡ count

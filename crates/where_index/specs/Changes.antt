@@ -1,0 +1,36 @@
+-- Records over time while they are changed: words for the program's own steps (this project's choice).
+use Rattle.std.specs.Prelude.{◌≡◌, ◌↔◌, ℕ, ◌&&◌, ◌==◌, nat_lt, if◌then◌else◌, Option, Some, List, Contains}
+use Rattle.grid_cells.specs.Cell.{Point}
+use Rattle.plan_table.specs.Route.{Route}
+use Rattle.where_index.specs.declared.spots.Spot.{Spot}
+use Rattle.where_index.specs.declared.moves.Move.{Move}
+use Rattle.where_index.specs.declared.hops.Place.{Place}
+use Rattle.where_index.specs.declared.trails.Hop.{Hop}
+use Rattle.where_index.specs.Hops.{movers_in}
+use Rattle.where_index.specs.Records.{stand_at, tail_at, hop_at}
+
+-- the spots are those cells of the agents at the times
+abbrev pub HasSpots : List Spot → (ℕ → ℕ → Option Point) → Type 0
+HasSpots spots f = (s : Spot) → Contains spots s ↔ (f s.agent s.time ≡ Some s.cell)
+
+-- the moves are those of the agents at the times
+abbrev pub HasHops : List (Place × List Move) → (ℕ → ℕ → Option Hop) → Type 0
+HasHops lists f = (c : Point) (t : ℕ) (m : Move) → Contains (movers_in lists c t) m ↔ (f m.agent t ≡ Some (record { from = c; to = m.to }))
+
+-- f, but for one agent at one time
+abbrev pub set_at : {X : Type 0} → (ℕ → ℕ → X) → ℕ → ℕ → X → ℕ → ℕ → X
+set_at f agent time v a t = if (a == agent && (t == time)) then v else f a t
+
+-- f, but for one agent
+abbrev pub set_row : {X : Type 0} → (ℕ → ℕ → X) → ℕ → (ℕ → X) → ℕ → ℕ → X
+set_row f agent v a t = if a == agent then v t else f a t
+
+-- new before a time, old from it on
+abbrev pub mixed : {X : Type 0} → (ℕ → X) → (ℕ → X) → ℕ → ℕ → X
+mixed old new x t = if nat_lt t x then new t else old t
+
+-- the two routes have the same records at the time
+pub record HaveSameAt (old new : Route) (time : ℕ) : Type 0 where
+  pub stands : stand_at old time ≡ stand_at new time
+  pub tails : tail_at old time ≡ tail_at new time
+  pub hops : hop_at old.path time ≡ hop_at new.path time

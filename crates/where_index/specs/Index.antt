@@ -1,0 +1,42 @@
+-- What an index stands for: a fleet, by the records of its routes (this project's choice).
+use Rattle.std.specs.Prelude.{ℕ, ◌≤◌, ◌==◌, if◌then◌else◌, Option, List}
+use Rattle.std.specs.Option.{option_and_then}
+use Rattle.std.specs.Map.{lookup}
+use Rattle.std.specs.Ordering.{nat_cmp, is_eq}
+use Rattle.plan_table.specs.Route.{Route, Fleet, last_of}
+use Rattle.where_index.specs.declared.spots.Spot.{Spot}
+use Rattle.where_index.specs.declared.moves.Move.{Move}
+use Rattle.where_index.specs.declared.hops.Place.{Place}
+use Rattle.where_index.specs.declared.ends.End.{End}
+use Rattle.where_index.specs.Ends.{IsEndOf}
+use Rattle.where_index.specs.Records.{stand_at, tail_at, hop_at}
+use Rattle.where_index.specs.Changes.{HasSpots, HasHops}
+
+-- what an index keeps
+pub record Contents : Type 0 where
+  pub stands : List Spot
+  pub tails : List Spot
+  pub hops : List (Place × List Move)
+  pub ends : List (ℕ × End)
+  pub horizon : ℕ
+  pub touched : ℕ
+
+-- what is kept of an agent's end
+abbrev pub end_in : List (ℕ × End) → ℕ → Option End
+end_in ends agent = lookup (λ k. is_eq (nat_cmp agent k)) ends
+
+-- what the routes of a fleet have over time
+abbrev pub all_of : {X : Type 0} → (Route → ℕ → Option X) → Fleet → ℕ → ℕ → Option X
+all_of g fleet agent time = option_and_then (λ r. g r time) (fleet agent)
+
+-- the contents are the records of the fleet's routes, and nothing else
+pub record StandsFor (index : Contents) (fleet : Fleet) : Type 0 where
+  pub stands : HasSpots index.stands (all_of stand_at fleet)
+  pub tails : HasSpots index.tails (all_of tail_at fleet)
+  pub hops : HasHops index.hops (all_of (λ r. hop_at r.path) fleet)
+  pub ends : (agent : ℕ) → IsEndOf (end_in index.ends agent) (fleet agent)
+  pub horizon : (agent : ℕ) → last_of fleet agent ≤ index.horizon
+
+-- the fleet with another route for an agent, or none
+abbrev pub with_route : Fleet → ℕ → Option Route → Fleet
+with_route fleet agent r a = if a == agent then r else fleet a

@@ -1,0 +1,9 @@
+pub mod Spot
+pub mod Agents
+pub mod Moves
+pub mod Hops
+pub mod Records
+pub mod Changes
+pub mod Ends
+pub mod Index
+pub mod Asked

@@ -1,0 +1,83 @@
+ghost use Rattle.std.specs.Prelude.{◌≡◌, ◌⊎◌, ◌↔◌, ℕ, [], ◌∷◌, IfOk, OnOk, Contains};
+ghost use Rattle.std.specs.Ordering.{nat_cmp};
+ghost use Rattle.std.specs.List.Sorted.{IsStrictlySortedBy};
+ghost use Rattle.plan_table.specs.Order.{ListsAll};
+ghost use Rattle.where_index.specs.declared.passings.Passing.{Passing};
+ghost use Rattle.where_index.specs.Spot.{HasAgent, HasPassing, passing_cmp};
+
+use crate::passings::Passing;
+use crate::spots::Spot;
+use grid_cells::{Agent, List, OutOfMemory};
+use std::alloc::Global;
+use std::collections::BTreeSet;
+
+/// The agents of the spots in either list, ascending.
+pub fn agents_of(alloc: Global, stands: &[Spot], tails: &[Spot]) -> Result<List<Agent>, OutOfMemory>
+    ensures { IfOk result (ListsAll (λ a. a ∷ []) (λ a. HasAgent stands.now a ⊎ HasAgent tails.now a)) }
+{
+    let mut found = BTreeSet::new(alloc);
+    gather_agents(&mut found, stands)?;
+    gather_agents(&mut found, tails)?;
+    listed_agents(alloc, &found)
+}
+
+/// Whom the spots in either list show at which times, by time, then agent.
+pub fn passings_of(
+    alloc: Global,
+    stands: &[Spot],
+    tails: &[Spot],
+) -> Result<List<Passing>, OutOfMemory>
+    ensures { IfOk result (ListsAll (λ p. p.time ∷ p.agent ∷ []) (λ p. HasPassing stands.now p ⊎ HasPassing tails.now p)) }
+{
+    let mut found = BTreeSet::new(alloc);
+    gather_passings(&mut found, stands)?;
+    gather_passings(&mut found, tails)?;
+    listed_passings(alloc, &found)
+}
+
+// Puts the spots' agents into the set.
+fn gather_agents(found: &mut BTreeSet<Agent>, spots: &[Spot]) -> Result<(), OutOfMemory>
+    ensures { OnOk result ((a : ℕ) → Contains found.new.keys a ↔ (Contains found.old.keys a ⊎ HasAgent spots.now a)) }
+{
+    for spot in spots {
+        found.insert(spot.agent)?;
+    }
+    Ok(())
+}
+
+// Puts the spots' times and agents into the set.
+fn gather_passings(found: &mut BTreeSet<Passing>, spots: &[Spot]) -> Result<(), OutOfMemory>
+    ensures { OnOk result ((p : Passing) → Contains found.new.keys p ↔ (Contains found.old.keys p ⊎ HasPassing spots.now p)) }
+{
+    for spot in spots {
+        let (time, agent) = (spot.time, spot.agent);
+        found.insert(Passing { time, agent })?;
+    }
+    Ok(())
+}
+
+// The agents of the set, ascending.
+fn listed_agents(alloc: Global, found: &BTreeSet<Agent>) -> Result<List<Agent>, OutOfMemory>
+    ensures is { IfOk result (λ agents. agents ≡ found.now.keys) }
+    ensures ascending { IsStrictlySortedBy nat_cmp found.now.keys }
+{
+    let _len = found.len();
+    let mut agents = Vec::new(alloc);
+    for agent in found {
+        agents.push(*agent)?;
+    }
+    Ok(List::new(agents))
+}
+
+// The passings of the set, ascending.
+fn listed_passings(alloc: Global, found: &BTreeSet<Passing>) -> Result<List<Passing>, OutOfMemory>
+    ensures is { IfOk result (λ passings. passings ≡ found.now.keys) }
+    ensures ascending { IsStrictlySortedBy passing_cmp found.now.keys }
+{
+    let _len = found.len();
+    let mut passings = Vec::new(alloc);
+    for passing in found {
+        passings.push(*passing)?;
+    }
+    Ok(List::new(passings))
+}

@@ -1,0 +1,16 @@
+//! Which agents of a fleet stand and move where, kept while agents and their paths change.
+#![tactic(auto)]
+
+mod ends;
+mod gathering;
+mod hops;
+mod index;
+mod moves;
+mod passings;
+mod records;
+mod spots;
+mod trails;
+
+pub use index::WhereIndex;
+pub use moves::Move;
+pub use passings::Passing;

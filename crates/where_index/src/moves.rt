@@ -1,0 +1,83 @@
+ghost use Rattle.std.specs.Prelude.{◌≡◌, [], OnOk, IfOk, IfErr};
+ghost use Rattle.where_index.specs.Moves.{AreByAgent, HasNone, GainsMove, LosesMover, IsAt, IsGapFor};
+
+use grid_cells::{Agent, Cell, OutOfMemory};
+use smallvec::SmallVec;
+use std::alloc::Global;
+use std::marker::Model;
+
+/// A move of an agent, and the cell that it goes to.
+#[derive(Clone, Copy, Debug, Default, PartialEq, Eq, PartialOrd, Ord)]
+pub struct Move {
+    pub agent: Agent,
+    pub to: Cell,
+}
+
+/// The moves out of one cell in one step, by agent.
+#[derive(Drop)]
+pub struct MoveList {
+    moves: SmallVec<Move, 1>,
+}
+
+impl Model for MoveList {
+    ghost use Rattle.std.specs.Prelude.{List};
+    ghost use Rattle.where_index.specs.declared.moves.Move.{Move};
+    ghost use Rattle.where_index.specs.Moves.{AreByAgent};
+
+    ghost Value = { List Move };
+
+    ghost view = { λ l. l.moves.items };
+
+    ghost invariant = { λ l. AreByAgent l.moves.items };
+}
+
+impl MoveList {
+    /// No moves.
+    pub fn new(alloc: Global) -> MoveList
+        ensures { result ≡ [] }
+    {
+        MoveList {
+            moves: SmallVec::new(alloc),
+        }
+    }
+
+    /// The moves, by agent.
+    pub fn items(&self) -> &[Move]
+        ensures is { result.now ≡ self.now }
+        ensures by_agent { AreByAgent self.now }
+    {
+        self.moves.as_slice()
+    }
+
+    /// Adds the move of an agent that has none in the list.
+    pub fn add(&mut self, added: Move) -> Result<(), OutOfMemory>
+        requires { HasNone self.old added.agent }
+        ensures { OnOk result (GainsMove self.old self.new added) }
+    {
+        match place_of(self.moves.as_slice(), added.agent) {
+            Ok(_) => unreachable!(),
+            Err(at) => {
+                self.moves.insert(at, added)?;
+                Ok(())
+            }
+        }
+    }
+
+    /// Takes the agent's move out, if it has one.
+    pub fn lose(&mut self, agent: Agent)
+        ensures { LosesMover self.old self.new agent }
+    {
+        if let Ok(at) = place_of(self.moves.as_slice(), agent) {
+            self.moves.remove(at);
+        }
+    }
+}
+
+// Where the agent's move is, or where it would go.
+fn place_of(moves: &[Move], agent: Agent) -> Result<usize, usize>
+    requires { AreByAgent moves.now }
+    ensures found { IfOk result (IsAt moves.now agent) }
+    ensures absent { IfErr result (IsGapFor moves.now agent) }
+{
+    moves.binary_search_by_key(&agent, |one| one.agent)
+}

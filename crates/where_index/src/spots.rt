@@ -1,0 +1,103 @@
+ghost use Rattle.std.specs.Prelude.{◌≡◌, ◌↔◌, ℕ, ◌≤◌, [], OnOk, IfOk, Contains, IsTrue};
+ghost use Rattle.std.specs.List.{filter};
+ghost use Rattle.std.specs.BTreeMap.Range.{range_contains, IsLeBy};
+ghost use Rattle.std.specs.declared.ops.Bound.TheVariants.{Included};
+ghost use Rattle.where_index.specs.Spot.{spot, spot_cmp, Gains, Loses, AreBetween};
+
+use grid_cells::{Agent, Cell, OutOfMemory};
+use std::alloc::Global;
+use std::collections::BTreeSet;
+use std::marker::Model;
+
+/// An agent at a cell at a time. Spots compare by cell, then time, then agent.
+#[derive(Clone, Copy, Debug, PartialEq, Eq, PartialOrd, Ord)]
+pub struct Spot {
+    pub cell: Cell,
+    pub time: u32,
+    pub agent: Agent,
+}
+
+/// A set of spots.
+#[derive(Drop)]
+pub struct Spots {
+    spots: BTreeSet<Spot>,
+}
+
+impl Model for Spots {
+    ghost use Rattle.std.specs.Prelude.{List};
+    ghost use Rattle.where_index.specs.declared.spots.Spot.{Spot};
+
+    ghost Value = { List Spot };
+
+    ghost view = { λ s. s.spots.keys };
+
+    ghost use Rattle.where_index.specs.Agents.{HaveAgents};
+
+    ghost invariant = { λ s. HaveAgents s.spots.keys };
+}
+
+impl Spots {
+    pub fn new(alloc: Global) -> Spots
+        ensures { result ≡ [] }
+    {
+        Spots {
+            spots: BTreeSet::new(alloc),
+        }
+    }
+
+    pub fn add(&mut self, cell: Cell, time: u32, agent: Agent) -> Result<(), OutOfMemory>
+        ensures { OnOk result (Gains self.old self.new (spot cell time agent)) }
+    {
+        let _number = agent.number();
+        self.spots.insert(Spot { cell, time, agent })?;
+        Ok(())
+    }
+
+    pub fn has(&self, cell: Cell, time: u32, agent: Agent) -> bool
+        ensures { IsTrue result ↔ Contains self.now (spot cell time agent) }
+    {
+        self.spots.contains(&Spot { cell, time, agent })
+    }
+
+    pub fn lose(&mut self, cell: Cell, time: u32, agent: Agent)
+        ensures { Loses self.old self.new (spot cell time agent) }
+    {
+        self.spots.remove(&Spot { cell, time, agent });
+    }
+
+    /// The spots at the cell from one time to another, in order.
+    pub fn between(
+        &self,
+        alloc: Global,
+        cell: Cell,
+        from: u32,
+        to: u32,
+    ) -> Result<Vec<Spot>, OutOfMemory>
+        requires { from ≤ to }
+        ensures { IfOk result (λ found. AreBetween self.now cell from to found.items) }
+    {
+        let _spots = &self.spots;
+        let low = Spot {
+            cell,
+            time: from,
+            agent: Agent::LEAST,
+        };
+        let high = Spot {
+            cell,
+            time: to,
+            agent: Agent::GREATEST,
+        };
+        self.listed(alloc, low, high)
+    }
+
+    fn listed(&self, alloc: Global, low: Spot, high: Spot) -> Result<Vec<Spot>, OutOfMemory>
+        requires { IsLeBy spot_cmp low high }
+        ensures { IfOk result (λ v. v.items ≡ filter (range_contains spot_cmp (Included low) (Included high)) self.now) }
+    {
+        let mut found = Vec::new(alloc);
+        for spot in self.spots.range(low..=high) {
+            found.push(*spot)?;
+        }
+        Ok(found)
+    }
+}
