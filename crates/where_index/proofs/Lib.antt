@@ -7,3 +7,5 @@ pub mod Changes
 pub mod Standing
 pub mod Positions
 pub mod Gathered
+pub mod FixedFleet
+pub mod Counting

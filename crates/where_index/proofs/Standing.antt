@@ -19,7 +19,7 @@ use Rattle.where_index.proofs.Sets.{tied_or_not}
 use Rattle.where_index.proofs.Changes.{HasSpots-ext, HasHops-ext, row_cases}
 
 -- ---- no records after the end
-past : (path : List Point) (t : ℕ) → length path ≤ t → slice_get path t ≡ None
+pub past : (path : List Point) (t : ℕ) → length path ≤ t → slice_get path t ≡ None
 past [] t h = refl
 past (x ∷ path) zero h = absurd (omega arith)
 past (x ∷ path) (suc t) h = past path t (omega arith)
@@ -127,12 +127,12 @@ early_place r t h = go r.leaves refl where
       let late : nat_lt (last_index r.path) t ≡ false = grind (arith, nat_tests) in
       ap (λ b. cond (b && nat_lt (last_index r.path) t) None (place r.path t)) e ∙ (ap (λ b. cond b None (place r.path t)) late ∙ ap (slice_get r.path) {x = min t (last_index r.path)} (omega arith))
 
-early_stand : (r : Route) (t : ℕ) → t + 1 < length r.path → stand_at r t ≡ slice_get r.path t
+pub early_stand : (r : Route) (t : ℕ) → t + 1 < length r.path → stand_at r t ≡ slice_get r.path t
 early_stand r t h =
     let early : nat_lt (t + 1) (length r.path) ≡ true = grind (arith, nat_tests) in
     ap (λ b. cond (b || (r.leaves && (t + 1 == length r.path))) (slice_get r.path t) None) early
 
-early_rest : (r : Route) (t : ℕ) → t + 1 < length r.path → tail_at r t ≡ None
+pub early_rest : (r : Route) (t : ℕ) → t + 1 < length r.path → tail_at r t ≡ None
 early_rest r t h = go (not r.leaves) where
   go : (v : Bool) → cond (v && (t + 1 == length r.path)) (slice_get r.path t) None ≡ None
   go false = refl

@@ -7,3 +7,5 @@ pub mod Changes
 pub mod Ends
 pub mod Index
 pub mod Asked
+pub mod Counted
+pub mod Laws

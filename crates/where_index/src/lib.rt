@@ -5,6 +5,7 @@ mod ends;
 mod gathering;
 mod hops;
 mod index;
+mod laws;
 mod moves;
 mod passings;
 mod records;
@@ -12,5 +13,6 @@ mod spots;
 mod trails;
 
 pub use index::WhereIndex;
+pub use laws::{one_fleet, records_are_counted};
 pub use moves::Move;
 pub use passings::Passing;

@@ -1,0 +1,78 @@
+-- What an index keeps fixes its fleet.
+use Rattle.std.proofs.Common.{◌≡◌, ◌⊎◌, inl, inr, ℕ, ◌+◌, ◌-◌, ◌<◌, ◌≤◌, List, length, slice_get, get_or, Contains, Option, Some, None, Bool, true, false, cond, not, nat_lt, ◌&&◌, ◌||◌, ◌==◌, refl, sym, ap, ◌∙◌, subst, arith}
+use Rattle.std.specs.Option.{option_and_then, unwrap_or}
+use Rattle.std.proofs.lemmas.Bool.Decides.{nat_tests}
+use Rattle.std.proofs.lemmas.List.{same_lists}
+use Rattle.std.proofs.lemmas.Option.{slice_get_within, unwrap_or-slice_get}
+use Rattle.grid_cells.specs.Cell.{Point}
+use Rattle.plan_table.specs.Path.{last_index}
+use Rattle.plan_table.specs.Route.{Route, Fleet, position}
+use Rattle.where_index.specs.declared.spots.Spot.{Spot}
+use Rattle.where_index.specs.declared.ends.End.{End}
+use Rattle.where_index.specs.Spot.{spot}
+use Rattle.where_index.specs.Records.{stand_at, tail_at}
+use Rattle.where_index.specs.Changes.{HasSpots}
+use Rattle.where_index.specs.Ends.{IsEndOf}
+use Rattle.where_index.specs.Index.{all_of}
+use Rattle.where_index.specs.Laws.{OneFleet}
+use Rattle.where_index.proofs.Standing.{past, early_stand}
+
+-- an option is fixed by the values that it can be
+same_option : {X : Type 0} (o p : Option X) → ((x : X) → o ≡ Some x → p ≡ Some x) → ((x : X) → p ≡ Some x → o ≡ Some x) → o ≡ p
+same_option None None there back = refl
+same_option None (Some y) there back = back y refl
+same_option (Some x) p there back = sym (there x refl)
+
+same_spots : (spots : List Spot) (f g : ℕ → ℕ → Option Point) → HasSpots spots f → HasSpots spots g → (a t : ℕ) → f a t ≡ g a t
+same_spots spots f g has_f has_g a t = same_option (f a t) (g a t) (λ c h. (has_g (spot c t a)).0 ((has_f (spot c t a)).1 h)) (λ c h. (has_f (spot c t a)).0 ((has_g (spot c t a)).1 h))
+
+ends_or : (n t : ℕ) → (t + 1 < n) ⊎ ((t + 1 ≡ n) ⊎ (n ≤ t))
+ends_or n t = grind arith
+
+-- at the last index one of the two records has the cell
+stand_last : (r : Route) (t : ℕ) → r.leaves ≡ true → t + 1 ≡ length r.path → stand_at r t ≡ slice_get r.path t
+stand_last r t leaves end =
+    let test : (t + 1 == length r.path) ≡ true = grind (arith, nat_tests) in
+    let more : nat_lt (t + 1) (length r.path) ≡ false = grind (arith, nat_tests) in
+    ap (λ b. cond (b || (r.leaves && (t + 1 == length r.path))) (slice_get r.path t) None) more ∙ (ap (λ b. cond (b && (t + 1 == length r.path)) (slice_get r.path t) None) leaves ∙ ap (λ b. cond b (slice_get r.path t) None) test)
+
+tail_last : (r : Route) (t : ℕ) → r.leaves ≡ false → t + 1 ≡ length r.path → tail_at r t ≡ slice_get r.path t
+tail_last r t leaves end =
+    let test : (t + 1 == length r.path) ≡ true = grind (arith, nat_tests) in
+    ap (λ b. cond (not b && (t + 1 == length r.path)) (slice_get r.path t) None) leaves ∙ ap (λ b. cond b (slice_get r.path t) None) test
+
+same_cell : (r q : Route) (t : ℕ) → length r.path ≡ length q.path → r.leaves ≡ q.leaves → stand_at r t ≡ stand_at q t → tail_at r t ≡ tail_at q t → slice_get r.path t ≡ slice_get q.path t
+same_cell r q t long leaves stands tails = elim (ends_or (length r.path) t) [
+    | inl early ↦ sym (early_stand r t early) ∙ (stands ∙ early_stand q t (omega (arith, early, long)))
+    | inr more ↦ elim more [
+      | inl end ↦ at_end r.leaves refl end
+      | inr late ↦ past r.path t late ∙ sym (past q.path t (omega (arith, late, long)))
+    ]
+  ] where
+  at_end : (v : Bool) → r.leaves ≡ v → t + 1 ≡ length r.path → slice_get r.path t ≡ slice_get q.path t
+  at_end true is end = sym (stand_last r t is end) ∙ (stands ∙ stand_last q t (sym leaves ∙ is) (end ∙ long))
+  at_end false is end = sym (tail_last r t is end) ∙ (tails ∙ tail_last q t (sym leaves ∙ is) (end ∙ long))
+
+same_path : (xs ys : List Point) → length xs ≡ length ys → ((k : ℕ) → slice_get xs k ≡ slice_get ys k) → xs ≡ ys
+same_path xs ys long same = same_lists xs ys long (λ k d h. sym (unwrap_or-slice_get xs k d) ∙ (ap (λ o. unwrap_or o d) (same k) ∙ unwrap_or-slice_get ys k d))
+
+one_route : (end : Option End) (o p : Option Route) → IsEndOf end o → IsEndOf end p → ((t : ℕ) → option_and_then (λ r. stand_at r t) o ≡ option_and_then (λ r. stand_at r t) p) → ((t : ℕ) → option_and_then (λ r. tail_at r t) o ≡ option_and_then (λ r. tail_at r t) p) → o ≡ p
+one_route None None None a b stands tails = refl
+one_route None None (Some q) a b stands tails = absurd b
+one_route None (Some r) p a b stands tails = absurd a
+one_route (Some end) None p a b stands tails = absurd a
+one_route (Some end) (Some r) None a b stands tails = absurd b
+one_route (Some end) (Some r) (Some q) a b stands tails =
+    let some_r = slice_get_within r.path (last_index r.path) end.cell a.cell in
+    let some_q = slice_get_within q.path (last_index q.path) end.cell b.cell in
+    let long : length r.path ≡ length q.path = omega (arith, a.last, b.last, some_r, some_q) in
+    let leaves : r.leaves ≡ q.leaves = sym a.leaves ∙ b.leaves in
+    let paths : r.path ≡ q.path = same_path r.path q.path long (λ k. same_cell r q k long leaves (stands k) (tails k)) in
+    λ i. Some (record { path = paths i; leaves = leaves i })
+
+pub one_fleet : OneFleet
+one_fleet index one two has also agent =
+    let route : one agent ≡ two agent = one_route _ (one agent) (two agent) (has.ends agent) (also.ends agent)
+      (λ t. same_spots index.stands (all_of stand_at one) (all_of stand_at two) has.stands also.stands agent t)
+      (λ t. same_spots index.tails (all_of tail_at one) (all_of tail_at two) has.tails also.tails agent t) in
+    (route, λ time. ap (λ o. option_and_then (λ r. position r time) o) route)
