@@ -30,11 +30,11 @@ once_both : (xs ys : List Record) → Once xs → Once ys → ((a b : Record) �
 once_both [] ys once also apart = also
 once_both (x ∷ xs) ys once also apart =
     once_more x (xs ++ ys)
-      (λ q h. elim (Contains-append_cases xs ys q h) [
-        | inl first ↦ AllPairs-head (λ (a b : Record). a ≢ b) x xs once q first
-        | inr later ↦ apart x q (Contains-head x xs) later
-      ])
-      (once_both xs ys (AllPairs-tail (λ (a b : Record). a ≢ b) x xs once) also (λ a b h g. apart a b (Contains-tail x xs a h) g))
+    (λ q h. elim (Contains-append_cases xs ys q h) [
+      | inl first ↦ AllPairs-head (λ (a b : Record). a ≢ b) x xs once q first
+      | inr later ↦ apart x q (Contains-head x xs) later
+    ])
+    (once_both xs ys (AllPairs-tail (λ (a b : Record). a ≢ b) x xs once) also (λ a b h g. apart a b (Contains-tail x xs a h) g))
 
 -- exactly one of the two is the value
 abbrev OneIs : {X : Type 0} → Option X → Option X → X → Type 0
@@ -55,31 +55,33 @@ module _ {X : Type 0} (mk : ℕ → X → Record) (times : (t s : ℕ) (v w : X)
 
   only_shows : (t : ℕ) (o n : Option X) (r : Record) → Contains (only t o n) r ↔ Shows t o n r
   unfolding only
-  only_shows t None None r = ((λ h. absurd (Contains-nil r h)), (λ h. elim h.2 [ | inl a ↦ let w = a.0 in absurd (cc) | inr b ↦ let w = b.0 in absurd (cc) ]))
-  only_shows t None (Some b) r =
-      ((λ h. elim (Contains-cons_cases (mk t b) [] r h) [
-        | inl is ↦ (b, sym is, inr (refl, λ e. cc))
-        | inr more ↦ absurd (Contains-nil r more)
-      ]),
-      (λ h. elim h.2 [
-        | inl a ↦ let w = a.0 in absurd (cc)
-        | inr a ↦
-            let w : Some b ≡ Some h.0 = a.0 in
-            let v : b ≡ h.0 = cc in
-            subst (λ q. Contains (mk t b ∷ []) q) (ap (mk t) v ∙ sym h.1) (Contains-head (mk t b) [])
-      ]))
-  only_shows t (Some a) None r =
-      ((λ h. elim (Contains-cons_cases (mk t a) [] r h) [
-        | inl is ↦ (a, sym is, inl (refl, λ e. cc))
-        | inr more ↦ absurd (Contains-nil r more)
-      ]),
-      (λ h. elim h.2 [
-        | inl b ↦
-            let w : Some a ≡ Some h.0 = b.0 in
-            let v : a ≡ h.0 = cc in
-            subst (λ q. Contains (mk t a ∷ []) q) (ap (mk t) v ∙ sym h.1) (Contains-head (mk t a) [])
-        | inr b ↦ let w = b.0 in absurd (cc)
-      ]))
+  only_shows t None None r = ((λ h. absurd (Contains-nil r h)), (λ h. elim h.2 [ inl a ↦ let w = a.0 in absurd (cc) | inr b ↦ let w = b.0 in absurd (cc) ]))
+  only_shows t None (Some b) r = (
+    (λ h. elim (Contains-cons_cases (mk t b) [] r h) [
+      | inl is ↦ (b, sym is, inr (refl, λ e. cc))
+      | inr more ↦ absurd (Contains-nil r more)
+    ]),
+    (λ h. elim h.2 [
+      | inl a ↦ let w = a.0 in absurd (cc)
+      | inr a ↦
+          let w : Some b ≡ Some h.0 = a.0 in
+          let v : b ≡ h.0 = cc in
+          subst (λ q. Contains (mk t b ∷ []) q) (ap (mk t) v ∙ sym h.1) (Contains-head (mk t b) [])
+    ]),
+  )
+  only_shows t (Some a) None r = (
+    (λ h. elim (Contains-cons_cases (mk t a) [] r h) [
+      | inl is ↦ (a, sym is, inl (refl, λ e. cc))
+      | inr more ↦ absurd (Contains-nil r more)
+    ]),
+    (λ h. elim h.2 [
+      | inl b ↦
+          let w : Some a ≡ Some h.0 = b.0 in
+          let v : a ≡ h.0 = cc in
+          subst (λ q. Contains (mk t a ∷ []) q) (ap (mk t) v ∙ sym h.1) (Contains-head (mk t a) [])
+      | inr b ↦ let w = b.0 in absurd (cc)
+    ]),
+  )
   only_shows t (Some a) (Some b) r = go (same a b) refl where
     apart : same a b ≡ false → a ≡ b → ⊥
     apart e is =
@@ -88,30 +90,32 @@ module _ {X : Type 0} (mk : ℕ → X → Record) (times : (t s : ℕ) (v w : X)
 
     go : (v : Bool) → same a b ≡ v → Contains (cond v [] (mk t a ∷ mk t b ∷ [])) r ↔ Shows t (Some a) (Some b) r
     go true e =
-        let is = one a b e in
-        ((λ h. absurd (Contains-nil r h)),
-        (λ h. elim h.2 [
-          | inl f ↦ absurd (f.1 (ap (λ (q : X). Some q) (sym is) ∙ f.0))
-          | inr f ↦ absurd (f.1 (ap (λ (q : X). Some q) is ∙ f.0))
-        ]))
-    go false e =
-        ((λ h. elim (Contains-cons_cases (mk t a) (mk t b ∷ []) r h) [
-          | inl is ↦ (a, sym is, inl (refl, λ w. let v : b ≡ a = cc in apart e (sym v)))
-          | inr more ↦ elim (Contains-cons_cases (mk t b) [] r more) [
-            | inl is ↦ (b, sym is, inr (refl, λ w. let v : a ≡ b = cc in apart e v))
-            | inr none ↦ absurd (Contains-nil r none)
-          ]
-        ]),
-        (λ h. elim h.2 [
-          | inl f ↦
-              let w : Some a ≡ Some h.0 = f.0 in
-              let v : a ≡ h.0 = cc in
-              subst (λ q. Contains (mk t a ∷ mk t b ∷ []) q) (ap (mk t) v ∙ sym h.1) (Contains-head (mk t a) (mk t b ∷ []))
-          | inr f ↦
-              let w : Some b ≡ Some h.0 = f.0 in
-              let v : b ≡ h.0 = cc in
-              subst (λ q. Contains (mk t a ∷ mk t b ∷ []) q) (ap (mk t) v ∙ sym h.1) (Contains-tail (mk t a) (mk t b ∷ []) (mk t b) (Contains-head (mk t b) []))
-        ]))
+        let is = one a b e in (
+          (λ h. absurd (Contains-nil r h)),
+          (λ h. elim h.2 [
+            | inl f ↦ absurd (f.1 (ap (λ (q : X). Some q) (sym is) ∙ f.0))
+            | inr f ↦ absurd (f.1 (ap (λ (q : X). Some q) is ∙ f.0))
+          ]),
+        )
+    go false e = (
+      (λ h. elim (Contains-cons_cases (mk t a) (mk t b ∷ []) r h) [
+        | inl is ↦ (a, sym is, inl (refl, λ w. let v : b ≡ a = cc in apart e (sym v)))
+        | inr more ↦ elim (Contains-cons_cases (mk t b) [] r more) [
+          | inl is ↦ (b, sym is, inr (refl, λ w. let v : a ≡ b = cc in apart e v))
+          | inr none ↦ absurd (Contains-nil r none)
+        ]
+      ]),
+      (λ h. elim h.2 [
+        | inl f ↦
+            let w : Some a ≡ Some h.0 = f.0 in
+            let v : a ≡ h.0 = cc in
+            subst (λ q. Contains (mk t a ∷ mk t b ∷ []) q) (ap (mk t) v ∙ sym h.1) (Contains-head (mk t a) (mk t b ∷ []))
+        | inr f ↦
+            let w : Some b ≡ Some h.0 = f.0 in
+            let v : b ≡ h.0 = cc in
+            subst (λ q. Contains (mk t a ∷ mk t b ∷ []) q) (ap (mk t) v ∙ sym h.1) (Contains-tail (mk t a) (mk t b ∷ []) (mk t b) (Contains-head (mk t b) []))
+      ]),
+    )
 
   only_once : (t : ℕ) (o n : Option X) → Once (only t o n)
   unfolding only
@@ -122,14 +126,14 @@ module _ {X : Type 0} (mk : ℕ → X → Record) (times : (t s : ℕ) (v w : X)
     go : (v : Bool) → same a b ≡ v → Once (cond v [] (mk t a ∷ mk t b ∷ []))
     go true e = once_none
     go false e = once_more (mk t a) (mk t b ∷ [])
-      (λ q h is. elim (Contains-cons_cases (mk t b) [] q h) [
-        | inl there ↦
-            let v : a ≡ b = values t t a b (is ∙ sym there) in
-            let wrong : true ≡ false = sym (two a) ∙ (ap (same a) v ∙ e) in
-            cc
-        | inr none ↦ Contains-nil q none
-      ])
-      (once_more (mk t b) [] (λ q h. absurd (Contains-nil q h)) once_none)
+        (λ q h is. elim (Contains-cons_cases (mk t b) [] q h) [
+          | inl there ↦
+              let v : a ≡ b = values t t a b (is ∙ sym there) in
+              let wrong : true ≡ false = sym (two a) ∙ (ap (same a) v ∙ e) in
+              cc
+          | inr none ↦ Contains-nil q none
+        ])
+        (once_more (mk t b) [] (λ q h. absurd (Contains-nil q h)) once_none)
 
   module _ (o n : ℕ → Option X) where
     below : ℕ → List Record
@@ -141,23 +145,24 @@ module _ {X : Type 0} (mk : ℕ → X → Record) (times : (t s : ℕ) (v w : X)
     below_shows zero r = ((λ h. absurd (Contains-nil r h)), (λ h. absurd (omega (arith, h.1))))
     below_shows (suc x) r =
         let before = below_shows x r in
-        let now = only_shows x (o x) (n x) r in
-        ((λ h. elim (Contains-append_cases (below x) (only x (o x) (n x)) r h) [
-          | inl first ↦ let w = before.0 first in (w.0, omega (arith, w.1), w.2)
-          | inr here ↦ (x, omega arith, now.0 here)
-        ]),
-        (λ h. elim (earlier h.0 x h.1) [
-          | inl lt ↦ Contains-append_left (below x) (only x (o x) (n x)) r (before.1 (h.0, lt, h.2))
-          | inr is ↦ Contains-append_right (below x) (only x (o x) (n x)) r (now.1 (subst (λ q. Shows q (o q) (n q) r) is h.2))
-        ])) where
-      earlier : (t y : ℕ) → t < suc y → (t < y) ⊎ (t ≡ y)
-      earlier t y h = grind arith
+        let now = only_shows x (o x) (n x) r in (
+          (λ h. elim (Contains-append_cases (below x) (only x (o x) (n x)) r h) [
+            | inl first ↦ let w = before.0 first in (w.0, omega (arith, w.1), w.2)
+            | inr here ↦ (x, omega arith, now.0 here)
+          ]),
+          (λ h. elim (earlier h.0 x h.1) [
+            | inl lt ↦ Contains-append_left (below x) (only x (o x) (n x)) r (before.1 (h.0, lt, h.2))
+            | inr is ↦ Contains-append_right (below x) (only x (o x) (n x)) r (now.1 (subst (λ q. Shows q (o q) (n q) r) is h.2))
+          ]),
+        ) where
+          earlier : (t y : ℕ) → t < suc y → (t < y) ⊎ (t ≡ y)
+          earlier t y h = grind arith
 
     below_once : (x : ℕ) → Once (below x)
     unfolding below
     below_once zero = once_none
     below_once (suc x) = once_both (below x) (only x (o x) (n x)) (below_once x) (only_once x (o x) (n x))
-      (λ a b h g is.
+        (λ a b h g is.
         let first = (below_shows x a).0 h in
         let here = (only_shows x (o x) (n x) b).0 g in
         let wrong : first.0 ≡ x = times first.0 x first.2.0 here.0 (sym first.2.1 ∙ (is ∙ here.1)) in
@@ -277,12 +282,12 @@ module _ (old new : Route) where
 
   in_time : {X : Type 0} (o n : ℕ → Option X) → ((t : ℕ) → until ≤ t → o t ≡ None) → ((t : ℕ) → until ≤ t → n t ≡ None) → (t : ℕ) (v : X) → OneIs (o t) (n t) v → t < until
   in_time o n no_o no_n t v h = elim (early_or_late t until) [
-      | inl early ↦ early
-      | inr late ↦ elim h [
-        | inl a ↦ let gone = no_o t late in let is = a.0 in absurd (cc)
-        | inr b ↦ let gone = no_n t late in let is = b.0 in absurd (cc)
-      ]
-    ] where
+    | inl early ↦ early
+    | inr late ↦ elim h [
+      | inl a ↦ let gone = no_o t late in let is = a.0 in absurd (cc)
+      | inr b ↦ let gone = no_n t late in let is = b.0 in absurd (cc)
+    ]
+  ] where
     early_or_late : (a b : ℕ) → (a < b) ⊎ (b ≤ a)
     early_or_late a b = grind arith
 
@@ -296,22 +301,22 @@ module _ (old new : Route) where
 
   listed : (r : Record) → TellsApart old new r → Contains (stands ++ (tails ++ moves)) r
   listed (Stand t c) h = Contains-append_left stands (tails ++ moves) (Stand t c)
-    ((stands_show (Stand t c)).1 (t, in_time (stand_at old) (stand_at new) (λ x l. stand_past old x (late_old x l)) (λ x l. stand_past new x (late_new x l)) t c h, (c, refl, h)))
+      ((stands_show (Stand t c)).1 (t, in_time (stand_at old) (stand_at new) (λ x l. stand_past old x (late_old x l)) (λ x l. stand_past new x (late_new x l)) t c h, (c, refl, h)))
   listed (Tail t c) h = Contains-append_right stands (tails ++ moves) (Tail t c) (Contains-append_left tails moves (Tail t c)
-    ((tails_show (Tail t c)).1 (t, in_time (tail_at old) (tail_at new) (λ x l. rest_past old x (late_old x l)) (λ x l. rest_past new x (late_new x l)) t c h, (c, refl, h))))
+      ((tails_show (Tail t c)).1 (t, in_time (tail_at old) (tail_at new) (λ x l. rest_past old x (late_old x l)) (λ x l. rest_past new x (late_new x l)) t c h, (c, refl, h))))
   listed (Move t a b) h =
-    let hop : Hop = record { from = a; to = b } in
-    Contains-append_right stands (tails ++ moves) (Move t a b) (Contains-append_right tails moves (Move t a b)
+      let hop : Hop = record { from = a; to = b } in
+      Contains-append_right stands (tails ++ moves) (Move t a b) (Contains-append_right tails moves (Move t a b)
       ((moves_show (Move t a b)).1 (t, in_time (hop_at old.path) (hop_at new.path) (λ x l. hop_past old.path x (late_old x l)) (λ x l. hop_past new.path x (late_new x l)) t hop h, (hop, refl, h))))
 
   tells : (r : Record) → Contains (stands ++ (tails ++ moves)) r → TellsApart old new r
   tells r h = elim (Contains-append_cases stands (tails ++ moves) r h) [
-      | inl s ↦ let w = (stands_show r).0 s in subst (TellsApart old new) (sym w.2.1) w.2.2
-      | inr more ↦ elim (Contains-append_cases tails moves r more) [
-        | inl s ↦ let w = (tails_show r).0 s in subst (TellsApart old new) (sym w.2.1) w.2.2
-        | inr s ↦ let w = (moves_show r).0 s in subst (TellsApart old new) (sym w.2.1) w.2.2
-      ]
+    | inl s ↦ let w = (stands_show r).0 s in subst (TellsApart old new) (sym w.2.1) w.2.2
+    | inr more ↦ elim (Contains-append_cases tails moves r more) [
+      | inl s ↦ let w = (tails_show r).0 s in subst (TellsApart old new) (sym w.2.1) w.2.2
+      | inr s ↦ let w = (moves_show r).0 s in subst (TellsApart old new) (sym w.2.1) w.2.2
     ]
+  ]
 
   stands_once : Once stands
   unfolding stands
@@ -338,17 +343,17 @@ module _ (old new : Route) where
 
     apart : (a b : Record) → Contains tails a → Contains moves b → a ≢ b
     apart a b h g is =
-      let x = (tails_show a).0 h in
-      let y = (moves_show b).0 g in
-      tail_move x.0 y.0 x.2.0 y.2.0 (sym x.2.1 ∙ (is ∙ y.2.1))
+        let x = (tails_show a).0 h in
+        let y = (moves_show b).0 g in
+        tail_move x.0 y.0 x.2.0 y.2.0 (sym x.2.1 ∙ (is ∙ y.2.1))
 
     others : (a b : Record) → Contains stands a → Contains (tails ++ moves) b → a ≢ b
     others a b h g is =
-      let x = (stands_show a).0 h in
-      elim (Contains-append_cases tails moves b g) [
-        | inl s ↦ let y = (tails_show b).0 s in stand_tail x.0 y.0 x.2.0 y.2.0 (sym x.2.1 ∙ (is ∙ y.2.1))
-        | inr s ↦ let y = (moves_show b).0 s in stand_move x.0 y.0 x.2.0 y.2.0 (sym x.2.1 ∙ (is ∙ y.2.1))
-      ]
+        let x = (stands_show a).0 h in
+        elim (Contains-append_cases tails moves b g) [
+          | inl s ↦ let y = (tails_show b).0 s in stand_tail x.0 y.0 x.2.0 y.2.0 (sym x.2.1 ∙ (is ∙ y.2.1))
+          | inr s ↦ let y = (moves_show b).0 s in stand_move x.0 y.0 x.2.0 y.2.0 (sym x.2.1 ∙ (is ∙ y.2.1))
+        ]
 
   all_length : length (stands ++ (tails ++ moves)) ≡ records_apart old new
   unfolding stands tails moves until
@@ -361,7 +366,8 @@ module _ (old new : Route) where
       omega (arith, a, b, d, sum, rest)
 
 pub records_are_counted : RecordsAreCounted
-records_are_counted old new =
-    (stands old new ++ (tails old new ++ moves old new),
-    record { each_once = all_once old new; exact = λ r. (tells old new r, listed old new r) },
-    all_length old new)
+records_are_counted old new = (
+  stands old new ++ (tails old new ++ moves old new),
+  record { each_once = all_once old new; exact = λ r. (tells old new r, listed old new r) },
+  all_length old new,
+)

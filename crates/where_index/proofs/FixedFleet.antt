@@ -43,12 +43,12 @@ tail_last r t leaves end =
 
 same_cell : (r q : Route) (t : ℕ) → length r.path ≡ length q.path → r.leaves ≡ q.leaves → stand_at r t ≡ stand_at q t → tail_at r t ≡ tail_at q t → slice_get r.path t ≡ slice_get q.path t
 same_cell r q t long leaves stands tails = elim (ends_or (length r.path) t) [
-    | inl early ↦ sym (early_stand r t early) ∙ (stands ∙ early_stand q t (omega (arith, early, long)))
-    | inr more ↦ elim more [
-      | inl end ↦ at_end r.leaves refl end
-      | inr late ↦ past r.path t late ∙ sym (past q.path t (omega (arith, late, long)))
-    ]
-  ] where
+  | inl early ↦ sym (early_stand r t early) ∙ (stands ∙ early_stand q t (omega (arith, early, long)))
+  | inr more ↦ elim more [
+    | inl end ↦ at_end r.leaves refl end
+    | inr late ↦ past r.path t late ∙ sym (past q.path t (omega (arith, late, long)))
+  ]
+] where
   at_end : (v : Bool) → r.leaves ≡ v → t + 1 ≡ length r.path → slice_get r.path t ≡ slice_get q.path t
   at_end true is end = sym (stand_last r t is end) ∙ (stands ∙ stand_last q t (sym leaves ∙ is) (end ∙ long))
   at_end false is end = sym (tail_last r t is end) ∙ (tails ∙ tail_last q t (sym leaves ∙ is) (end ∙ long))
@@ -73,6 +73,6 @@ one_route (Some end) (Some r) (Some q) a b stands tails =
 pub one_fleet : OneFleet
 one_fleet index one two has also agent =
     let route : one agent ≡ two agent = one_route _ (one agent) (two agent) (has.ends agent) (also.ends agent)
-      (λ t. same_spots index.stands (all_of stand_at one) (all_of stand_at two) has.stands also.stands agent t)
-      (λ t. same_spots index.tails (all_of tail_at one) (all_of tail_at two) has.tails also.tails agent t) in
+    (λ t. same_spots index.stands (all_of stand_at one) (all_of stand_at two) has.stands also.stands agent t)
+    (λ t. same_spots index.tails (all_of tail_at one) (all_of tail_at two) has.tails also.tails agent t) in
     (route, λ time. ap (λ o. option_and_then (λ r. position r time) o) route)
