@@ -1,0 +1,6 @@
+pub mod Journals
+pub mod Beginnings
+pub mod Unused
+pub mod Kept
+pub mod Views
+pub mod Told

@@ -1,0 +1,28 @@
+use Rattle.std.proofs.Common.{sym, ap, ◌∙◌, subst, Ok}
+use Rattle.desk_core.specs.State.{DeskState, grown}
+use Rattle.desk_core.specs.Commits.{Accepts}
+use Rattle.desk_shared.specs.Passes.{PassState}
+use Rattle.desk_shared.specs.Calls.{CommitsBy}
+use Rattle.desk_shared.specs.Turns.{shown}
+use Rattle.desk_shared.proofs.Told.{commits, ends_with}
+use Rattle.desk_shared.proofs.sharing.SharedDesk.commit.Goals as goal
+
+pub grow-requires-clause-ready : goal.grow-requires-clause-ready
+grow-requires-clause-ready g c = let won = c.win-desk.ensures.won in let at = c.win-desk.ensures.desk in let did = c.in-Ok.ensures in (
+  (ap (λ m. m.0.live) won ∙ c.pass.invariant.2, ap (λ m. m.0.stage) won, ap (λ m. m.1) won),
+  (
+    c.args.commit,
+    subst (λ (z : DeskState). Accepts z c.args.commit) at did.0,
+    c.requires.planner ∙ (sym (ap (λ h. h.known.planner) c.pass.view_is) ∙ sym (ap (λ m. m.0.planner) won)),
+    did.2 ∙ ap (λ (z : DeskState). grown z c.args.commit) at,
+  ),
+)
+
+pub returns-in-Ok-clause-answer : goal.returns-in-Ok-clause-answer
+returns-in-Ok-clause-answer g c = let k = c.pass.inside.place.me.0 in let is = ap (λ h. h.known) c.pass.view_is in
+    subst (λ (z : PassState). CommitsBy z c.args.commit (Ok c.in-Ok.version) (shown c.grow.new.place.me.0)) is
+    (commits k c.win-desk.new.place.me.0 c.grow.new.place.me.0 c.args.commit c.in-Ok.version c.win-desk.result c.commit.new.self c.win-desk.ensures.found (ap (λ m. m.0) c.win-desk.ensures.won) c.win-desk.ensures.desk c.in-Ok.ensures
+    (c.requires.planner ∙ sym (ap (λ h. h.known.planner) c.pass.view_is)) (ap (λ m. m.0) c.grow.ensures.grown))
+
+pub returns-in-Ok-clause-last : goal.returns-in-Ok-clause-last
+returns-in-Ok-clause-last g c = ends_with c.args.pass.now.known (shown c.grow.new.place.me.0) c.args.commit c.in-Ok.version (returns-in-Ok-clause-answer g c)

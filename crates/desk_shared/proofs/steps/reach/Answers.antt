@@ -1,0 +1,6 @@
+use Rattle.std.proofs.Common.{rules}
+use Rattle.desk_shared.proofs.Kept.{reaches}
+use Rattle.desk_shared.proofs.steps.reach.Goals as goal
+
+pub load-requires : goal.load-requires
+load-requires c = (search rules, search rules, reaches _ _ _ _ c.requires.ready.1 c.requires.ready.2)

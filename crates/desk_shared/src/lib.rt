@@ -1,0 +1,14 @@
+//! A desk that several planners use, in threads of their own, each with a pass.
+#![tactic(auto)]
+
+mod board;
+mod faults;
+mod numbers;
+mod passes;
+mod plays;
+mod sharing;
+mod steps;
+
+pub use faults::{MOST_PLANNERS, PassLost, ShareFault, SplitFault};
+pub use passes::Pass;
+pub use sharing::SharedDesk;

@@ -1,0 +1,36 @@
+ghost use Rattle.std.specs.Prelude.{◌≡◌};
+
+use crate::board::Place;
+use grid_cells::Planner;
+use std::marker::Model;
+
+/// What one planner uses a shared desk with. It remembers what it has seen of the journal.
+#[derive(Drop)]
+pub struct Pass {
+    pub(crate) place: Place,
+    pub(crate) planner: Planner,
+    pub(crate) unused: [bool; 256],
+}
+
+impl Model for Pass {
+    ghost use Rattle.desk_shared.specs.Passes.{Held};
+
+    ghost Value = { Held };
+
+    ghost use Rattle.std.specs.Prelude.{◌≡◌, [], true};
+    ghost use Rattle.desk_shared.specs.Turns.{shown};
+    ghost use Rattle.desk_shared.specs.declared.board.Stage.TheVariants.{Idle};
+
+    ghost view = { λ p. record { table_id = p.place.table_id; known = shown p.place.me.0 } };
+
+    ghost invariant = { λ p. (p.place.me.1 ≡ []) × (p.place.me.0.stage ≡ Idle) × (p.place.me.0.live ≡ true) × (p.place.me.0.planner ≡ p.planner) × (p.place.me.0.unused ≡ p.unused) };
+}
+
+impl Pass {
+    /// The planner whose pass it is.
+    pub fn planner(&self) -> Planner
+        ensures { result ≡ self.now.known.planner }
+    {
+        self.planner
+    }
+}

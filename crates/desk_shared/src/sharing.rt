@@ -1,0 +1,250 @@
+ghost use Rattle.std.specs.Prelude.{◌≡◌, true, IfOk, IfErr};
+ghost use Rattle.desk_core.specs.Questions.{Shows, Tells, Copies};
+ghost use Rattle.desk_shared.specs.Passes.{Owns};
+ghost use Rattle.desk_shared.specs.declared.faults.SplitFault.TheVariants.{PassesFull};
+ghost use Rattle.desk_shared.specs.Calls.{MayShare, Unshared, IsFirst, CommitsBy, IsLastSeen, AsksBy, IsFront, KeepsNone, IsSplit, IsJoined, IsClosed};
+
+use crate::board::{About, Top};
+use crate::faults::{MOST_PLANNERS, PassLost, ShareFault, SplitFault};
+use crate::numbers::{least, merge, numbers_to};
+use crate::passes::Pass;
+use crate::plays::{Aside, Compare, Front, Give, Merge};
+use crate::steps::{free, grow, reach, win};
+use atomic_table::Table;
+use desk_core::{AskFault, Commit, Desk, Reading, Refusal, Snapshot};
+use grid_cells::{Agent, Cell, OutOfMemory, Planner};
+use std::alloc::{AllocError, Global};
+use std::marker::Model;
+use std::snapshot;
+use std::sync::Wait;
+
+/// A desk that several planners use, in threads of their own, each with a pass.
+///
+/// A call has the turn for one call of the desk, and gives it back whatever is answered. A thread
+/// that waits for the turn sleeps.
+#[derive(Drop)]
+pub struct SharedDesk {
+    table: Top,
+    planners: u32,
+}
+
+impl Model for SharedDesk {
+    ghost use Rattle.std.specs.Prelude.{◌≡◌};
+    ghost use Rattle.desk_shared.specs.Passes.{Sharing};
+
+    ghost Value = { Sharing };
+
+    ghost view = { λ d. record { table_id = d.table.shared.table_id; planners = d.planners } };
+
+    ghost invariant = { λ d. (d.table.shared.table_id.words ≡ 2) × (d.table.shared.table_id.slots ≡ 1) };
+}
+
+impl SharedDesk {
+    /// Shares the desk with so many planners. The first pass has number 0 and keeps the others.
+    ///
+    /// # Errors
+    ///
+    /// The planners aren't 1 to MOST_PLANNERS, or there is no memory. The desk comes back as it was.
+    pub fn open(
+        alloc: Global,
+        desk: Desk,
+        planners: u32,
+    ) -> Result<(SharedDesk, Pass), (ShareFault, Desk)>
+        ensures shared { IfOk result (λ r. MayShare planners × (r.0.planners ≡ planners)) }
+        ensures owned { IfOk result (λ r. Owns r.0 r.1) }
+        ensures first { IfOk result (λ r. IsFirst desk planners r.1.known) }
+        ensures fault { IfErr result (λ r. Unshared planners r.0) }
+        ensures handed_back { IfErr result (λ r. r.1 ≡ desk) }
+    {
+        if planners == 0 || planners > MOST_PLANNERS {
+            return Err((ShareFault::BadPlanners, desk));
+        }
+        let Some(planner) = Planner::new(0) else {
+            unreachable!()
+        };
+        let about = About {
+            start: snapshot::Snapshot::of(&desk),
+            unused: numbers_to(planners),
+        };
+        let _limit = desk.limit().entries();
+        let words = [desk.version(), 1];
+        let made: Result<(Top, _), AllocError> = Table::vacant(alloc, &words, 1, &about);
+        let Ok((table, mut place)) = made else {
+            return Err((ShareFault::OutOfMemory, desk));
+        };
+        reach(&table.shared, &mut place);
+        free(&table.shared, &mut place, desk);
+        let About { start: _, unused } = about;
+        let pass = Pass {
+            place,
+            planner,
+            unused,
+        };
+        Ok((SharedDesk { table, planners }, pass))
+    }
+
+    /// Whether the pass is of this shared desk: the condition of each call with a pass. It is
+    /// known before the program runs, so the answer is always true.
+    pub fn owns(&self, pass: &Pass) -> bool
+        requires { Owns self.now pass.now }
+        ensures { result ≡ true }
+    {
+        let _same = pass;
+        true
+    }
+
+    /// Commits at the desk, in the pass's turn, and answers the new version. It may wait.
+    ///
+    /// # Errors
+    ///
+    /// The desk's refusal, and the commit as it was handed in.
+    pub fn commit<R: Wait>(
+        &self,
+        rt: &R,
+        pass: &mut Pass,
+        commit: Commit,
+    ) -> Result<u64, (Refusal, Commit)>
+        requires owned { Owns self.now pass.old }
+        requires planner { commit.planner ≡ pass.old.known.planner }
+        ensures owned { Owns self.now pass.new }
+        ensures answer { CommitsBy pass.old.known commit result pass.new.known }
+        ensures last { IfOk result (IsLastSeen pass.new.known commit) }
+    {
+        let top = &self.table.shared;
+        let mut desk = win(rt, top, &mut pass.place);
+        match desk.commit(commit) {
+            Ok(version) => {
+                grow(top, &mut pass.place, desk);
+                Ok(version)
+            }
+            Err(refused) => {
+                free(top, &mut pass.place, desk);
+                Err(refused)
+            }
+        }
+    }
+
+    /// The report of the desk's scene, in the pass's turn. It may wait.
+    pub fn reading<R: Wait>(&self, rt: &R, pass: &mut Pass) -> Result<Reading, OutOfMemory>
+        requires owned { Owns self.now pass.old }
+        ensures owned { Owns self.now pass.new }
+        ensures answer { AsksBy pass.old.known (λ desk. IfOk result (Shows desk)) pass.new.known }
+    {
+        let top = &self.table.shared;
+        let mut desk = win(rt, top, &mut pass.place);
+        let reading = desk.reading();
+        free(top, &mut pass.place, desk);
+        reading
+    }
+
+    /// The distance in steps of the cell to the agent's goal on the desk's map, if there is one, in
+    /// the pass's turn. It may wait.
+    ///
+    /// # Errors
+    ///
+    /// The first fault of the question, or want of memory.
+    pub fn distance<R: Wait>(
+        &self,
+        rt: &R,
+        pass: &mut Pass,
+        agent: Agent,
+        cell: Cell,
+    ) -> Result<Option<u32>, AskFault>
+        requires owned { Owns self.now pass.old }
+        ensures owned { Owns self.now pass.new }
+        ensures answer { AsksBy pass.old.known (λ desk. Tells desk.scene agent cell result) pass.new.known }
+    {
+        let top = &self.table.shared;
+        let mut desk = win(rt, top, &mut pass.place);
+        let distance = desk.distance(agent, cell);
+        free(top, &mut pass.place, desk);
+        distance
+    }
+
+    /// A copy of the desk's scene, in the pass's turn. It may wait.
+    pub fn snapshot<R: Wait>(&self, rt: &R, pass: &mut Pass) -> Result<Snapshot, OutOfMemory>
+        requires owned { Owns self.now pass.old }
+        ensures owned { Owns self.now pass.new }
+        ensures answer { AsksBy pass.old.known (λ desk. IfOk result (Copies desk)) pass.new.known }
+    {
+        let top = &self.table.shared;
+        let desk = win(rt, top, &mut pass.place);
+        let copy = desk.snapshot();
+        free(top, &mut pass.place, desk);
+        copy
+    }
+
+    /// The version of the desk, without a turn. No later answer to the pass is of a lesser one.
+    pub fn front(&self, pass: &mut Pass) -> u64
+        requires owned { Owns self.now pass.old }
+        ensures owned { Owns self.now pass.new }
+        ensures answer { IsFront pass.old.known result pass.new.known }
+    {
+        self.table.shared.load::<Front>(&mut pass.place, 0)
+    }
+
+    /// A new pass, with the least number that this pass keeps. It has seen what this one has.
+    ///
+    /// # Errors
+    ///
+    /// The pass keeps no number, and stays as it was.
+    pub fn split(&self, pass: &mut Pass) -> Result<Pass, SplitFault>
+        requires owned { Owns self.now pass.old }
+        ensures owned { Owns self.now pass.new }
+        ensures owns_other { IfOk result (λ other. Owns self.now other) }
+        ensures split { IfOk result (λ other. IsSplit pass.old.known pass.new.known other.known) }
+        ensures fault { IfErr result (λ fault. KeepsNone pass.old.known × (fault ≡ PassesFull self.now.planners)) }
+        ensures same { IfErr result (λ fault. pass.new ≡ pass.old) }
+    {
+        let Some(planner) = least(&pass.unused) else {
+            return Err(SplitFault::PassesFull {
+                planners: self.planners,
+            });
+        };
+        let top = &self.table.shared;
+        top.load::<Aside>(&mut pass.place, 0);
+        let place = top.split_seat::<Give>(&mut pass.place);
+        pass.unused[planner.number() as usize] = false;
+        Ok(Pass {
+            place,
+            planner,
+            unused: [false; 256],
+        })
+    }
+
+    /// Joins the other pass into this one, which has then seen what both have, and keeps the unused
+    /// numbers of both. The other's own number isn't given again.
+    pub fn join(&self, pass: &mut Pass, other: Pass)
+        requires owned { Owns self.now pass.old }
+        requires owns_other { Owns self.now other }
+        ensures owned { Owns self.now pass.new }
+        ensures joined { IsJoined pass.old.known other.known pass.new.known }
+    {
+        let Pass { place, unused, .. } = other;
+        let top = &self.table.shared;
+        top.join_seat::<Merge>(&mut pass.place, place);
+        top.load::<Compare>(&mut pass.place, 0);
+        merge(&mut pass.unused, &unused);
+    }
+
+    /// Ends the sharing, and gives the desk back.
+    ///
+    /// # Errors
+    ///
+    /// The desk is lost where the turn isn't free. Each call that has returned has given it back.
+    pub fn close(self, pass: Pass) -> Result<Desk, PassLost>
+        requires owned { Owns self pass }
+        ensures { IfOk result (IsClosed pass.known) }
+    {
+        let SharedDesk { table, .. } = self;
+        let Pass { place, .. } = pass;
+        let mut closed = table.close_with(place);
+        let turn = closed.word(1);
+        let desk = closed.take(0);
+        closed.free();
+        match desk {
+            Some(desk) if turn == 0 => Ok(desk),
+            _ => Err(PassLost),
+        }
+    }
+}
