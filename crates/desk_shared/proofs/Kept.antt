@@ -1,7 +1,9 @@
 -- Each step keeps the rule of the table.
 use Rattle.std.specs.Prelude.{slice_index_or}
 use Rattle.std.proofs.Common.{◌≡◌, ◌≢◌, ℕ, zero, suc, ◌+◌, ◌%◌, ◌^◌, ◌<◌, ◌≤◌, eqb, Bool, true, false, List, [], ◌∷◌, ◌++◌, length, get_or, set, refl, sym, ap, ◌∙◌, subst, ⊎_elim, arith, Option, Some, None, length-set, length-append, get_or-set_other, get_or-set_same, true≢false}
+use mathlib.Core.Logic.{dite}
 use mathlib.Core.Option.{none, some, some-ne-none, some-injective}
+use native.Mathlib.Decide.{ℕ_discrete}
 use mathlib.Core.Option as maybe
 use mathlib.Core.List.{IsPrefix}
 use lib.ListN.{get_elem?}
@@ -19,7 +21,7 @@ use Rattle.desk_shared.specs.declared.board.Known.{Known}
 use Rattle.desk_shared.specs.declared.board.Stage.{Stage}
 use Rattle.desk_shared.specs.declared.board.Stage.TheVariants.{Making, Idle, Holding, Joined}
 use Rattle.desk_shared.specs.Passes.{own_of, version_at, GoesOn}
-use Rattle.desk_shared.specs.Turns.{shown, since, Stands, Live, IsSpent, Ruled, posed, first_known, reached, won, grew, freed, IsAt, IsNext}
+use Rattle.desk_shared.specs.Turns.{shown, since, Stands, Live, IsSpent, IsBusy, IsWithin, Ruled, posed, first_known, reached, won, grew, freed, IsAt, IsNext}
 use Rattle.desk_shared.proofs.Beginnings.{prefix_self, prefix_more, own_of-other}
 
 abbrev St : Type 0
@@ -69,6 +71,21 @@ live_posed start log turn homes holder owner seat turn' homes' holder' k stage l
   unused = l.unused;
   stands = h;
 }
+
+pub set_at : {A : Type 0} (l : List A) (i : ℕ) (a b : A) → get_elem? l i ≡ some a → get_elem? (set l i b) i ≡ some b
+set_at [] i a b e = absurd (some-ne-none a (sym e))
+set_at (x ∷ xs) zero a b e = refl
+set_at (x ∷ xs) (suc i) a b e = set_at xs i a b e
+
+-- a pass goes on into a call
+held_here : (vs : List Known) (id : ℕ) (k w : Known) → get_elem? vs id ≡ some k → IsBusy w.stage → IsWithin (set vs id w) id
+held_here vs id k w at busy = (w, set_at vs id k w at, busy)
+
+-- the pass that has the turn is still within its call
+pub held_on : (vs : List Known) (id : ℕ) (k w : Known) (holder : ℕ) → get_elem? vs id ≡ some k → (IsBusy k.stage → IsBusy w.stage) → IsWithin vs holder → IsWithin (set vs id w) holder
+held_on vs id k w holder at still h = dite (ℕ_discrete holder id)
+    (λ is. let same : h.0 ≡ k = some-injective _ _ (sym h.1 ∙ (ap (get_elem? vs) is ∙ at)) in subst (IsWithin (set vs id w)) (sym is) (w, set_at vs id k w at, still (subst (λ (z : Known). IsBusy z.stage) same h.2)))
+    (λ other. (h.0, set_else vs id holder w other ∙ h.1, h.2))
 
 abbrev pub desk_or : DeskState → Option DeskState → DeskState
 desk_or d (Some z) = z
@@ -129,6 +146,7 @@ wins slots id k cs live s r deep at small =
         legal = r.legal;
         count = get_or-set_other s.words 1 0 1 0 (λ e. omega arith) ∙ r.count;
         home = λ z. let same = get_or-set_same s.words 1 1 0 (omega arith) in absurd (omega arith);
+        held = λ _. held_here s.views id k w at tt;
         each = each_stays (λ j v. v.live ≡ true → Live r.start r.log (get_or (set s.words 1 1) 1 0) (set s.homes 0 none) id r.owner j v) s.views id w
             (λ _. live_posed r.start r.log n s.homes r.holder r.owner id (get_or (set s.words 1 1) 1 0) (set s.homes 0 none) id k Holding mine (refl, get_or-set_same s.words 1 1 0 (omega arith), refl))
             (λ j v other there alive. live_on r.start r.log n s.homes r.holder r.owner j (get_or (set s.words 1 1) 1 0) (set s.homes 0 none) id v (λ _ held. omega arith) (r.each j v there alive));
@@ -167,6 +185,7 @@ reaches slots id k cs live making s r deep at small =
         legal = r.legal;
         count = r.count;
         home = λ z. absurd (omega arith);
+        held = λ _. held_here s.views id k w at tt;
         each = each_stays (λ j v. v.live ≡ true → Live r.start r.log n (set s.homes 0 none) id r.owner j v) s.views id w
             (λ _. subst (Live r.start r.log n (set s.homes 0 none) id r.owner id) same (live_posed r.start r.log n s.homes r.holder r.owner id n (set s.homes 0 none) id k Holding mine (refl, held, refl)))
             (λ j v other there alive. live_on r.start r.log n s.homes r.holder r.owner j n (set s.homes 0 none) id v (λ is _. other (is ∙ sym h.0)) (r.each j v there alive));
@@ -204,6 +223,7 @@ frees slots id k d live holding is s r deep at small =
         legal = r.legal;
         count = get_or-set_other s.words 1 0 0 0 (λ e. omega arith) ∙ r.count;
         home = λ _. set_here s.homes 0 (some (Some d)) (omega arith) ∙ ap (λ (z : DeskState). some (some (Some z))) there;
+        held = λ z. absurd (z (get_or-set_same s.words 1 0 0 (omega arith)));
         each = each_stays (λ j v. v.live ≡ true → Live r.start r.log turn' homes' id r.owner j v) s.views id w
             (λ _. subst (Live r.start r.log turn' homes' id r.owner id) same (live_posed r.start r.log n s.homes r.holder r.owner id turn' homes' id k Idle mine tt))
             (λ j v other at' alive. live_on r.start r.log n s.homes r.holder r.owner j turn' homes' id v (λ e _. other (e ∙ sym h.0)) (r.each j v at' alive));
@@ -274,6 +294,7 @@ grows slots id k d live holding next s r deep at small =
         legal = IsLegal-push r.start r.log e r.legal may;
         count = get_or-set_same s.words 0 c' 0 (omega arith) ∙ is_count;
         home = λ z. absurd (omega arith);
+        held = λ _. held_here s.views id k w at tt;
         each = each_stays (λ j v. v.live ≡ true → Live r.start log' turn' s.homes id r.owner j v) s.views id w
             (λ _. let floor = mine.floor in record {
               same = mine.same;
@@ -310,6 +331,7 @@ starts start unused bounded room numbers = record {
   legal = tt;
   count = omega arith;
   home = λ z. absurd (omega arith);
+  held = λ _. (first_known start unused, refl, tt);
   each = λ j k at alive. let w = first_known start unused in
       ⊎_elim (λ (t : (j ≡ 0) × (w ≡ k)). subst (λ (x : ℕ × Known). Live start [] 1 (some None ∷ []) 0 (λ _. 0) x.0 x.1) (λ i. (sym t.0 i, t.1 i)) record {
         same = refl;

@@ -14,10 +14,10 @@ use Rattle.desk_shared.specs.declared.board.Known.{Known}
 use Rattle.desk_shared.specs.declared.board.Stage.{Stage}
 use Rattle.desk_shared.specs.declared.board.Stage.TheVariants.{Making, Idle, Holding, Joined}
 use Rattle.desk_shared.specs.Passes.{own_of, version_at, MayGive}
-use Rattle.desk_shared.specs.Turns.{shown, Stands, Live, IsSpent, Ruled, posed, floored, fronted, asided, joined, first_true, giver, given, both, nobody}
+use Rattle.desk_shared.specs.Turns.{shown, Stands, Live, IsSpent, IsBusy, IsWithin, Ruled, posed, floored, fronted, asided, joined, first_true, giver, given, both, nobody}
 use Rattle.desk_shared.proofs.Beginnings.{prefix_longer, own_none, own_between}
 use Rattle.desk_shared.proofs.Unused.{either_at, blank}
-use Rattle.desk_shared.proofs.Kept.{Homes, Carried, turn_of, each_stays, unmoved, found, live_at, still_spent, over_on}
+use Rattle.desk_shared.proofs.Kept.{Homes, Carried, turn_of, each_stays, set_at, held_on, unmoved, found, live_at, still_spent, over_on}
 
 abbrev put : (ℕ → ℕ) → ℕ → ℕ → ℕ → ℕ
 put f q x u = either (eqb u q) x (f u)
@@ -51,11 +51,6 @@ pick_here f q x = ap (λ (b : Bool). pick_if b x (f q)) (eq-eqb q q refl)
 pick_else : {A : Type 0} (f : ℕ → A) (q : ℕ) (x : A) (u : ℕ) → u ≢ q → pick f q x u ≡ f u
 pick_else f q x u other = ap (λ (b : Bool). pick_if b x (f u)) (ne_eqb u q other)
 
-set_at : {A : Type 0} (l : List A) (i : ℕ) (a b : A) → get_elem? l i ≡ some a → get_elem? (set l i b) i ≡ some b
-set_at [] i a b e = absurd (some-ne-none a (sym e))
-set_at (x ∷ xs) zero a b e = refl
-set_at (x ∷ xs) (suc i) a b e = set_at xs i a b e
-
 at_end : {A : Type 0} (l : List A) (a b : A) (j : ℕ) → get_elem? (l ++ a ∷ []) j ≡ some b → (get_elem? l j ≡ some b) ⊎ ((a ≡ b) × (j ≡ length l))
 at_end [] a b zero e = inr (some-injective a b e, refl)
 at_end [] a b (suc j) e = absurd (some-ne-none b (sym e))
@@ -84,8 +79,9 @@ module _ (start : DeskState) (log : List Entry) (turn : ℕ) (homes : Homes) (ho
 -- a step on no word and no slot, after which the passes are these
 viewed : (s : State (Option DeskState) Known) (r : Ruled s) (owner : ℕ → ℕ) (gone : ℕ → Bool) (past : ℕ → List Entry) (views : List Known)
     → ((j : ℕ) (k : Known) → get_elem? views j ≡ some k → k.live ≡ true → Live r.start r.log (turn_of s) s.homes r.holder owner j k)
-    → ((q : ℕ) → gone q ≡ true → (own_of q r.log ≡ past q) × IsSpent views (owner q)) → Ruled record { words = s.words; homes = s.homes; views = views }
-viewed s r owner gone past views each over = record {
+    → ((q : ℕ) → gone q ≡ true → (own_of q r.log ≡ past q) × IsSpent views (owner q)) → (IsWithin s.views r.holder → IsWithin views r.holder)
+    → Ruled record { words = s.words; homes = s.homes; views = views }
+viewed s r owner gone past views each over held = record {
   start = r.start;
   log = r.log;
   holder = r.holder;
@@ -101,14 +97,15 @@ viewed s r owner gone past views each over = record {
   gone = gone;
   past = past;
   over = over;
+  held = λ z. held (r.held z);
 }
 
 -- the same at a load of the word i
-loaded : (s : State (Option DeskState) Known) (r : Ruled s) (i id : ℕ) (k w : Known) → get_elem? s.views id ≡ some k → k.live ≡ true
+loaded : (s : State (Option DeskState) Known) (r : Ruled s) (i id : ℕ) (k w : Known) → get_elem? s.views id ≡ some k → k.live ≡ true → (IsBusy k.stage → IsBusy w.stage)
     → ((j : ℕ) (v : Known) → get_elem? (set s.views id w) j ≡ some v → v.live ≡ true → Live r.start r.log (turn_of s) s.homes r.holder r.owner j v)
     → Ruled record { words = set s.words i (get_or s.words i 0); homes = s.homes; views = set s.views id w }
-loaded s r i id k w at live each = subst (λ (ws : List ℕ). Ruled record { words = ws; homes = s.homes; views = set s.views id w }) (sym (set-get_or s.words i 0))
-    (viewed s r r.owner r.gone r.past (set s.views id w) each (over_on s r id k w at live))
+loaded s r i id k w at live busy each = subst (λ (ws : List ℕ). Ruled record { words = ws; homes = s.homes; views = set s.views id w }) (sym (set-get_or s.words i 0))
+    (viewed s r r.owner r.gone r.past (set s.views id w) each (over_on s r id k w at live) (held_on s.views id k w r.holder at busy))
 
 pub fronts : (slots id : ℕ) (k : Known) (cs : Carried) → k.live ≡ true → Allows Ruled slots id (k, cs) 0 (λ n. n) (fronted (step slots 0 0 0 none) (k, cs))
 fronts slots id k cs live s r deep at small =
@@ -118,7 +115,7 @@ fronts slots id k cs live s r deep at small =
       floored k n,
       keeps,
       tt,
-      loaded s r 0 id k (floored k n) at live (each_stays (λ j v. v.live ≡ true → Live r.start r.log (turn_of s) s.homes r.holder r.owner j v) s.views id (floored k n) (λ _. record {
+      loaded s r 0 id k (floored k n) at live (λ b. b) (each_stays (λ j v. v.live ≡ true → Live r.start r.log (turn_of s) s.homes r.holder r.owner j v) s.views id (floored k n) (λ _. record {
         same = mine.same;
         seen = mine.seen;
         floor = omega arith;
@@ -134,14 +131,14 @@ pub asides : (slots id : ℕ) (k : Known) (cs : Carried) → k.live ≡ true →
 asides slots id k cs live s r deep at small = let mine = r.each id k at live in
     (k, keeps, tt, unmoved s r 0 id cs k at, ((λ u give. let m = mine.unused u give in (m.0, own_none u k.made r.log mine.seen m.2)), refl))
 
-pub compares : (slots id : ℕ) (k : Known) (cs : Carried) → k.live ≡ true → Allows Ruled slots id (k, cs) 0 (λ n. n) (joined (step slots 0 0 0 none) (k, cs))
-compares slots id k cs live s r deep at small =
+pub compares : (slots id : ℕ) (k : Known) (cs : Carried) → k.live ≡ true → (IsBusy k.stage → ⊥) → Allows Ruled slots id (k, cs) 0 (λ n. n) (joined (step slots 0 0 0 none) (k, cs))
+compares slots id k cs live busy s r deep at small =
     let w : Known = posed k Idle k.made in
     let mine = r.each id k at live in (
       w,
       keeps,
       tt,
-      loaded s r 0 id k w at live (each_stays (λ j v. v.live ≡ true → Live r.start r.log (turn_of s) s.homes r.holder r.owner j v) s.views id w (λ _. record {
+      loaded s r 0 id k w at live (λ b. absurd (busy b)) (each_stays (λ j v. v.live ≡ true → Live r.start r.log (turn_of s) s.homes r.holder r.owner j v) s.views id w (λ _. record {
         same = mine.same;
         seen = mine.seen;
         floor = mine.floor;
@@ -194,6 +191,7 @@ splits id k live may s r at =
     (was.0, subst (IsSpent (vs ++ given k ∷ [])) (sym (put_else r.owner n new q (λ e. own (ap r.owner e ∙ lent.1)))) (spent.0, at_longer vs (given k ∷ []) (r.owner q) spent.0 spent.1, spent.2)) in
     viewed s r owner' r.gone r.past (vs ++ given k ∷ []) (λ j v there. ⊎_elim (each_stays K s.views id (giver k) giver_lives others j v)
     (λ (t : (given k ≡ v) × (j ≡ length vs)). subst (K j) t.0 (given_lives j (t.1 ∙ long))) (at_end vs (given k) v j there)) over'
+    (λ h. let on = held_on s.views id k (giver k) r.holder at (λ b. b) h in (on.0, at_longer vs (given k ∷ []) r.holder on.0 on.1, on.2))
   where
     off : (bs : List Bool) (n u : ℕ) → u ≡ n → get_or (set bs n false) u false ≡ false
     off [] n u e = refl
@@ -202,8 +200,8 @@ splits id k live may s r at =
     off (b ∷ bs) (suc n) zero e = absurd (omega arith)
     off (b ∷ bs) (suc n) (suc u) e = off bs n u (omega arith)
 
-pub joins : (id : ℕ) (k : Known) (other : ℕ) (l : Known) → k.live ≡ true → l.live ≡ true → Joins Ruled id k other l (both k l) nobody
-joins id k other l live live' s r at apart there =
+pub joins : (id : ℕ) (k : Known) (other : ℕ) (l : Known) → k.live ≡ true → l.live ≡ true → k.stage ≡ Idle → l.stage ≡ Idle → Joins Ruled id k other l (both k l) nobody
+joins id k other l live live' idle idle' s r at apart there =
     let w : Known = both k l in
     let vs : List Known = set s.views id w in
     let mine = r.each id k at live in
@@ -245,3 +243,4 @@ joins id k other l live live' s r at apart there =
     )) in
     viewed s r owner' gone' past' (set vs other nobody) (each_stays (λ j v. v.live ≡ true → Live r.start r.log (turn_of s) s.homes r.holder owner' j v) vs other nobody (λ alive. absurd (true≢false (sym alive)))
     (λ j v not' at'. each_stays K s.views id w both_live others j v at' not')) over'
+    (λ h. held_on vs other l nobody r.holder there (λ b. absurd (subst IsBusy idle' b)) (held_on s.views id k w r.holder at (λ b. absurd (subst IsBusy idle b)) h))

@@ -49,7 +49,18 @@ module _ (start : DeskState) (log : List Entry) (turn : ℕ) (homes : List (mayb
 abbrev pub IsSpent : List Known → ℕ → Type 0
 IsSpent views seat = (k : Known) × (get_elem? views seat ≡ some k) × (k.live ≡ false)
 
--- There is one legal journal from the desk as it was shared. The count is its length, and a desk at home has it. What each pass has seen begins it. Each number belongs to one pass, and is of no entry where it isn't given yet. A joined pass's number has for ever the entries that it had then. One pass at most has the turn
+-- a pass that is within a call, and may have the turn
+abbrev pub IsBusy : Stage → Type 0
+IsBusy Making = Unit {0}
+IsBusy Idle = ⊥
+IsBusy Holding = Unit {0}
+IsBusy (Joined seen others planner other first) = ⊥
+
+-- the pass of the seat is within a call
+abbrev pub IsWithin : List Known → ℕ → Type 0
+IsWithin views seat = (k : Known) × (get_elem? views seat ≡ some k) × IsBusy k.stage
+
+-- There is one legal journal from the desk as it was shared. The count is its length, and a desk at home has it. What each pass has seen begins it. Each number belongs to one pass, and is of no entry where it isn't given yet. A joined pass's number has for ever the entries that it had then. One pass at most has the turn, and only while it is within a call
 pub record Ruled (s : State (Option DeskState) Known) : Type 0 where
   pub start : DeskState
   pub log : List Entry
@@ -62,6 +73,7 @@ pub record Ruled (s : State (Option DeskState) Known) : Type 0 where
   pub legal : IsLegal start log
   pub count : slice_index s.words 0 ≡ version_at start log
   pub home : slice_index s.words 1 ≡ 0 → get_elem? s.homes 0 ≡ some (some (Some (after start log)))
+  pub held : slice_index s.words 1 ≢ 0 → IsWithin s.views holder
   pub each : (seat : ℕ) (k : Known) → get_elem? s.views seat ≡ some k → k.live ≡ true → Live start log (slice_index s.words 1) s.homes holder owner seat k
   pub gone : ℕ → Bool
   pub past : ℕ → List Entry

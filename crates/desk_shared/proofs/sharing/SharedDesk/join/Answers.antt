@@ -1,16 +1,16 @@
 use Rattle.std.proofs.Common.{rules, sym, ap, ◌∙◌, subst}
 use Rattle.desk_shared.specs.Passes.{PassState}
 use Rattle.desk_shared.specs.Calls.{either_of, IsJoined}
-use Rattle.desk_shared.specs.Turns.{shown}
+use Rattle.desk_shared.specs.Turns.{shown, IsBusy}
 use Rattle.desk_shared.proofs.Views.{compares, joins}
 use Rattle.desk_shared.proofs.Told.{joined_so}
 use Rattle.desk_shared.proofs.sharing.SharedDesk.join.Goals as goal
 
 pub join_seat-requires : goal.join_seat-requires
-join_seat-requires c = (search rules, search rules, c.other.invariant.0, search rules, joins _ _ _ _ c.pass.invariant.2 c.other.invariant.2)
+join_seat-requires c = (search rules, search rules, c.other.invariant.0, search rules, joins _ _ _ _ c.pass.invariant.2 c.other.invariant.2 c.pass.invariant.1 c.other.invariant.1)
 
 pub load-requires : goal.load-requires
-load-requires c = (search rules, search rules, compares _ _ _ _ (ap (λ m. m.0.live) c.join_seat.ensures.2 ∙ c.pass.invariant.2))
+load-requires c = (search rules, search rules, compares _ _ _ _ (ap (λ m. m.0.live) c.join_seat.ensures.2 ∙ c.pass.invariant.2) (λ b. subst IsBusy (ap (λ m. m.0.stage) c.join_seat.ensures.2) b))
 
 pub invariant_of-pass : goal.invariant_of-pass
 invariant_of-pass c = let now = c.join_seat.ensures.2 in let told = c.load.ensures.2 _ _ _ _ _ (ap (λ m. m.0.stage) now) in let to = told.1 in (
