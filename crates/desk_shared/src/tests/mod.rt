@@ -1,0 +1,4 @@
+mod build;
+mod rows;
+mod speed;
+mod threads;
