@@ -1,4 +1,5 @@
 mod build;
+mod memory;
 mod rows;
 mod speed;
 mod threads;

@@ -13,7 +13,7 @@ use std::sync::Wait;
 use std::thread::{Threads, map_vec};
 use std::time::Instant;
 
-const COMMITS: u32 = 200_000;
+const COMMITS: u32 = 50_000;
 
 const ROUNDS: u32 = 1_000;
 
