@@ -1,4 +1,3 @@
-pub mod KindLemmas
 pub mod Progress
 pub mod MapLines
 pub mod MapDesk

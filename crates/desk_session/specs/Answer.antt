@@ -1,16 +1,16 @@
 -- What a line is answered: by its request, or as a bad line, or it finds no memory (this project's choice).
 use Rattle.std.specs.Prelude.{◌≡◌, ◌⊎◌, ℕ, Result, Ok, Err}
 use Rattle.desk_session.specs.Counting.{Counting}
-use Rattle.desk_session.specs.Requests.{request_of}
+use Rattle.desk_lines.specs.Requests.{request_of}
 use Rattle.desk_session.specs.Session.{Answering}
 use Rattle.desk_session.specs.Table.{Obeys, FindsNoMemory}
 use Rattle.desk_session.specs.declared.drafts.Session.{Session}
 use Rattle.desk_session.specs.declared.replies.BadLine.TheVariants as bad
 use Rattle.desk_session.specs.declared.replies.Reply.{Reply}
 use Rattle.desk_session.specs.declared.replies.Reply.TheVariants.{Bad}
-use Rattle.desk_session.specs.declared.requests.Request.{Request}
-use Rattle.desk_session.specs.declared.requests.LineFault.{LineFault}
-use Rattle.desk_session.specs.declared.requests.LineFault.TheVariants.{Word, Shape, OutOfMemory}
+use Rattle.desk_lines.specs.declared.requests.Request.{Request}
+use Rattle.desk_lines.specs.declared.requests.LineFault.{LineFault}
+use Rattle.desk_lines.specs.declared.requests.LineFault.TheVariants.{Word, Shape, OutOfMemory}
 
 -- a request is obeyed, and a bad line is told and changes nothing
 abbrev pub IsReplyTo : {S : Type 0} → Counting S → ℕ → Session → S → Result Request LineFault → Reply → Session → S → Type 0

@@ -1,11 +1,3 @@
-pub mod Values
-pub mod Cells
-pub mod Kinds
-pub mod Commands
-pub mod Shapes
-pub mod Edits
-pub mod Faults
-pub mod Requests
 pub mod Counting
 pub mod Drafts
 pub mod RefusalText

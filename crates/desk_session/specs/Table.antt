@@ -18,8 +18,8 @@ use Rattle.desk_session.specs.declared.drafts.Session.TheVariants.{Idle, Gatheri
 use Rattle.desk_session.specs.declared.replies.BadLine.TheVariants.{NotBegun, Full}
 use Rattle.desk_session.specs.declared.replies.Reply.{Reply}
 use Rattle.desk_session.specs.declared.replies.Reply.TheVariants as reply
-use Rattle.desk_session.specs.declared.requests.Request.{Request}
-use Rattle.desk_session.specs.declared.requests.Request.TheVariants as ask
+use Rattle.desk_lines.specs.declared.requests.Request.{Request}
+use Rattle.desk_lines.specs.declared.requests.Request.TheVariants as ask
 
 -- a commit's answer: the new version, or the refusal
 abbrev pub commit_reply : Result ℕ (Refusal × Entry) → Reply

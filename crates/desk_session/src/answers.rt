@@ -7,7 +7,7 @@ use crate::counters::Counter;
 use crate::drafts::{Gathered, Session};
 use crate::gathering::{commit, commit_alone, keep_edit, keep_watch};
 use crate::replies::{BadLine, Reply};
-use crate::requests::{LineFault, Request, read_line};
+use desk_lines::{LineFault, Request, read_line};
 use desk_report::Kinds;
 use grid_cells::{Agent, Cell, OutOfMemory};
 use std::alloc::Global;

@@ -3,20 +3,13 @@
 
 mod answers;
 mod bounds;
-mod cells;
-mod commands;
 mod counters;
 mod drafts;
-mod edits;
 mod gathering;
-mod kinds;
 mod refusals;
 mod replies;
-mod requests;
 mod serving;
-mod shapes;
 mod starting;
-mod values;
 mod writers;
 
 pub use bounds::{Bounds, ServeFault, StartFault};

@@ -1,5 +1,4 @@
 mod fakes;
-mod lines;
 mod replies;
 mod reports;
 mod served;

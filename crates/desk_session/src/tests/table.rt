@@ -1,9 +1,9 @@
 use crate::answers::obey;
 use crate::drafts::Session;
-use crate::requests::Request;
 use crate::tests::fakes::desk;
 use crate::writers::put_reply;
 use desk_core::{Edit, Thing};
+use desk_lines::Request;
 use desk_report::{Kinds, Spout};
 use grid_cells::{Agent, Cell};
 use std::test::Fail;

@@ -1,6 +1,6 @@
 ghost use Rattle.std.specs.Prelude.{◌≡◌, ◌∷◌, [], false, true, MatchOption};
 ghost use Rattle.bench_reader.specs.Words.{words_of};
-ghost use Rattle.desk_session.specs.Kinds.{kinds_of, is_kind, named_kinds, joined};
+ghost use Rattle.desk_lines.specs.Kinds.{kinds_of, is_kind, named_kinds, joined};
 
 use bench_reader::next_word;
 use desk_report::Kinds;

@@ -1,7 +1,7 @@
 ghost use Rattle.std.specs.Prelude.{◌≡◌};
 ghost use Rattle.bench_reader.specs.Words.{words_of};
-ghost use Rattle.desk_session.specs.Faults.{IsShaped};
-ghost use Rattle.desk_session.specs.Edits.{add_of, path_of, tail_of, edit_of};
+ghost use Rattle.desk_lines.specs.Faults.{IsShaped};
+ghost use Rattle.desk_lines.specs.Edits.{add_of, path_of, tail_of, edit_of};
 
 use crate::cells::cells_of;
 use crate::commands::EditCommand;

@@ -1,5 +1,5 @@
 ghost use Rattle.std.specs.Prelude.{◌≡◌};
-ghost use Rattle.desk_session.specs.Commands.{is_remark, edit_command_of, command_of};
+ghost use Rattle.desk_lines.specs.Commands.{is_remark, edit_command_of, command_of};
 
 /// The edits, by the first words of their lines.
 #[derive(Clone, Copy, Debug)]

@@ -1,5 +1,5 @@
 //! Lines and the requests that they make, written by hand.
-use crate::requests::{LineFault, Request, read_line};
+use crate::{LineFault, Request, read_line};
 use desk_report::Kinds;
 use grid_cells::{Agent, Cell, List, Step};
 use scene_edits::{Edit, Thing};

@@ -1,7 +1,7 @@
 -- What the words behind the first one stand for, by the shape of the line (this project's choice).
 use Rattle.std.specs.Prelude.{ℕ, Option, Some, None, List, [], ◌∷◌}
 use Rattle.grid_cells.specs.Cell.{Point}
-use Rattle.desk_session.specs.Values.{with_both, agent_of, cell_of}
+use Rattle.desk_lines.specs.Values.{with_both, agent_of, cell_of}
 
 -- a line of no more words
 abbrev pub alone : {A : Type 0} → A → List (List ℕ) → Option A

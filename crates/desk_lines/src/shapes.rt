@@ -1,6 +1,6 @@
 ghost use Rattle.std.specs.Prelude.{◌≡◌};
 ghost use Rattle.bench_reader.specs.Words.{words_of};
-ghost use Rattle.desk_session.specs.Shapes.{only_agent, only_cell, agent_and_cell};
+ghost use Rattle.desk_lines.specs.Shapes.{only_agent, only_cell, agent_and_cell};
 
 use crate::values::{agent_of, cell_of};
 use bench_reader::next_word;

@@ -1,6 +1,6 @@
 ghost use Rattle.std.specs.Prelude.{◌≡◌, ◌+◌, [], take, drop, MatchOption};
 ghost use Rattle.std.specs.List.{before_first, after_first, position};
-ghost use Rattle.desk_session.specs.Values.{agent_of, time_of, place_of, cell_of, is_comma};
+ghost use Rattle.desk_lines.specs.Values.{agent_of, time_of, place_of, cell_of, is_comma};
 
 use bench_reader::number_of;
 use grid_cells::{Agent, Cell, MOST_SIDE, Step};

@@ -3,11 +3,11 @@ use Rattle.std.specs.Prelude.{ℕ, Option, None, List, [], ◌∷◌}
 use Rattle.std.specs.Option.{option_map}
 use Rattle.scene_edits.specs.declared.edits.Edit.{Edit}
 use Rattle.scene_edits.specs.declared.edits.Edit.TheVariants as edit
-use Rattle.desk_session.specs.Values.{with_both, with_all, agent_of, time_of, cell_of}
-use Rattle.desk_session.specs.Cells.{cells_of}
-use Rattle.desk_session.specs.Shapes.{only_agent, only_cell, agent_and_cell}
-use Rattle.desk_session.specs.declared.commands.EditCommand.{EditCommand}
-use Rattle.desk_session.specs.declared.commands.EditCommand.TheVariants.{Add, Drop, Goal, Path, Tail, Open, Close}
+use Rattle.desk_lines.specs.Values.{with_both, with_all, agent_of, time_of, cell_of}
+use Rattle.desk_lines.specs.Cells.{cells_of}
+use Rattle.desk_lines.specs.Shapes.{only_agent, only_cell, agent_and_cell}
+use Rattle.desk_lines.specs.declared.commands.EditCommand.{EditCommand}
+use Rattle.desk_lines.specs.declared.commands.EditCommand.TheVariants.{Add, Drop, Goal, Path, Tail, Open, Close}
 
 -- AGENT START GOAL
 abbrev pub add_of : List (List ℕ) → Option Edit

@@ -1,10 +1,10 @@
 -- The first words of session lines (this project's choice).
 use Rattle.std.specs.Prelude.{ℕ, Bool, false, ◌==◌, Option, Some, None, List, [], ◌∷◌, codes, bytes_eq, if◌then◌else◌}
 use Rattle.std.specs.Option.{option_map}
-use Rattle.desk_session.specs.declared.commands.EditCommand.{EditCommand}
-use Rattle.desk_session.specs.declared.commands.EditCommand.TheVariants.{Add, Drop, Goal, Path, Tail, Open, Close}
-use Rattle.desk_session.specs.declared.commands.Command.{Command}
-use Rattle.desk_session.specs.declared.commands.Command.TheVariants.{Edit, Begin, Watch, Commit, Cancel, Version, Report, Distance, Solves}
+use Rattle.desk_lines.specs.declared.commands.EditCommand.{EditCommand}
+use Rattle.desk_lines.specs.declared.commands.EditCommand.TheVariants.{Add, Drop, Goal, Path, Tail, Open, Close}
+use Rattle.desk_lines.specs.declared.commands.Command.{Command}
+use Rattle.desk_lines.specs.declared.commands.Command.TheVariants.{Edit, Begin, Watch, Commit, Cancel, Version, Report, Distance, Solves}
 
 -- a remark begins with `#`
 abbrev pub is_remark : List ℕ → Bool

@@ -1,6 +1,6 @@
 ghost use Rattle.bench_reader.specs.Words.{words_of};
-ghost use Rattle.desk_session.specs.Cells.{cells_of};
-ghost use Rattle.desk_session.specs.Faults.{IsShaped};
+ghost use Rattle.desk_lines.specs.Cells.{cells_of};
+ghost use Rattle.desk_lines.specs.Faults.{IsShaped};
 
 use crate::requests::LineFault;
 use crate::values::cell_of;

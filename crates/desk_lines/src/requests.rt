@@ -1,9 +1,9 @@
 ghost use Rattle.std.specs.Prelude.{◌≡◌};
 ghost use Rattle.std.specs.Option.{ok_or};
 ghost use Rattle.bench_reader.specs.Words.{words_of};
-ghost use Rattle.desk_session.specs.Faults.{IsShaped};
-ghost use Rattle.desk_session.specs.Shapes.{alone};
-ghost use Rattle.desk_session.specs.Requests.{thing_of, shaped, IsRequest};
+ghost use Rattle.desk_lines.specs.Faults.{IsShaped};
+ghost use Rattle.desk_lines.specs.Shapes.{alone};
+ghost use Rattle.desk_lines.specs.Requests.{thing_of, shaped, IsRequest};
 
 use crate::commands::{Command, command_of, is_remark};
 use crate::edits::edit_of;
@@ -56,7 +56,7 @@ pub enum LineFault {
 /// # Errors
 /// `Word` before `Shape`, or want of memory.
 #[tactic(auto, unfolding(crate::specs::Requests::request_of))]
-pub(crate) fn read_line(alloc: Global, line: &[u8]) -> Result<Request, LineFault>
+pub fn read_line(alloc: Global, line: &[u8]) -> Result<Request, LineFault>
     ensures { IsRequest line.now result }
 {
     let Some((word, rest)) = next_word(line) else {

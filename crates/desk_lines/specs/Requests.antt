@@ -4,17 +4,17 @@ use Rattle.std.specs.Option.{option_map, option_map_or, ok_or}
 use Rattle.bench_reader.specs.Words.{words_of}
 use Rattle.scene_edits.specs.declared.changes.Thing.{Thing}
 use Rattle.scene_edits.specs.declared.changes.Thing.TheVariants as thing
-use Rattle.desk_session.specs.Values.{agent_of, cell_of}
-use Rattle.desk_session.specs.Kinds.{kinds_of}
-use Rattle.desk_session.specs.Commands.{is_remark, command_of}
-use Rattle.desk_session.specs.Shapes.{alone, agent_and_cell}
-use Rattle.desk_session.specs.Edits.{edit_of}
-use Rattle.desk_session.specs.declared.commands.Command.{Command}
-use Rattle.desk_session.specs.declared.commands.Command.TheVariants.{Edit, Begin, Watch, Commit, Cancel, Version, Report, Distance, Solves}
-use Rattle.desk_session.specs.declared.requests.LineFault.{LineFault}
-use Rattle.desk_session.specs.declared.requests.LineFault.TheVariants as fault
-use Rattle.desk_session.specs.declared.requests.Request.{Request}
-use Rattle.desk_session.specs.declared.requests.Request.TheVariants as request
+use Rattle.desk_lines.specs.Values.{agent_of, cell_of}
+use Rattle.desk_lines.specs.Kinds.{kinds_of}
+use Rattle.desk_lines.specs.Commands.{is_remark, command_of}
+use Rattle.desk_lines.specs.Shapes.{alone, agent_and_cell}
+use Rattle.desk_lines.specs.Edits.{edit_of}
+use Rattle.desk_lines.specs.declared.commands.Command.{Command}
+use Rattle.desk_lines.specs.declared.commands.Command.TheVariants.{Edit, Begin, Watch, Commit, Cancel, Version, Report, Distance, Solves}
+use Rattle.desk_lines.specs.declared.requests.LineFault.{LineFault}
+use Rattle.desk_lines.specs.declared.requests.LineFault.TheVariants as fault
+use Rattle.desk_lines.specs.declared.requests.Request.{Request}
+use Rattle.desk_lines.specs.declared.requests.Request.TheVariants as request
 
 -- `agent AGENT`, `cell X,Y` or `map`
 abbrev pub thing_of : List (List ℕ) → Option Thing

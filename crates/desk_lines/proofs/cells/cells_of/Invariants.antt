@@ -1,8 +1,8 @@
 use Rattle.std.proofs.Common.{◌≡◌, ◌++◌, length}
 use Rattle.std.specs.Option.{option_map}
 use Rattle.bench_reader.specs.Words.{words_of}
-use Rattle.desk_session.specs.Cells.{cells_of}
-use Rattle.desk_session.proofs.cells.cells_of.Given as goal
+use Rattle.desk_lines.specs.Cells.{cells_of}
+use Rattle.desk_lines.proofs.cells.cells_of.Given as goal
 
 abbrev pub invariant-loop-word : goal.invariant-loop-word
 invariant-loop-word l = cells_of (words_of l.line) ≡ option_map (λ more. l.cells.items ++ more) (cells_of (words_of l.rest))

@@ -1,7 +1,7 @@
 -- CELL.. of a session line (this project's choice).
 use Rattle.std.specs.Prelude.{ℕ, Option, Some, List, [], ◌∷◌}
 use Rattle.grid_cells.specs.Cell.{Point}
-use Rattle.desk_session.specs.Values.{with_both, cell_of}
+use Rattle.desk_lines.specs.Values.{with_both, cell_of}
 
 -- each word is a cell
 abbrev pub cells_of : List (List ℕ) → Option (List Point)

@@ -2,7 +2,7 @@
 use Rattle.std.proofs.Common.{◌≡◌, ℕ, Bool, true, false, ◌||◌, if◌then◌else◌, List, [], ◌∷◌, refl, Option, Some, None}
 use Rattle.std.specs.List.{list_all}
 use Rattle.desk_report.specs.declared.kinds.Kinds.{Kinds}
-use Rattle.desk_session.specs.Kinds.{is_kind, named_kinds, joined}
+use Rattle.desk_lines.specs.Kinds.{is_kind, named_kinds, joined}
 
 -- those kinds and the kinds of the words
 abbrev pub kinds_after : Kinds → List (List ℕ) → Option Kinds
