@@ -1,0 +1,10 @@
+pub mod PlainWords
+pub mod PlainLines
+pub mod Grammar
+pub mod RouteLines
+pub mod Walks
+pub mod ReadLines
+pub mod WholeWalks
+pub mod BadLines
+pub mod OneAnswer
+pub mod ReaderSteps

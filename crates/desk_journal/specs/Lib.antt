@@ -1,0 +1,5 @@
+pub mod Ranges
+pub mod JournalText
+pub mod Reading
+pub mod Places
+pub mod Laws
