@@ -14,7 +14,8 @@ use Rattle.desk_core.specs.Entries.{Entry}
 use Rattle.desk_core.specs.declared.limits.TheConstants.{MOST_ENTRIES}
 use Rattle.desk_journal.specs.Ranges.{IsThing, IsEdit, AreNumbers, IsEntry}
 use Rattle.desk_journal.specs.JournalText.{watch_words, edit_words, entry_words, entry_lines, version_words, mode_words, heading_lines, end_words, journal_lines}
-use Rattle.desk_journal.specs.Places.{IsHead, head_words, fresh, lacks_watch, lacks_edit, entry_of, settled, BeginsEntry, Watches, Edits, Steps, IsBegun, IsPlace}
+use Rattle.desk_journal.specs.Begun.{IsHead, head_words, fresh, lacks_watch, lacks_edit, entry_of, IsBegun}
+use Rattle.desk_journal.specs.Places.{settled, BeginsEntry, Watches, Edits, Steps, IsPlace}
 use Rattle.desk_journal.specs.declared.places.Heading.{Heading}
 use Rattle.desk_journal.specs.declared.places.Heading.TheVariants.{First, Second}
 use Rattle.desk_journal.specs.declared.places.Head.{Head}

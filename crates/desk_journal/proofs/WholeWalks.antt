@@ -15,7 +15,8 @@ use Rattle.desk_core.specs.Replays.{Log}
 use Rattle.desk_core.specs.declared.limits.TheConstants.{MOST_ENTRIES}
 use Rattle.desk_journal.specs.Ranges.{IsThing, IsEdit, IsEntry, IsJournal}
 use Rattle.desk_journal.specs.JournalText.{mode_words, watch_words, edit_words, entry_lines, heading_lines, end_words, journal_lines}
-use Rattle.desk_journal.specs.Places.{head_words, fresh, lacks_watch, lacks_edit, entry_of, settled, Steps, IsBegun, IsPlace}
+use Rattle.desk_journal.specs.Begun.{head_words, fresh, lacks_watch, lacks_edit, entry_of, IsBegun}
+use Rattle.desk_journal.specs.Places.{settled, Steps, IsPlace}
 use Rattle.desk_journal.specs.declared.places.Heading.{Heading}
 use Rattle.desk_journal.specs.declared.places.Heading.TheVariants.{First, Second}
 use Rattle.desk_journal.specs.declared.places.Head.{Head}

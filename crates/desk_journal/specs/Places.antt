@@ -1,42 +1,20 @@
 -- Where a reader of a journal is, and what each line that fits there leads to (this project's choice).
-use Rattle.std.specs.Prelude.{◌≡◌, ◌⊎◌, ◌<◌, ◌≤◌, ◌||◌, ℕ, Bool, true, List, [], ◌∷◌, ◌++◌, length, Option, Some, None, Result, Ok, Err, nat_lt, codes, All, if◌then◌else◌}
+use Rattle.std.specs.Prelude.{◌≡◌, ◌⊎◌, ◌<◌, ◌≤◌, ◌||◌, ℕ, true, List, [], ◌∷◌, ◌++◌, length, Option, Some, None, codes, All, if◌then◌else◌}
 use Rattle.plan_table.specs.declared.tracks.Mode.{Mode}
-use Rattle.grid_cells.specs.declared.memory.OutOfMemory.{OutOfMemory}
 use Rattle.scene_edits.specs.declared.changes.Thing.{Thing}
 use Rattle.scene_edits.specs.declared.edits.Edit.{Edit}
 use Rattle.desk_report.specs.LineText.{line_text}
 use Rattle.desk_core.specs.Entries.{Entry}
 use Rattle.desk_core.specs.declared.limits.TheConstants.{MOST_ENTRIES}
-use Rattle.desk_journal.specs.Ranges.{IsThing, IsEdit, AreNumbers, IsEntry}
-use Rattle.desk_journal.specs.JournalText.{watch_words, edit_words, entry_words, version_words, mode_words, end_words}
+use Rattle.desk_journal.specs.Ranges.{IsThing, IsEdit, IsEntry}
+use Rattle.desk_journal.specs.JournalText.{watch_words, edit_words, version_words, mode_words, end_words}
+use Rattle.desk_journal.specs.Begun.{IsHead, head_words, fresh, lacks_watch, lacks_edit, entry_of, IsBegun}
 use Rattle.desk_journal.specs.declared.places.Heading.{Heading}
 use Rattle.desk_journal.specs.declared.places.Heading.TheVariants.{First, Second}
 use Rattle.desk_journal.specs.declared.places.Head.{Head}
 use Rattle.desk_journal.specs.declared.places.Begun.{Begun}
 use Rattle.desk_journal.specs.declared.places.Place.{Place}
 use Rattle.desk_journal.specs.declared.places.Place.TheVariants.{Start, Versioned, Between, Inside, Over}
-
--- the first line of an entry
-abbrev pub IsHead : Head → Type 0
-IsHead head = AreNumbers head.planner head.base head.watches head.edits
-
-abbrev pub head_words : Head → List (List ℕ)
-head_words head = entry_words head.planner head.base head.watches head.edits
-
--- an entry of which no watch and no edit is read
-abbrev pub fresh : Head → Begun
-fresh head = record { head = head; watch = []; edits = [] }
-
--- a line of the entry is still to come
-abbrev pub lacks_watch : Begun → Bool
-lacks_watch entry = nat_lt (length entry.watch) entry.head.watches
-
-abbrev pub lacks_edit : Begun → Bool
-lacks_edit entry = nat_lt (length entry.edits) entry.head.edits
-
--- the entry as it is read so far
-abbrev pub entry_of : Begun → Entry
-entry_of entry = record { planner = entry.head.planner; base = entry.head.base; watch = entry.watch; edits = entry.edits }
 
 -- inside the entry, or behind it where it lacks nothing
 abbrev pub settled : Heading → List Entry → Begun → Place
@@ -74,15 +52,6 @@ Steps Versioned words next = (mode : Mode) × (words ≡ mode_words mode) × (ne
 Steps (Between heading entries) words next = BeginsEntry heading entries words next ⊎ ((words ≡ end_words (length entries)) × (next ≡ Over heading entries))
 Steps (Inside heading entries entry) words next = Watches heading entries entry words next ⊎ Edits heading entries entry words next
 Steps (Over heading entries) words next = ⊥
-
--- an entry of which some lines are read
-pub record IsBegun (entry : Begun) : Type 0 where
-  pub numbers : IsHead entry.head
-  pub watched : length entry.watch ≤ entry.head.watches
-  pub edited : length entry.edits ≤ entry.head.edits
-  pub order : length entry.watch < entry.head.watches → entry.edits ≡ []
-  pub watch : All IsThing entry.watch
-  pub edits : All IsEdit entry.edits
 
 -- a place that lines lead to
 abbrev pub IsPlace : Place → Type 0

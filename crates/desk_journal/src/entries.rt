@@ -9,7 +9,7 @@ ghost use Rattle.desk_report.specs.Words.{word_text};
 ghost use Rattle.grid_cells.specs.declared.numbers.TheConstants.{MOST_AGENT};
 ghost use Rattle.desk_journal.specs.Ranges.{IsCell, IsThing, IsEdit, IsEntry};
 ghost use Rattle.desk_journal.specs.JournalText.{watch_words, edit_words, entry_lines, text_of};
-ghost use Rattle.desk_journal.specs.Places.{IsHead, head_words};
+ghost use Rattle.desk_journal.specs.Begun.{IsHead, head_words};
 
 use crate::places::Head;
 use desk_core::{Commit, Edit, Thing};

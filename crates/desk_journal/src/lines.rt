@@ -6,7 +6,8 @@ ghost use Rattle.bench_reader.specs.Words.{words_of};
 ghost use Rattle.desk_lines.specs.Requests.{request_of};
 ghost use Rattle.desk_journal.specs.Ranges.{IsThing, IsEdit};
 ghost use Rattle.desk_journal.specs.JournalText.{watch_words, edit_words};
-ghost use Rattle.desk_journal.specs.Places.{IsHead, head_words, Names};
+ghost use Rattle.desk_journal.specs.Begun.{IsHead, head_words};
+ghost use Rattle.desk_journal.specs.Places.{Names};
 ghost use Rattle.grid_cells.specs.declared.numbers.TheConstants.{MOST_PLANNER};
 ghost use Rattle.desk_journal.specs.declared.places.Head.{Head};
 

@@ -3,7 +3,7 @@ ghost use Rattle.std.specs.Prelude.{◌≡◌, ◌++◌, ◌↔◌, codes, IsTru
 ghost use Rattle.desk_report.specs.LineText.{line_text};
 ghost use Rattle.desk_journal.specs.Ranges.{IsEdit};
 ghost use Rattle.desk_journal.specs.JournalText.{watch_words, edit_words, end_words};
-ghost use Rattle.desk_journal.specs.Places.{head_words};
+ghost use Rattle.desk_journal.specs.Begun.{head_words};
 
 use crate::entries::{put_edit, put_head, put_watch};
 use crate::places::Head;

@@ -1,6 +1,7 @@
 //! Where a line of a journal leads.
 ghost use Rattle.std.specs.Prelude.{◌≡◌, ◌<◌, ◌≤◌, [], length, IfOk};
-ghost use Rattle.desk_journal.specs.Places.{fresh, settled, IsBegun, IsPlace, LeadsTo};
+ghost use Rattle.desk_journal.specs.Begun.{fresh, IsBegun};
+ghost use Rattle.desk_journal.specs.Places.{settled, IsPlace, LeadsTo};
 
 use crate::lines::{edit_of, head_of, thing_of};
 use crate::places::{Begun, Head, Heading, Place};

@@ -2,11 +2,19 @@
 use super::fakes::Short;
 use super::samples::{ALL, FIRST, SECOND, agent, all, cell, cells, one, scene};
 use crate::{Journal, read_journal, upgrade_journal, write_journal};
-use desk_core::{Limit, ReplayFault, replay};
+use desk_core::{Limit, MOST_ENTRIES, ReplayFault, replay};
 use desk_report::Spout;
 use plan_table::Mode;
 use std::alloc::Global;
 use std::process::Abort;
+
+fn written(rt: &impl Abort, alloc: Global, journal: &Journal) -> Vec<u8> {
+    let items = journal.items();
+    assert!(rt; items.len() <= MOST_ENTRIES as usize);
+    let mut sink = Spout::new(Vec::new(alloc));
+    assert!(rt; write_journal(items, journal.mode(), &mut sink).is_ok());
+    sink.into_inner()
+}
 
 fn read(rt: &impl Abort, alloc: Global, text: &str) -> Journal {
     let Ok(journal) = read_journal(alloc, text.as_bytes()) else {
@@ -35,11 +43,8 @@ fn journal_of_one_entry(rt: HostRuntime) {
 #[test]
 fn journal_with_its_mode(rt: HostRuntime) {
     let alloc = rt.alloc();
-    let mut sink = Spout::new(Vec::new(alloc));
     let journal = one(&rt, alloc);
-    assert!(rt; write_journal(journal.items(), Mode::Stay, &mut sink).is_ok());
-    let written: Vec<u8> = sink.into_inner();
-    assert_eq!(rt; written.as_slice(), SECOND.as_bytes());
+    assert_eq!(rt; written(&rt, alloc, &journal).as_slice(), SECOND.as_bytes());
     assert!(rt; read(&rt, alloc, SECOND) == journal);
     for text in [FIRST, SECOND] {
         let Ok(upgraded) = upgrade_journal(alloc, text.as_bytes()) else {
@@ -62,10 +67,7 @@ fn replay_in_another_mode(rt: HostRuntime) {
 fn all_edits_and_watches(rt: HostRuntime) {
     let alloc = rt.alloc();
     let journal = all(&rt, alloc);
-    let mut sink = Spout::new(Vec::new(alloc));
-    assert!(rt; write_journal(journal.items(), journal.mode(), &mut sink).is_ok());
-    let written: Vec<u8> = sink.into_inner();
-    assert_eq!(rt; written.as_slice(), ALL.as_bytes());
+    assert_eq!(rt; written(&rt, alloc, &journal).as_slice(), ALL.as_bytes());
     assert!(rt; read(&rt, alloc, ALL) == journal);
 }
 
@@ -89,13 +91,15 @@ fn empty_journals(rt: HostRuntime) {
 fn a_writer_that_fails(rt: HostRuntime) {
     let alloc = rt.alloc();
     let journal = one(&rt, alloc);
+    let items = journal.items();
+    assert!(rt; items.len() == 1);
     for room in 0..SECOND.len() {
         let mut sink = Short {
             room,
             held: Vec::new(alloc),
             broken: false,
         };
-        assert!(rt; write_journal(journal.items(), Mode::Stay, &mut sink).is_err());
+        assert!(rt; write_journal(items, Mode::Stay, &mut sink).is_err());
         let front = &SECOND.as_bytes()[..room];
         assert_eq!(rt; sink.held.as_slice(), front, "after {room} bytes");
     }

@@ -1,7 +1,7 @@
 use Rattle.std.proofs.Common.{◌≡◌, ap, arith, ◌∙◌}
 use Rattle.std.proofs.lemmas.Bool.{iff_false}
 use Rattle.desk_report.specs.LineText.{line_text}
-use Rattle.desk_journal.specs.Places.{head_words}
+use Rattle.desk_journal.specs.Begun.{head_words}
 use Rattle.desk_journal.specs.declared.places.Head.{Head}
 use Rattle.desk_journal.proofs.PlainWords.{plain-entry}
 use Rattle.desk_journal.proofs.PlainLines.{line-words_of}

@@ -1,7 +1,8 @@
 use Rattle.std.proofs.Common.{◌≡◌, ℕ, List, Option, Some, length, codes, ◌++◌, refl, ap, sym, subst, ◌∙◌, inl, inr, arith, rules}
 use Rattle.desk_report.specs.LineText.{line_text}
 use Rattle.desk_journal.specs.JournalText.{end_words}
-use Rattle.desk_journal.specs.Places.{IsHead, head_words, settled, Names}
+use Rattle.desk_journal.specs.Begun.{IsHead, head_words}
+use Rattle.desk_journal.specs.Places.{settled, Names}
 use Rattle.desk_journal.specs.declared.places.Begun.{Begun}
 use Rattle.desk_journal.specs.declared.places.Head.{Head}
 use Rattle.desk_journal.proofs.steps.between.Goals as goal
