@@ -1,3 +1,4 @@
+pub mod AllLines
 pub mod Progress
 pub mod MapLines
 pub mod MapDesk

@@ -7,27 +7,15 @@ use Rattle.std.proofs.KnownBytes.{Consumes-trans}
 use Rattle.std.proofs.Math.Nat.{eq-or-lt_of_le}
 use Rattle.std.proofs.lemmas.Bool.{cases_lt}
 use Rattle.bench_reader.specs.Announced.{rows_announced}
-use Rattle.bench_reader.specs.Lines as text_lines
-use Rattle.desk_session.specs.LinesOf.{complete_lines, last_piece, lines_of, join_first, join_rest, piece_lines}
+use Rattle.bench_reader.specs.Lines.{lines_of}
+use Rattle.desk_session.specs.LinesOf.{complete_lines, last_piece}
 use Rattle.desk_session.specs.Start.{HearsMap, Stops, IsFinished}
+use Rattle.desk_session.proofs.AllLines.{piece_lines, lines_of-split}
 use Rattle.desk_session.proofs.Progress.{complete-feed, piece-feed}
 
--- a byte that is no line feed, before a text
-joined : (byte : ℕ) (lines : List (List ℕ)) (rest : List ℕ) → text_lines.join_first byte (lines ++ piece_lines rest) ≡ join_first byte lines ++ piece_lines (join_rest byte lines rest)
-joined byte [] [] = refl
-joined byte [] (x ∷ rest) = refl
-joined byte (line ∷ lines) rest = refl
-
--- both ways to say how a text falls into lines are one
-same_lines : (text : List ℕ) → text_lines.lines_of text ≡ lines_of text
-same_lines [] = refl
-same_lines (byte ∷ text) = rw (same_lines text)
-    (elim (nat_eq byte 10) as (λ b. cond b ([] ∷ (complete_lines text ++ piece_lines (last_piece text))) (text_lines.join_first byte (complete_lines text ++ piece_lines (last_piece text))) ≡ cond b ([] ∷ complete_lines text) (join_first byte (complete_lines text)) ++ piece_lines (cond b (last_piece text) (join_rest byte (complete_lines text) (last_piece text))))
-    [ true ↦ refl | false ↦ joined byte (complete_lines text) (last_piece text) ])
-
 -- after a line feed, the complete lines are all lines
-pub all_complete : (text : List ℕ) → text_lines.lines_of (text ++ 10 ∷ []) ≡ complete_lines (text ++ 10 ∷ [])
-all_complete text = same_lines (text ++ 10 ∷ []) ∙ ap (λ p. complete_lines (text ++ 10 ∷ []) ++ piece_lines p) (piece-feed text) ∙ append-nil (complete_lines (text ++ 10 ∷ []))
+pub all_complete : (text : List ℕ) → lines_of (text ++ 10 ∷ []) ≡ complete_lines (text ++ 10 ∷ [])
+all_complete text = lines_of-split (text ++ 10 ∷ []) ∙ ap (λ p. complete_lines (text ++ 10 ∷ []) ++ piece_lines p) (piece-feed text) ∙ append-nil (complete_lines (text ++ 10 ∷ []))
 
 -- fewer than four lines announce no row
 pub none_announced : (lines : List (List ℕ)) → length lines < 4 → rows_announced lines ≡ 0
@@ -68,7 +56,7 @@ pub record Told (text : List ℕ) (lines wanted : ℕ) : Type 0 where
   pub few : wanted ≤ 2052
   pub enough : lines ≤ wanted
 
-pub told-fourth : (text : List ℕ) (lines rows wanted : ℕ) → length (complete_lines text) ≡ lines → lines + 1 ≡ 4 → rows ≡ rows_announced (text_lines.lines_of (text ++ 10 ∷ [])) → rows ≤ 2048 → wanted ≡ 4 + rows → Told (text ++ 10 ∷ []) (lines + 1) wanted
+pub told-fourth : (text : List ℕ) (lines rows wanted : ℕ) → length (complete_lines text) ≡ lines → lines + 1 ≡ 4 → rows ≡ rows_announced (lines_of (text ++ 10 ∷ [])) → rows ≤ 2048 → wanted ≡ 4 + rows → Told (text ++ 10 ∷ []) (lines + 1) wanted
 told-fourth text lines rows wanted n four r b w = record {
   counted = lines_more text ∙ ap (λ k. k + 1) n;
   is = sym (w ∙ ap (λ k. 4 + k) (r ∙ ap rows_announced (all_complete text)));

@@ -4,7 +4,9 @@ use Rattle.std.specs.Prelude.{Option, Ok, Err}
 use Rattle.std.specs.Io.KnownBytes.{Consumes, Appends, IsAtEnd}
 use Rattle.std.proofs.KnownBytes.{Appends-trans, Appends-nil, Consumes-trans, Consumes-nil}
 use Rattle.desk_report.specs.Bytes.{AppendsFront}
-use Rattle.desk_session.specs.LinesOf.{complete_lines, last_piece, lines_of, join_first, join_rest, piece_lines}
+use Rattle.bench_reader.specs.Lines.{lines_of}
+use Rattle.desk_session.specs.LinesOf.{complete_lines, last_piece, join_first, join_rest}
+use Rattle.desk_session.proofs.AllLines.{piece_lines, lines_of-split}
 use Rattle.desk_session.specs.Replies.{reply_text, session_text}
 use Rattle.desk_session.specs.Session.{Answering, Run, Serves}
 use Rattle.desk_session.specs.declared.replies.Reply.{Reply}
@@ -118,17 +120,17 @@ module _ {S : Type 0} (answers : Answering S) (left0 left1 left2 held0 held1 : O
       }
 
 lines-fed : (text : List ℕ) → lines_of (text ++ (10 ∷ [])) ≡ complete_lines text ++ (last_piece text ∷ [])
-lines-fed text = rw (complete-feed text, piece-feed text) (append-nil (complete_lines text ++ (last_piece text ∷ [])))
+lines-fed text = lines_of-split (text ++ (10 ∷ [])) ∙ rw (complete-feed text, piece-feed text) (append-nil (complete_lines text ++ (last_piece text ∷ [])))
 
 piece-line : (piece : List ℕ) → 0 < length piece → piece_lines piece ≡ piece ∷ []
 piece-line [] h = absurd (omega arith)
 piece-line (byte ∷ piece) h = refl
 
 lines-ended : (text : List ℕ) → 0 < length (last_piece text) → lines_of text ≡ complete_lines text ++ (last_piece text ∷ [])
-lines-ended text h = ap (λ l. complete_lines text ++ l) (piece-line (last_piece text) h)
+lines-ended text h = lines_of-split text ∙ ap (λ l. complete_lines text ++ l) (piece-line (last_piece text) h)
 
 no-piece : (text : List ℕ) → last_piece text ≡ [] → lines_of text ≡ complete_lines text
-no-piece text h = ap (λ p. complete_lines text ++ piece_lines p) h ∙ append-nil (complete_lines text)
+no-piece text h = lines_of-split text ∙ ap (λ p. complete_lines text ++ piece_lines p) h ∙ append-nil (complete_lines text)
 
 nothing : (text : List ℕ) → length text ≡ 0 → text ≡ []
 nothing [] h = refl

@@ -2,6 +2,7 @@ pub mod Counting
 pub mod Drafts
 pub mod RefusalText
 pub mod Replies
+pub mod Tellings
 pub mod Table
 pub mod LinesOf
 pub mod Session

@@ -1,6 +1,7 @@
 //! Watches and edits that are kept, and commits that are made.
 ghost use Rattle.std.specs.Prelude.{◌≡◌, ◌⊎◌, [], ◌∷◌};
-ghost use Rattle.desk_session.specs.Table.{FindsNoMemory, KeepsWatch, KeepsEdit, Commits, CommitsAlone, after_commit};
+ghost use Rattle.desk_session.specs.Table.{FindsNoMemory, KeepsWatch, KeepsEdit, Commits, CommitsAlone};
+ghost use Rattle.desk_session.specs.Tellings.{after_commit};
 
 use crate::counters::Counter;
 use crate::drafts::{Gathered, Session};

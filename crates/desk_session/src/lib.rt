@@ -1,4 +1,4 @@
-//! Sessions of planners over bytes: lines in, answers out.
+//! Sessions of planners over bytes: lines in, answers out; and the text of journals.
 #![tactic(auto)]
 
 mod answers;
@@ -14,6 +14,7 @@ mod writers;
 
 pub use bounds::{Bounds, ServeFault, StartFault};
 pub use counters::Counter;
+pub use desk_journal::{Journal, JournalFault, read_journal, upgrade_journal, write_journal};
 pub use serving::serve;
 pub use starting::{hear_map, serve_with_map};
 
