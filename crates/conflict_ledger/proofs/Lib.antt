@@ -5,3 +5,4 @@ pub mod Live
 pub mod PairEntries
 pub mod LawsHold
 pub mod RoundTrips
+pub mod Sets

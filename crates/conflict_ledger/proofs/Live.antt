@@ -7,7 +7,7 @@ use Rattle.plan_table.specs.Route.{Fleet, position_of, last_of, Leaves}
 use Rattle.plan_table.proofs.Fleets.{position_live, changes_early, leaver_early}
 use Rattle.conflict_ledger.specs.Entries.{both_end_by}
 use Rattle.conflict_ledger.specs.ConflictList.{Stands}
-use Rattle.conflict_ledger.specs.Finding.{IsOfPair}
+use Rattle.conflict_ledger.specs.Naming.{IsOfPair}
 use Rattle.conflict_ledger.specs.declared.entries.Conflict.{Conflict}
 use Rattle.conflict_ledger.specs.declared.entries.Conflict.TheVariants.{Vertex, Parked, Edge, Following, Swapping, Cycle}
 

@@ -7,7 +7,8 @@ use Rattle.grid_cells.specs.Cell.{Point}
 use Rattle.conflict_ledger.specs.Entries.{IsVertex, IsParked, IsEdge, IsFollowing, IsSwapping}
 use Rattle.conflict_ledger.specs.ConflictList.{Stands}
 use Rattle.plan_table.specs.Route.{Fleet}
-use Rattle.conflict_ledger.specs.Finding.{HasPair, HasRing, AreFound, AddsFound, IsOfPair, Adds}
+use Rattle.conflict_ledger.specs.Finding.{HasPair, HasRing, AreFound, AddsFound, Adds}
+use Rattle.conflict_ledger.specs.Naming.{IsOfPair}
 use Rattle.conflict_ledger.specs.declared.entries.Conflict.{Conflict}
 use Rattle.conflict_ledger.specs.declared.entries.Conflict.TheVariants.{Vertex, Parked, Edge, Following, Swapping, Cycle}
 

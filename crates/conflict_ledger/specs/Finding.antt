@@ -3,9 +3,10 @@ use Rattle.std.specs.Prelude.{◌≡◌, ◌⊎◌, ℕ, ◌<◌, ◌≤◌, Lis
 use Rattle.plan_table.specs.Order.{ComesBefore}
 use Rattle.conflict_ledger.specs.Cycles.{IsRing}
 use Rattle.conflict_ledger.specs.ConflictList.{Stands, listing_key}
+use Rattle.conflict_ledger.specs.Naming.{IsOfPair}
 use Rattle.plan_table.specs.Route.{Fleet}
 use Rattle.conflict_ledger.specs.declared.entries.Conflict.{Conflict}
-use Rattle.conflict_ledger.specs.declared.entries.Conflict.TheVariants.{Vertex, Parked, Edge, Following, Swapping, Cycle}
+use Rattle.conflict_ledger.specs.declared.entries.Conflict.TheVariants.{Cycle}
 
 -- the entries are in order
 abbrev pub IsListed : List Conflict → Type 0
@@ -26,15 +27,6 @@ pub record Adds (old new : List Conflict) (added : Conflict) : Type 0 where
   pub keeps : KeepsAll old new
   pub has : Contains new added
   pub only : (entry : Conflict) → Contains new entry → Contains old entry ⊎ (entry ≡ added)
-
--- the entry is of that time and those two agents, in this order
-abbrev pub IsOfPair : Conflict → ℕ → ℕ → ℕ → Type 0
-IsOfPair (Vertex time first second cell) x a b = (time ≡ x) × (first ≡ a) × (second ≡ b)
-IsOfPair (Parked time first second cell) x a b = (time ≡ x) × (first ≡ a) × (second ≡ b)
-IsOfPair (Edge time first second cell next) x a b = (time ≡ x) × (first ≡ a) × (second ≡ b)
-IsOfPair (Following time follower leader cell) x a b = (time ≡ x) × (follower ≡ a) × (leader ≡ b)
-IsOfPair (Swapping time first second cell other) x a b = (time ≡ x) × (first ≡ a) × (second ≡ b)
-IsOfPair (Cycle time ring) x a b = ⊥
 
 -- an entry with that key would go to the place: those before it come before, the one at it does not
 pub record IsPlaceFor (entries : List Conflict) (key : List ℕ) (place : ℕ) : Type 0 where

@@ -3,6 +3,7 @@ ghost use Rattle.grid_cells.specs.Cell.{Point};
 ghost use Rattle.plan_table.specs.Route.{position_of, last_of, leaves_of, Leaves, tracks_of};
 ghost use Rattle.conflict_ledger.specs.Entries.{IsVertex, IsParked, IsEdge, IsFollowing, IsSwapping, both_end_by};
 ghost use Rattle.conflict_ledger.specs.ConflictList.{Stands};
+ghost use Rattle.conflict_ledger.specs.Naming.{IsOfPair};
 
 use crate::entries::Conflict;
 use grid_cells::{Agent, Cell, Step};
@@ -66,6 +67,7 @@ pub(crate) fn vertex(
     second: Agent,
 ) -> Option<Conflict>
     ensures stands { IfSome result (Stands (tracks_of mode plans.now.rows)) }
+    ensures pair { IfSome result (λ entry. IsOfPair entry time first second) }
     ensures found { (cell : Point) → IsVertex (tracks_of mode plans.now.rows) time first second cell → result ≡ Some (Conflict.Vertex time first second cell) }
 {
     let there = position(plans, mode, first, time)?;
@@ -90,6 +92,7 @@ pub(crate) fn parked(
     second: Agent,
 ) -> Option<Conflict>
     ensures stands { IfSome result (Stands (tracks_of mode plans.now.rows)) }
+    ensures pair { IfSome result (λ entry. IsOfPair entry time first second) }
     ensures found { (cell : Point) → IsParked (tracks_of mode plans.now.rows) time first second cell → result ≡ Some (Conflict.Parked time first second cell) }
 {
     let there = position(plans, mode, first, time)?;
@@ -117,6 +120,7 @@ pub(crate) fn edge(
 ) -> Option<Conflict>
     requires { time ≤ MOST_LAST_INDEX }
     ensures stands { IfSome result (Stands (tracks_of mode plans.now.rows)) }
+    ensures pair { IfSome result (λ entry. IsOfPair entry time first second) }
     ensures found { (cell next : Point) → IsEdge (tracks_of mode plans.now.rows) time first second cell next → result ≡ Some (Conflict.Edge time first second cell next) }
 {
     let cell = position(plans, mode, first, time)?;
@@ -145,6 +149,7 @@ pub(crate) fn following(
 ) -> Option<Conflict>
     requires { time ≤ MOST_LAST_INDEX }
     ensures stands { IfSome result (Stands (tracks_of mode plans.now.rows)) }
+    ensures pair { IfSome result (λ entry. IsOfPair entry time follower leader) }
     ensures found { (cell : Point) → IsFollowing (tracks_of mode plans.now.rows) time follower leader cell → result ≡ Some (Conflict.Following time follower leader cell) }
 {
     let cell = position(plans, mode, leader, time)?;
@@ -172,6 +177,7 @@ pub(crate) fn swapping(
 ) -> Option<Conflict>
     requires { time ≤ MOST_LAST_INDEX }
     ensures stands { IfSome result (Stands (tracks_of mode plans.now.rows)) }
+    ensures pair { IfSome result (λ entry. IsOfPair entry time first second) }
     ensures found { (cell other : Point) → IsSwapping (tracks_of mode plans.now.rows) time first second cell other → result ≡ Some (Conflict.Swapping time first second cell other) }
 {
     let cell = position(plans, mode, first, time)?;

@@ -1,12 +1,15 @@
-ghost use Rattle.std.specs.Prelude.{◌≡◌, ℕ, ◌+◌, ◌<◌, ◌≤◌, Some, None, IfOk, OnOk, IfSome, List, slice_index};
+ghost use Rattle.std.specs.Prelude.{◌≡◌, ◌⊎◌, ℕ, ◌+◌, ◌<◌, ◌≤◌, Some, None, IfOk, OnOk, IfSome, List, slice_index, Contains};
+ghost use Rattle.plan_table.specs.Order.{ListsAll};
 ghost use Rattle.plan_table.specs.Route.{last_of, tracks_of};
 ghost use Rattle.conflict_ledger.specs.Cycles.{IsRing};
-ghost use Rattle.conflict_ledger.specs.ConflictList.{Stands, AreConflicts};
+ghost use Rattle.conflict_ledger.specs.ConflictList.{Stands, AreConflicts, listing_key};
+ghost use Rattle.conflict_ledger.specs.Naming.{IsOfPair, IsOfTwo};
+ghost use Rattle.conflict_ledger.specs.declared.entries.Conflict.{Conflict};
 ghost use Rattle.conflict_ledger.specs.Finding.{AreFound, KeepsAll, HasPair, HasRing};
 
 use crate::entries::Conflict;
 use crate::pairs::{edge, following, last, parked, swapping, vertex};
-use crate::rings::{agent_of, ring_from};
+use crate::rings::{Table, agent_of, ring_from};
 use crate::sorted::add_found;
 use grid_cells::{Agent, List, OutOfMemory, Step};
 use plan_table::{MOST_LAST_INDEX, Mode, Plans};
@@ -27,6 +30,7 @@ fn add_pair(
     ensures found { OnOk result (AreFound (tracks_of mode plans.now.rows) entries.new.items) }
     ensures keeps { OnOk result (KeepsAll entries.old.items entries.new.items) }
     ensures has { OnOk result (HasPair (tracks_of mode plans.now.rows) time first second entries.new.items) }
+    ensures only { OnOk result ((entry : Conflict) → Contains entries.new.items entry → Contains entries.old.items entry ⊎ IsOfPair entry time first second) }
 {
     add_found(alloc, entries, vertex(plans, mode, time, first, second))?;
     add_found(alloc, entries, parked(plans, mode, time, first, second))?;
@@ -34,6 +38,43 @@ fn add_pair(
     add_found(alloc, entries, following(plans, mode, time, first, second))?;
     add_found(alloc, entries, swapping(plans, mode, time, first, second))?;
     Ok(())
+}
+
+/// The entries of that time and those two agents, as written in this order, in the order in which
+/// entries are listed.
+pub fn entries_of_pair(
+    alloc: Global,
+    plans: &Plans,
+    mode: Mode,
+    time: u32,
+    first: Agent,
+    second: Agent,
+) -> Result<List<Conflict>, OutOfMemory>
+    requires { time ≤ MOST_LAST_INDEX }
+    ensures { IfOk result (ListsAll listing_key (λ entry. Stands (tracks_of mode plans.now.rows) entry × IsOfPair entry time first second)) }
+{
+    let mut entries = Vec::new(alloc);
+    add_pair(alloc, &mut entries, plans, mode, time, first, second)?;
+    Ok(List::new(entries))
+}
+
+/// The entries of that time and those two agents, in either order, in the order in which entries
+/// are listed.
+pub fn entries_of_two(
+    alloc: Global,
+    plans: &Plans,
+    mode: Mode,
+    time: u32,
+    first: Agent,
+    second: Agent,
+) -> Result<List<Conflict>, OutOfMemory>
+    requires { time ≤ MOST_LAST_INDEX }
+    ensures { IfOk result (ListsAll listing_key (λ entry. Stands (tracks_of mode plans.now.rows) entry × IsOfTwo entry time first second)) }
+{
+    let mut entries = Vec::new(alloc);
+    add_pair(alloc, &mut entries, plans, mode, time, first, second)?;
+    add_pair(alloc, &mut entries, plans, mode, time, second, first)?;
+    Ok(List::new(entries))
 }
 
 // Adds the entries of that time whose first agent is that one.
@@ -103,7 +144,7 @@ fn cycle(
     ensures stands { IfOk result (λ found. IfSome found (Stands (tracks_of mode plans.now.rows))) }
     ensures found { IfOk result (λ found. (ring : List ℕ) → IsRing (tracks_of mode plans.now.rows) time ring → slice_index ring 0 ≡ first → found ≡ Some (Conflict.Cycle time ring)) }
 {
-    match ring_from(alloc, plans, mode, time, first)? {
+    match ring_from(alloc, &Table { plans, mode }, time, first)? {
         Some(ring) => Ok(Some(Conflict::Cycle {
             time: Step::new(time),
             ring,

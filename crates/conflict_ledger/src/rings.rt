@@ -1,6 +1,6 @@
-ghost use Rattle.std.specs.Prelude.{◌≡◌, ℕ, ◌<◌, ◌≤◌, ◌↔◌, List, length, Some, IfOk, IfSome, IfNone, IsTrue, slice_get, slice_index, Contains};
+ghost use Rattle.std.specs.Prelude.{◌≡◌, ℕ, ◌<◌, ◌≤◌, ◌↔◌, List, length, Some, IfOk, IfSome, IfNone, IsTrue, slice_get, slice_index};
 ghost use Rattle.plan_table.specs.Plans.{agents_of};
-ghost use Rattle.plan_table.specs.Route.{tracks_of};
+ghost use Rattle.plan_table.specs.Route.{Fleet, tracks_of};
 ghost use Rattle.conflict_ledger.specs.Cycles.{MovesOut, IsRing};
 ghost use Rattle.conflict_ledger.specs.RingWalk.{IsNext};
 
@@ -9,6 +9,7 @@ use crate::pairs::position;
 use grid_cells::{Agent, Cell, List, OutOfMemory};
 use plan_table::{MOST_LAST_INDEX, Mode, Plans};
 use std::alloc::Global;
+use std::collections::BTreeSet;
 
 // The agent at the rank.
 pub(crate) fn agent_of(plans: &Plans, rank: u32) -> Agent
@@ -61,8 +62,44 @@ fn is_sole(plans: &Plans, mode: Mode, time: u32, cell: Cell, agent: Agent) -> bo
     true
 }
 
+/// Tells of a fleet which agent comes next to each in a step: all that the search for rings asks.
+pub trait NextMovers {
+    /// Whether it is that fleet of which the value tells.
+    ghost tells: { Self → Fleet → Type 0 };
+
+    /// The one agent that moves out of the cell into which the agent moves, in the step that begins
+    /// at the time. None where the agent doesn't move, and where none or several move out.
+    fn next_of(&self, time: u32, agent: Agent) -> Option<Agent>
+        requires { time ≤ MOST_LAST_INDEX }
+        ensures next { (fleet : Fleet) → tells self.now fleet → IfSome result (IsNext fleet time agent) }
+        ensures only { (fleet : Fleet) (next : ℕ) → tells self.now fleet → IsNext fleet time agent next → result ≡ Some next };
+
+    /// A number that the agents of a ring don't exceed.
+    fn most_agents(&self) -> u32
+        ensures { (fleet : Fleet) (time : ℕ) (ring : List ℕ) → tells self.now fleet → IsRing fleet time ring → length ring ≤ result };
+}
+
+// The plans of a table in a mode.
+#[derive(Clone, Copy)]
+pub(crate) struct Table<'a> {
+    pub plans: &'a Plans,
+    pub mode: Mode,
+}
+
+impl NextMovers for Table<'_> {
+    ghost tells = { λ table fleet. fleet ≡ tracks_of table.mode table.plans.now.rows };
+
+    fn next_of(&self, time: u32, agent: Agent) -> Option<Agent> {
+        next_in(self.plans, self.mode, time, agent)
+    }
+
+    fn most_agents(&self) -> u32 {
+        self.plans.count()
+    }
+}
+
 // The one agent that moves out of the cell to which the agent moves.
-fn next_of(plans: &Plans, mode: Mode, time: u32, agent: Agent) -> Option<Agent>
+fn next_in(plans: &Plans, mode: Mode, time: u32, agent: Agent) -> Option<Agent>
     requires { time ≤ MOST_LAST_INDEX }
     ensures next { IfSome result (IsNext (tracks_of mode plans.now.rows) time agent) }
     ensures only { (next : ℕ) → IsNext (tracks_of mode plans.now.rows) time agent next → result ≡ Some next }
@@ -80,41 +117,31 @@ fn next_of(plans: &Plans, mode: Mode, time: u32, agent: Agent) -> Option<Agent>
     }
 }
 
-// Whether the list has the agent.
-fn has_agent(agents: &[Agent], agent: Agent) -> bool
-    ensures { IsTrue result ↔ Contains agents.now agent }
-{
-    for other in agents {
-        if *other == agent {
-            return true;
-        }
-    }
-    false
-}
-
-// The ring of that time whose least agent is that one.
-pub(crate) fn ring_from(
+/// The ring of the step that begins at the time whose least agent is that one. It goes from each
+/// agent to the next, and asks for no more than that.
+pub fn ring_from<M: NextMovers>(
     alloc: Global,
-    plans: &Plans,
-    mode: Mode,
+    movers: &M,
     time: u32,
     first: Agent,
 ) -> Result<Option<Ring>, OutOfMemory>
     requires { time ≤ MOST_LAST_INDEX }
-    ensures ring { IfOk result (λ found. IfSome found (IsRing (tracks_of mode plans.now.rows) time)) }
-    ensures only { IfOk result (λ found. (ring : List ℕ) → IsRing (tracks_of mode plans.now.rows) time ring → slice_index ring 0 ≡ first → found ≡ Some ring) }
+    ensures ring { IfOk result (λ found. (fleet : Fleet) → M.tells movers.now fleet → IfSome found (IsRing fleet time)) }
+    ensures only { IfOk result (λ found. (fleet : Fleet) (ring : List ℕ) → M.tells movers.now fleet → IsRing fleet time ring → slice_index ring 0 ≡ first → found ≡ Some ring) }
 {
     let mut chain = Vec::new(alloc);
+    let mut seen = BTreeSet::new(alloc);
     chain.push(first)?;
-    for _ in 0..plans.count() {
-        let Some(next) = next_of(plans, mode, time, chain[chain.len() - 1]) else {
+    seen.insert(first)?;
+    for _ in 0..movers.most_agents() {
+        let Some(next) = movers.next_of(time, chain[chain.len() - 1]) else {
             return Ok(None);
         };
         if next == first {
             let long = chain.len() >= 3;
             return Ok(if long { Some(List::new(chain)) } else { None });
         }
-        if next < first || has_agent(&chain, next) {
+        if next < first || !seen.insert(next)? {
             return Ok(None);
         }
         chain.push(next)?;

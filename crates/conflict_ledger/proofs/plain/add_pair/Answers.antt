@@ -1,5 +1,8 @@
 use Rattle.std.proofs.Common.{inl, inr}
+use Rattle.std.proofs.lemmas.Option.{MatchOption-at_some}
 use Rattle.plan_table.specs.Route.{tracks_of}
+use Rattle.conflict_ledger.specs.Naming.{IsOfPair}
+use Rattle.conflict_ledger.specs.declared.entries.Conflict.{Conflict}
 use Rattle.conflict_ledger.proofs.PairEntries.{AreFound-more, one_of_five}
 use Rattle.conflict_ledger.proofs.plain.add_pair.Goals as goal
 
@@ -29,6 +32,25 @@ returns-clause-has c entry stands of =
         | inr r ↦ elim r [
           | inl e ↦ five (four (c.in_ok-add_found-3.ensures.has entry e))
           | inr r ↦ elim r [ inl f ↦ five (c.in_ok-add_found-4.ensures.has entry f) | inr s ↦ c.in_ok-add_found-5.ensures.has entry s ]
+        ]
+      ]
+    ]
+
+pub returns-clause-only : goal.returns-clause-only
+returns-clause-only c entry h =
+    elim (c.in_ok-add_found-5.ensures.only entry h) [
+      | inr is ↦ inr (MatchOption-at_some _ (λ (e : Conflict). IsOfPair e c.args.time c.args.first c.args.second) entry is c.swapping.ensures.pair)
+      | inl h ↦ elim (c.in_ok-add_found-4.ensures.only entry h) [
+        | inr is ↦ inr (MatchOption-at_some _ (λ (e : Conflict). IsOfPair e c.args.time c.args.first c.args.second) entry is c.following.ensures.pair)
+        | inl h ↦ elim (c.in_ok-add_found-3.ensures.only entry h) [
+          | inr is ↦ inr (MatchOption-at_some _ (λ (e : Conflict). IsOfPair e c.args.time c.args.first c.args.second) entry is c.edge.ensures.pair)
+          | inl h ↦ elim (c.in_ok-add_found-2.ensures.only entry h) [
+            | inr is ↦ inr (MatchOption-at_some _ (λ (e : Conflict). IsOfPair e c.args.time c.args.first c.args.second) entry is c.parked.ensures.pair)
+            | inl h ↦ elim (c.in_ok-add_found.ensures.only entry h) [
+              | inr is ↦ inr (MatchOption-at_some _ (λ (e : Conflict). IsOfPair e c.args.time c.args.first c.args.second) entry is c.vertex.ensures.pair)
+              | inl h ↦ inl h
+            ]
+          ]
         ]
       ]
     ]
