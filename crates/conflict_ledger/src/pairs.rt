@@ -9,8 +9,8 @@ use crate::entries::Conflict;
 use grid_cells::{Agent, Cell, Step};
 use plan_table::{MOST_LAST_INDEX, Mode, Plans};
 
-// Where the agent is at the time, if it is anywhere.
-pub(crate) fn position(plans: &Plans, mode: Mode, agent: Agent, time: u32) -> Option<Cell>
+/// Where the agent is at the time, if it is anywhere.
+pub fn position(plans: &Plans, mode: Mode, agent: Agent, time: u32) -> Option<Cell>
     ensures { result ≡ position_of (tracks_of mode plans.now.rows) agent time }
 {
     let row = plans.row(agent)?;

@@ -19,8 +19,8 @@ pub(crate) fn agent_of(plans: &Plans, rank: u32) -> Agent
     plans.entry_at(rank).0
 }
 
-// Whether the agent moves out of the cell in the step.
-fn moves_out(plans: &Plans, mode: Mode, time: u32, agent: Agent, cell: Cell) -> bool
+/// Whether the agent moves out of the cell in the step that begins at the time.
+pub fn moves_out(plans: &Plans, mode: Mode, time: u32, agent: Agent, cell: Cell) -> bool
     requires { time ≤ MOST_LAST_INDEX }
     ensures { IsTrue result ↔ MovesOut (tracks_of mode plans.now.rows) time agent cell }
 {

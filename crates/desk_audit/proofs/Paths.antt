@@ -1,0 +1,63 @@
+-- Paths, filed place by place and agent by agent.
+use Rattle.std.proofs.Common.{◌≡◌, ℕ, ◌+◌, ◌<◌, ◌≤◌, List, length, Some, sym, ap, subst, ◌∙◌, inl, inr, arith}
+use Rattle.std.proofs.lemmas.Bool.{cases_lt}
+use Rattle.std.proofs.lemmas.Option.{same_Some}
+use Rattle.grid_cells.specs.Cell.{Point}
+use Rattle.plan_table.specs.Path.{last_index, place}
+use Rattle.plan_table.specs.Plans.{row_of}
+use Rattle.plan_table.specs.Route.{tracks_of, last_of}
+use Rattle.plan_table.specs.declared.plans.Row.{Row}
+use Rattle.plan_table.specs.declared.tracks.Mode.{Mode}
+use Rattle.desk_audit.specs.Filing.{Files, KeepsFiled}
+use Rattle.desk_audit.specs.Index.{pass, IsAtRest, AddsPath, HasPath, HasPaths, HasRests, RestsFrom, IsIndexOf}
+use Rattle.desk_audit.specs.declared.tables.Table.{Table}
+use Rattle.desk_audit.specs.declared.sightings.Sightings.{Sightings}
+use Rattle.desk_audit.proofs.Places.{on_row, last_of_row, rests_at_last}
+
+-- what is filed for each time before one, and at it, is filed for each time before the next
+pub seen_more : (table new : Table) (agent time : ℕ) (path : List Point) (cell : Point) (number : ℕ → ℕ) (Due : ℕ → Type 0) → KeepsFiled table new → place path time ≡ Some cell
+    → ((t : ℕ) (c : Point) → t < time → place path t ≡ Some c → Due t → Files table c (number t) (pass t agent))
+    → (Due time → Files new cell (number time) (pass time agent))
+    → (t : ℕ) (c : Point) → t < time + 1 → place path t ≡ Some c → Due t → Files new c (number t) (pass t agent)
+seen_more table new agent time path cell number Due keeps at before here t c lt there due =
+    elim (cases_lt t time) [
+      | inl lower ↦ keeps c (number t) (pass t agent) (before t c lower there due)
+      | inr higher ↦
+          let same : t ≡ time = omega arith in
+          let cells : cell ≡ c = same_Some cell c (sym at ∙ ap (place path) (sym same) ∙ there) in
+          rw (same, ← cells) (here (subst Due same due))
+    ]
+
+pub keeps_path : (moments moments' passes passes' : Table) (agent : ℕ) (path : List Point) (first_rest : ℕ) → KeepsFiled moments moments' → KeepsFiled passes passes' → HasPath moments passes agent path first_rest → HasPath moments' passes' agent path first_rest
+keeps_path moments moments' passes passes' agent path first_rest keeps_m keeps_p has = record {
+  seen = λ time cell early there. keeps_m cell time _ (has.seen time cell early there);
+  passed = λ time cell early there late. keeps_p cell 0 _ (has.passed time cell early there late);
+}
+
+pub added_path : (moments moments' passes passes' : Table) (agent : ℕ) (path : List Point) (first_rest : ℕ) → AddsPath moments moments' passes passes' agent path first_rest (last_index path + 1) → HasPath moments' passes' agent path first_rest
+added_path moments moments' passes passes' agent path first_rest adds = record {
+  seen = λ time cell early there. adds.seen time cell (omega arith) there;
+  passed = λ time cell early there late. adds.passed time cell (omega arith) there late;
+}
+
+pub index_is : (mode : Mode) (rows : List (ℕ × Row)) (index : Sightings) (first_rest : ℕ) → Rattle.desk_audit.specs.Filing.IsFiled index.rests → HasRests (tracks_of mode rows) index.rests → RestsFrom (tracks_of mode rows) first_rest → HasPaths index.moments index.passes rows first_rest → IsIndexOf (tracks_of mode rows) index
+index_is mode rows index first_rest filed rests from paths = record {
+  moments_filed = paths.moments_filed;
+  rests_filed = filed;
+  passes_filed = paths.passes_filed;
+  moments = λ agent time cell is. let at = on_row mode rows agent time cell is in (paths.paths agent at.row at.live).seen time cell at.early at.there;
+  rests = rests;
+  passes = λ agent other time cell is resting.
+      let at = on_row mode rows agent time cell is in
+      let begun = from other time cell resting in
+      (paths.paths agent at.row at.live).passed time cell at.early at.there (omega (arith, resting.0));
+}
+
+-- an agent that is filed under its last cell is filed where it rests
+pub rest_filed : (mode : Mode) (rows : List (ℕ × Row)) (agent last : ℕ) (row : Row) (table : Table) (here : Point) → row_of rows agent ≡ Some row → last ≡ last_index row.plan → place row.plan last ≡ Some here → Files table here 0 (pass last agent)
+    → (time : ℕ) (cell : Point) → IsAtRest (tracks_of mode rows) agent time cell → Files table cell 0 (pass (last_of (tracks_of mode rows) agent) agent)
+rest_filed mode rows agent last row table here live is_last at filed time cell is =
+    let end : last_of (tracks_of mode rows) agent ≡ last = last_of_row mode rows agent row live ∙ sym is_last in
+    let there : place row.plan last ≡ Some cell = ap (place row.plan) is_last ∙ rests_at_last mode rows agent time cell row live is in
+    let cells : here ≡ cell = same_Some here cell (sym at ∙ there) in
+    rw (end, ← cells) filed

@@ -1,0 +1,60 @@
+-- What an index of a fleet's sightings has: words for the audit's own steps (this project's choice).
+use Rattle.std.specs.Prelude.{◌≡◌, ℕ, ◌<◌, ◌≤◌, Some, List}
+use Rattle.grid_cells.specs.Cell.{Point}
+use Rattle.plan_table.specs.Path.{last_index, place}
+use Rattle.plan_table.specs.Plans.{row_of}
+use Rattle.plan_table.specs.Route.{Fleet, position_of, last_of}
+use Rattle.plan_table.specs.declared.plans.Row.{Row}
+use Rattle.desk_audit.specs.Filing.{IsFiled, Files, KeepsFiled}
+use Rattle.desk_audit.specs.declared.tables.Pass.{Pass}
+use Rattle.desk_audit.specs.declared.tables.Table.{Table}
+use Rattle.desk_audit.specs.declared.sightings.Sightings.{Sightings}
+
+abbrev pub pass : ℕ → ℕ → Pass
+pass time agent = record { time = time; agent = agent }
+
+-- the agent is in the cell, and its path has not ended before
+abbrev pub IsOnPath : Fleet → ℕ → ℕ → Point → Type 0
+IsOnPath fleet agent time cell = (time ≤ last_of fleet agent) × (position_of fleet agent time ≡ Some cell)
+
+-- the agent is in the cell, and its path has ended before
+abbrev pub IsAtRest : Fleet → ℕ → ℕ → Point → Type 0
+IsAtRest fleet agent time cell = (last_of fleet agent < time) × (position_of fleet agent time ≡ Some cell)
+
+-- each agent that rests is filed under its cell, with the last index of its path
+abbrev pub HasRests : Fleet → Table → Type 0
+HasRests fleet rests = (agent time : ℕ) (cell : Point) → IsAtRest fleet agent time cell → Files rests cell 0 (pass (last_of fleet agent) agent)
+
+-- no agent's rest begins before
+abbrev pub RestsFrom : Fleet → ℕ → Type 0
+RestsFrom fleet first = (agent time : ℕ) (cell : Point) → IsAtRest fleet agent time cell → first ≤ last_of fleet agent
+
+-- the tables keep what was filed, and have the places of the agent's path before that time
+pub record AddsPath (moments moments' passes passes' : Table) (agent : ℕ) (path : List Point) (first_rest end : ℕ) : Type 0 where
+  pub moments_filed : IsFiled moments'
+  pub passes_filed : IsFiled passes'
+  pub keeps_moments : KeepsFiled moments moments'
+  pub keeps_passes : KeepsFiled passes passes'
+  pub seen : (time : ℕ) (cell : Point) → time < end → place path time ≡ Some cell → Files moments' cell time (pass time agent)
+  pub passed : (time : ℕ) (cell : Point) → time < end → place path time ≡ Some cell → first_rest < time → Files passes' cell 0 (pass time agent)
+
+-- the tables have the agent's path
+pub record HasPath (moments passes : Table) (agent : ℕ) (path : List Point) (first_rest : ℕ) : Type 0 where
+  pub seen : (time : ℕ) (cell : Point) → time ≤ last_index path → place path time ≡ Some cell → Files moments cell time (pass time agent)
+  pub passed : (time : ℕ) (cell : Point) → time ≤ last_index path → place path time ≡ Some cell → first_rest < time → Files passes cell 0 (pass time agent)
+
+-- the tables have each agent's path
+pub record HasPaths (moments passes : Table) (rows : List (ℕ × Row)) (first_rest : ℕ) : Type 0 where
+  pub moments_filed : IsFiled moments
+  pub passes_filed : IsFiled passes
+  pub paths : (agent : ℕ) (row : Row) → row_of rows agent ≡ Some row → HasPath moments passes agent row.plan first_rest
+
+-- whoever is in a cell is filed there: on its path by cell and time, at rest by cell, and by cell alone, too,
+-- where it comes to a cell in which another is at rest
+pub record IsIndexOf (fleet : Fleet) (index : Sightings) : Type 0 where
+  pub moments_filed : IsFiled index.moments
+  pub rests_filed : IsFiled index.rests
+  pub passes_filed : IsFiled index.passes
+  pub moments : (agent time : ℕ) (cell : Point) → IsOnPath fleet agent time cell → Files index.moments cell time (pass time agent)
+  pub rests : HasRests fleet index.rests
+  pub passes : (agent other time : ℕ) (cell : Point) → IsOnPath fleet agent time cell → IsAtRest fleet other time cell → Files index.passes cell 0 (pass time agent)

@@ -1,0 +1,5 @@
+//! The report of a scene, made from scratch in pieces, each by a thread of its own.
+#![tactic(auto)]
+
+mod sightings;
+mod tables;

@@ -1,0 +1,128 @@
+//! The index of an audit: which agents are in which cell at which time. It is made once, from the
+//! plans alone, and lent to all pieces.
+ghost use Rattle.std.specs.Prelude.{◌+◌, IfOk, OnOk};
+ghost use Rattle.plan_table.specs.Path.{last_index};
+ghost use Rattle.plan_table.specs.Route.{tracks_of};
+ghost use Rattle.desk_audit.specs.Filing.{IsFiled};
+ghost use Rattle.desk_audit.specs.Index.{IsIndexOf, HasRests, RestsFrom, AddsPath, HasPaths};
+
+use crate::tables::{Pass, Table};
+use grid_cells::{Agent, OutOfMemory, Step};
+use plan_table::{Mode, Plan, Plans};
+use std::alloc::Global;
+
+/// Where agents are: while they follow their paths, by cell and time and again by cell alone, and
+/// where they rest for ever, by cell.
+#[derive(Drop)]
+pub struct Sightings {
+    // Each agent in each cell of its path, by cell and time.
+    pub moments: Table,
+    // Each agent that never leaves in its last cell, by cell, with the last index of its path.
+    pub rests: Table,
+    // Each agent in each cell of its path after the first of all rests has begun, by cell.
+    pub passes: Table,
+}
+
+impl Sightings {
+    /// The index of the plans.
+    pub fn new(alloc: Global, mode: Mode, plans: &Plans) -> Result<Sightings, OutOfMemory>
+        ensures { IfOk result (IsIndexOf (tracks_of mode plans.now.rows)) }
+    {
+        let agents = plans.count() as usize;
+        let cells = cells_of(plans);
+        let mut moments = Table::new(alloc, cells, cells)?;
+        let mut rests = Table::new(alloc, agents, agents)?;
+        let mut passes = Table::new(alloc, agents, 0)?;
+        file_rests(&mut rests, mode, plans)?;
+        let first_rest = first_rest(mode, plans);
+        file_paths(&mut moments, &mut passes, plans, first_rest)?;
+        Ok(Sightings {
+            moments,
+            rests,
+            passes,
+        })
+    }
+}
+
+// How many cells the paths have.
+fn cells_of(plans: &Plans) -> usize {
+    let mut cells: usize = 0;
+    for rank in 0..plans.count() {
+        let entry = plans.entry_at(rank);
+        cells = cells.saturating_add(entry.1.plan.cells().len());
+    }
+    cells
+}
+
+// Files each agent that never leaves under its last cell.
+fn file_rests(rests: &mut Table, mode: Mode, plans: &Plans) -> Result<(), OutOfMemory>
+    requires { IsFiled rests.old }
+    ensures filed { OnOk result (IsFiled rests.new) }
+    ensures rests { OnOk result (HasRests (tracks_of mode plans.now.rows) rests.new) }
+{
+    for rank in 0..plans.count() {
+        let entry = plans.entry_at(rank);
+        let agent = entry.0;
+        let time = entry.1.plan.last();
+        let cell = entry.1.plan.at(Step::new(time));
+        if !entry.1.track(mode).leaves {
+            rests.file(cell, 0, Pass { time, agent })?;
+        }
+    }
+    Ok(())
+}
+
+// The least last index of an agent that never leaves.
+fn first_rest(mode: Mode, plans: &Plans) -> u32
+    ensures { RestsFrom (tracks_of mode plans.now.rows) result }
+{
+    let mut first = u32::MAX;
+    for rank in 0..plans.count() {
+        let entry = plans.entry_at(rank);
+        let last = entry.1.plan.last();
+        if !entry.1.track(mode).leaves && last < first {
+            first = last;
+        }
+    }
+    first
+}
+
+// Files the agent in each cell of its path.
+fn file_path(
+    moments: &mut Table,
+    passes: &mut Table,
+    agent: Agent,
+    plan: &Plan,
+    first_rest: u32,
+) -> Result<(), OutOfMemory>
+    requires moments { IsFiled moments.old }
+    requires passes { IsFiled passes.old }
+    ensures { OnOk result (AddsPath moments.old moments.new passes.old passes.new agent plan.now first_rest (last_index plan.now + 1)) }
+{
+    for time in 0..plan.last() + 1 {
+        let cell = plan.at(Step::new(time));
+        moments.file(cell, time, Pass { time, agent })?;
+        if first_rest < time {
+            passes.file(cell, 0, Pass { time, agent })?;
+        }
+    }
+    Ok(())
+}
+
+// Files each agent in each cell of its path.
+fn file_paths(
+    moments: &mut Table,
+    passes: &mut Table,
+    plans: &Plans,
+    first_rest: u32,
+) -> Result<(), OutOfMemory>
+    requires moments { IsFiled moments.old }
+    requires passes { IsFiled passes.old }
+    ensures { OnOk result (HasPaths moments.new passes.new plans.now.rows first_rest) }
+{
+    for rank in 0..plans.count() {
+        let entry = plans.entry_at(rank);
+        file_path(moments, passes, entry.0, &entry.1.plan, first_rest)?;
+    }
+    Ok(())
+}

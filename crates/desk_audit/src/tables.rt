@@ -1,0 +1,109 @@
+//! Sightings of agents, filed under a cell and a number: each bucket is a chain of slots, the one
+//! filed last first, so that a look-up goes over the slots of one bucket alone.
+ghost use Rattle.std.specs.Prelude.{◌≡◌, ◌≢◌, ◌↔◌, IsTrue, ℕ, ◌<◌, ◌≤◌, IfOk, OnOk, Contains, length};
+ghost use Rattle.desk_audit.specs.Filing.{bucket_of, IsFiled, Files, KeepsFiled};
+
+use grid_cells::{Agent, Cell, OutOfMemory};
+use std::alloc::Global;
+
+/// An agent, and a time at which it is in a cell that is known.
+#[derive(Clone, Copy, Debug, PartialEq, Eq)]
+pub struct Pass {
+    pub time: u32,
+    pub agent: Agent,
+}
+
+/// What is filed under a cell and a number, and the slot that was filed before it in its bucket.
+#[derive(Clone, Copy)]
+pub struct Slot {
+    pub cell: Cell,
+    pub number: u32,
+    pub pass: Pass,
+    pub before: Option<u32>,
+}
+
+/// Slots in buckets, and the last slot of each bucket.
+#[derive(Drop)]
+pub struct Table {
+    pub heads: Vec<Option<u32>>,
+    pub slots: Vec<Slot>,
+}
+
+impl Slot {
+    // Whether it is filed under the cell and the number, and is of another agent than that one.
+    fn is_other(&self, cell: Cell, number: u32, agent: Agent) -> bool
+        ensures { IsTrue result ↔ ((self.now.cell ≡ cell) × (self.now.number ≡ number) × (self.now.pass.agent ≢ agent)) }
+    {
+        self.cell == cell && self.number == number && self.pass.agent != agent
+    }
+}
+
+// The bucket of the cell and the number, of that many.
+#[tactic(auto, unfolding(crate::specs::Filing::bucket_of))]
+pub fn bucket(many: usize, cell: Cell, number: u32) -> usize
+    requires { 0 < many }
+    ensures is { result ≡ bucket_of many cell number }
+    ensures bound { result < many }
+{
+    let place = u64::from(cell.y()) * 2_048 + u64::from(cell.x());
+    let mixed = place * 2_654_435_761 + u64::from(number) * 2_246_822_519;
+    (mixed % many as u64) as usize
+}
+
+impl Table {
+    // A table of that many buckets, or one, with room for that many slots, in which nothing is filed.
+    pub fn new(alloc: Global, buckets: usize, room: usize) -> Result<Table, OutOfMemory>
+        ensures { IfOk result IsFiled }
+    {
+        Ok(Table {
+            heads: vec![in alloc; None; buckets.max(1)]?,
+            slots: Vec::with_capacity(alloc, room)?,
+        })
+    }
+
+    // Files the agent, at the time, under the cell and the number. A table holds at most
+    // `u32::MAX` slots, far more than a scene has cells on its paths.
+    pub fn file(&mut self, cell: Cell, number: u32, pass: Pass) -> Result<(), OutOfMemory>
+        requires { IsFiled self.old }
+        ensures filed { OnOk result (IsFiled self.new) }
+        ensures keeps { OnOk result (KeepsFiled self.old self.new) }
+        ensures has { OnOk result (Files self.new cell number pass) }
+    {
+        let Ok(place) = u32::try_from(self.slots.len()) else {
+            return Err(OutOfMemory);
+        };
+        let bucket = bucket(self.heads.len(), cell, number);
+        let before = self.heads[bucket];
+        self.slots.push(Slot {
+            cell,
+            number,
+            pass,
+            before,
+        })?;
+        self.heads[bucket] = Some(place);
+        Ok(())
+    }
+
+    // Adds what is filed under the cell and the number, of other agents than that one.
+    pub fn add_others(
+        &self,
+        found: &mut Vec<Pass>,
+        cell: Cell,
+        number: u32,
+        agent: Agent,
+    ) -> Result<(), OutOfMemory>
+        requires { IsFiled self.now }
+        ensures keeps { OnOk result ((pass : Pass) → Contains found.old.items pass → Contains found.new.items pass) }
+        ensures has { OnOk result ((pass : Pass) → Files self.now cell number pass → pass.agent ≢ agent → Contains found.new.items pass) }
+    {
+        let mut next = self.heads[bucket(self.heads.len(), cell, number)];
+        while let Some(place) = next {
+            let slot = &self.slots[place as usize];
+            if slot.is_other(cell, number, agent) {
+                found.push(slot.pass)?;
+            }
+            next = slot.before;
+        }
+        Ok(())
+    }
+}
