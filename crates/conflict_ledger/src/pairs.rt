@@ -22,8 +22,8 @@ pub fn position(plans: &Plans, mode: Mode, agent: Agent, time: u32) -> Option<Ce
     }
 }
 
-// The last index of the agent's path.
-pub(crate) fn last(plans: &Plans, mode: Mode, agent: Agent) -> u32
+/// The last index of the agent's path, and 0 where it has none.
+pub fn last(plans: &Plans, mode: Mode, agent: Agent) -> u32
     ensures is { result ≡ last_of (tracks_of mode plans.now.rows) agent }
     ensures bound { result ≤ MOST_LAST_INDEX }
 {

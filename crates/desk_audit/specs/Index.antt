@@ -5,6 +5,7 @@ use Rattle.plan_table.specs.Path.{last_index, place}
 use Rattle.plan_table.specs.Plans.{row_of}
 use Rattle.plan_table.specs.Route.{Fleet, position_of, last_of}
 use Rattle.plan_table.specs.declared.plans.Row.{Row}
+use Rattle.plan_table.specs.declared.tracks.Mode.{Mode}
 use Rattle.desk_audit.specs.Filing.{IsFiled, Files, KeepsFiled}
 use Rattle.desk_audit.specs.declared.tables.Pass.{Pass}
 use Rattle.desk_audit.specs.declared.tables.Table.{Table}
@@ -58,3 +59,8 @@ pub record IsIndexOf (fleet : Fleet) (index : Sightings) : Type 0 where
   pub moments : (agent time : ℕ) (cell : Point) → IsOnPath fleet agent time cell → Files index.moments cell time (pass time agent)
   pub rests : HasRests fleet index.rests
   pub passes : (agent other time : ℕ) (cell : Point) → IsOnPath fleet agent time cell → IsAtRest fleet other time cell → Files index.passes cell 0 (pass time agent)
+
+-- the rows of a fleet's agents, and its mode
+pub record Fleetwide : Type 0 where
+  pub mode : Mode
+  pub rows : List (ℕ × Row)

@@ -1,2 +1,4 @@
 pub mod Filing
 pub mod Index
+pub mod Parts
+pub mod Seeking

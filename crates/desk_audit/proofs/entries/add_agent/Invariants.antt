@@ -1,0 +1,8 @@
+use Rattle.std.proofs.Common.{◌≡◌, ◌<◌}
+use Rattle.plan_table.specs.Route.{tracks_of}
+use Rattle.desk_audit.specs.Parts.{first_agent}
+use Rattle.desk_audit.specs.Seeking.{Finds, time_of}
+use Rattle.desk_audit.proofs.entries.add_agent.Given as goal
+
+abbrev pub invariant-loop-time : goal.invariant-loop-time
+invariant-loop-time l = Finds (tracks_of l.mode l.plans.rows) l.agent l.initial.entries.items l.entries.items (λ entry. (time_of entry < l.time) × (first_agent entry ≡ l.agent))

@@ -1,0 +1,30 @@
+use Rattle.std.proofs.Common.{take, ◌+◌, inl, inr, arith}
+use Rattle.plan_table.specs.Route.{tracks_of}
+use Rattle.conflict_ledger.specs.Naming.{IsOfPair}
+use Rattle.desk_audit.specs.Seeking.{IsOfPassed}
+use Rattle.desk_audit.proofs.Finding.{finds_then, finds_as, passed_split}
+use Rattle.desk_audit.proofs.entries.add_passed.Goals as goal
+use Rattle.desk_audit.proofs.entries.add_passed.Goals.{then-after-pass+then-pass-last+in_ok-add_pair, else-after-pass, else-after-pass-via-then-after-pass+else-pass-last, else-after-pass-via-else-after-pass}
+
+pub loop-pass-preserved : goal.loop-pass-preserved
+loop-pass-preserved c =
+    let fleet = tracks_of c.args.mode c.args.plans.now.rows in
+    let i = c.loop-pass.pass-index in
+    let pass = c.pass-item.result in
+    let now = IsOfPassed fleet c.args.after c.args.agent (take i c.args.passes.now) in
+    let more = IsOfPassed fleet c.args.after c.args.agent (take (i + 1) c.args.passes.now) in
+    let split = passed_split fleet c.args.after c.args.agent c.args.passes.now i pass c.pass-item.is c.loop-pass-test.true in
+    elim c.if-after-pass.branch [
+      | then-after-pass+then-pass-last+in_ok-add_pair w ↦
+          rw w.entries-is (finds_then fleet c.args.agent _ _ _ now (λ e. IsOfPair e pass.time c.args.agent pass.agent) more c.loop-pass.invariant w.in_ok-add_pair.ensures
+          (λ e stands of. elim (split e of) [ inl before ↦ inl before | inr here ↦ inr here.2 ]))
+      | else-after-pass w ↦
+          rw w.entries-is (finds_as fleet c.args.agent _ _ now more
+          (λ e stands of. elim (split e of) [
+            | inl before ↦ before
+            | inr here ↦ elim w.else-after-pass.branch [
+              | else-after-pass-via-then-after-pass+else-pass-last w' ↦ absurd (omega (arith, here.1, w'.last.ensures.is, w'.if-pass-last.false))
+              | else-after-pass-via-else-after-pass w' ↦ absurd (omega (arith, here.0, w'.if-after-pass.false))
+            ]
+          ]) c.loop-pass.invariant)
+    ]

@@ -1,0 +1,254 @@
+//! The conflict entries of a piece: those whose first written agent has a rank in the piece.
+ghost use Rattle.std.specs.Prelude.{◌≡◌, ◌≢◌, ℕ, ◌+◌, ◌<◌, ◌≤◌, ◌↔◌, IsTrue, IfOk, OnOk, Some, Contains, length, slice_get};
+ghost use Rattle.grid_cells.specs.Cell.{Point};
+ghost use Rattle.plan_table.specs.Path.{last_index, place};
+ghost use Rattle.plan_table.specs.Plans.{agents_of};
+ghost use Rattle.plan_table.specs.Route.{tracks_of, position_of, last_of};
+ghost use Rattle.conflict_ledger.specs.ConflictList.{Stands};
+ghost use Rattle.conflict_ledger.specs.Naming.{IsOfPair};
+ghost use Rattle.conflict_ledger.specs.declared.entries.Conflict.{Conflict};
+ghost use Rattle.desk_audit.specs.Index.{IsIndexOf};
+ghost use Rattle.desk_audit.specs.Parts.{IsRanked, first_agent};
+ghost use Rattle.desk_audit.specs.Seeking.{Finds, time_of, IsOfMet, IsOfPassed, IsRingFrom, IsAhead, Leads, HasMet};
+ghost use Rattle.desk_audit.specs.declared.tables.Pass.{Pass};
+
+use crate::movers::Movers;
+use crate::sightings::Sightings;
+use crate::tables::Pass;
+use conflict_ledger::{Conflict, Ring, entries_of_pair, last, ring_from};
+use grid_cells::{Agent, Cell, OutOfMemory, Step};
+use plan_table::{MOST_LAST_INDEX, Mode, Plans};
+use std::alloc::Global;
+
+// Adds the entries of that time and those two agents, as written in this order.
+fn add_pair(
+    alloc: Global,
+    entries: &mut Vec<Conflict>,
+    plans: &Plans,
+    mode: Mode,
+    time: u32,
+    first: Agent,
+    second: Agent,
+) -> Result<(), OutOfMemory>
+    requires { time ≤ MOST_LAST_INDEX }
+    ensures { OnOk result (Finds (tracks_of mode plans.now.rows) first entries.old.items entries.new.items (λ entry. IsOfPair entry time first second)) }
+{
+    let mut found = entries_of_pair(alloc, plans, mode, time, first, second)?.into_items();
+    entries.append(&mut found)?;
+    Ok(())
+}
+
+// Adds the entries of that time that name the agent first, with one that is met then.
+fn add_met(
+    alloc: Global,
+    entries: &mut Vec<Conflict>,
+    plans: &Plans,
+    mode: Mode,
+    time: u32,
+    agent: Agent,
+    met: &[Pass],
+) -> Result<(), OutOfMemory>
+    requires { time ≤ MOST_LAST_INDEX }
+    ensures { OnOk result (Finds (tracks_of mode plans.now.rows) agent entries.old.items entries.new.items (IsOfMet time agent met.now)) }
+{
+    for pass in met {
+        if pass.time <= time {
+            add_pair(alloc, entries, plans, mode, time, agent, pass.agent)?;
+        }
+    }
+    Ok(())
+}
+
+// Adds the entries that name the agent first, with one that passes after that time.
+fn add_passed(
+    alloc: Global,
+    entries: &mut Vec<Conflict>,
+    plans: &Plans,
+    mode: Mode,
+    after: u32,
+    agent: Agent,
+    passes: &[Pass],
+) -> Result<(), OutOfMemory>
+    ensures { OnOk result (Finds (tracks_of mode plans.now.rows) agent entries.old.items entries.new.items (IsOfPassed (tracks_of mode plans.now.rows) after agent passes.now)) }
+{
+    for pass in passes {
+        if after < pass.time && pass.time <= last(plans, mode, pass.agent) {
+            add_pair(alloc, entries, plans, mode, pass.time, agent, pass.agent)?;
+        }
+    }
+    Ok(())
+}
+
+// Adds the ring of that time whose least agent is that one.
+fn add_ring(
+    alloc: Global,
+    entries: &mut Vec<Conflict>,
+    movers: &Movers,
+    time: u32,
+    agent: Agent,
+) -> Result<(), OutOfMemory>
+    requires { time ≤ MOST_LAST_INDEX }
+    ensures { OnOk result (Finds (tracks_of movers.now.mode movers.now.rows) agent entries.old.items entries.new.items (IsRingFrom time agent)) }
+{
+    if let Some(ring) = ring_from(alloc, movers, time, agent)?
+        && begins_with(&ring, agent)
+    {
+        entries.push(Conflict::Cycle {
+            time: Step::new(time),
+            ring,
+        })?;
+    }
+    Ok(())
+}
+
+// Whether the first agent of the ring is that one.
+fn begins_with(ring: &Ring, agent: Agent) -> bool
+    ensures { IsTrue result ↔ (slice_get ring.now 0 ≡ Some agent) }
+{
+    match ring.items().first() {
+        Some(first) => *first == agent,
+        None => false,
+    }
+}
+
+// The other agents that are in the cell at the time.
+fn others_at(
+    alloc: Global,
+    plans: &Plans,
+    mode: Mode,
+    index: &Sightings,
+    time: u32,
+    cell: Cell,
+    agent: Agent,
+) -> Result<Vec<Pass>, OutOfMemory>
+    requires { IsIndexOf (tracks_of mode plans.now.rows) index.now }
+    ensures { IfOk result (λ met. HasMet (tracks_of mode plans.now.rows) time cell agent met.items) }
+{
+    let mut met = Vec::new(alloc);
+    index.moments.add_others(&mut met, cell, time, agent)?;
+    index.rests.add_others(&mut met, cell, 0, agent)?;
+    Ok(met)
+}
+
+// Adds the entries of the step that begins at that time and in which the agent moves on to the
+// cell: those that name it first, with one that is in that cell, and the ring whose least agent it
+// is.
+fn add_ahead(
+    alloc: Global,
+    entries: &mut Vec<Conflict>,
+    plans: &Plans,
+    mode: Mode,
+    index: &Sightings,
+    time: u32,
+    cell: Cell,
+    agent: Agent,
+) -> Result<(), OutOfMemory>
+    requires time { time ≤ MOST_LAST_INDEX }
+    requires index { IsIndexOf (tracks_of mode plans.now.rows) index.now }
+    ensures { OnOk result (Finds (tracks_of mode plans.now.rows) agent entries.old.items entries.new.items (Leads (tracks_of mode plans.now.rows) time agent cell)) }
+{
+    let leaders = others_at(alloc, plans, mode, index, time, cell, agent)?;
+    if !leaders.is_empty() {
+        add_met(alloc, entries, plans, mode, time, agent, &leaders)?;
+        let movers = Movers { plans, mode, index };
+        add_ring(alloc, entries, &movers, time, agent)?;
+    }
+    Ok(())
+}
+
+// Adds the entries of that time that name the agent first, where it is in one cell, and moves on to
+// the other, if that is given.
+fn add_step(
+    alloc: Global,
+    entries: &mut Vec<Conflict>,
+    plans: &Plans,
+    mode: Mode,
+    index: &Sightings,
+    time: u32,
+    here: Cell,
+    ahead: Option<Cell>,
+    agent: Agent,
+) -> Result<(), OutOfMemory>
+    requires time { time ≤ MOST_LAST_INDEX }
+    requires index { IsIndexOf (tracks_of mode plans.now.rows) index.now }
+    requires here { position_of (tracks_of mode plans.now.rows) agent time ≡ Some here }
+    requires ahead { IsAhead (tracks_of mode plans.now.rows) agent time here ahead }
+    ensures { OnOk result (Finds (tracks_of mode plans.now.rows) agent entries.old.items entries.new.items (λ entry. (time_of entry ≡ time) × (first_agent entry ≡ agent))) }
+{
+    let met = others_at(alloc, plans, mode, index, time, here, agent)?;
+    add_met(alloc, entries, plans, mode, time, agent, &met)?;
+    if let Some(cell) = ahead {
+        add_ahead(alloc, entries, plans, mode, index, time, cell, agent)?;
+    }
+    Ok(())
+}
+
+// Adds the entries that name the agent first, at times after its path has ended in the cell.
+fn add_rest(
+    alloc: Global,
+    entries: &mut Vec<Conflict>,
+    plans: &Plans,
+    mode: Mode,
+    index: &Sightings,
+    end: u32,
+    cell: Cell,
+    agent: Agent,
+) -> Result<(), OutOfMemory>
+    requires index { IsIndexOf (tracks_of mode plans.now.rows) index.now }
+    requires end { end ≡ last_of (tracks_of mode plans.now.rows) agent }
+    requires there { position_of (tracks_of mode plans.now.rows) agent end ≡ Some cell }
+    ensures { OnOk result (Finds (tracks_of mode plans.now.rows) agent entries.old.items entries.new.items (λ entry. (end < time_of entry) × (first_agent entry ≡ agent))) }
+{
+    let mut passes = Vec::new(alloc);
+    index.passes.add_others(&mut passes, cell, 0, agent)?;
+    add_passed(alloc, entries, plans, mode, end, agent, &passes)
+}
+
+// Adds the entries that name the agent at that rank first.
+fn add_agent(
+    alloc: Global,
+    entries: &mut Vec<Conflict>,
+    plans: &Plans,
+    mode: Mode,
+    index: &Sightings,
+    rank: u32,
+) -> Result<(), OutOfMemory>
+    requires rank { rank < length plans.now.rows }
+    requires index { IsIndexOf (tracks_of mode plans.now.rows) index.now }
+    ensures { OnOk result ((agent : ℕ) → slice_get (agents_of plans.now.rows) rank ≡ Some agent → Finds (tracks_of mode plans.now.rows) agent entries.old.items entries.new.items (λ entry. first_agent entry ≡ agent)) }
+{
+    let _agents = plans.count();
+    let entry = plans.entry_at(rank);
+    let agent = entry.0;
+    let plan = &entry.1.plan;
+    let end = plan.last();
+    for time in 0..end + 1 {
+        let here = plan.at(Step::new(time));
+        let next = plan.at(Step::new(time + 1));
+        let ahead = if next == here { None } else { Some(next) };
+        add_step(alloc, entries, plans, mode, index, time, here, ahead, agent)?;
+    }
+    let cell = plan.at(Step::new(end));
+    add_rest(alloc, entries, plans, mode, index, end, cell, agent)
+}
+
+/// The entries whose first written agent has a rank from one on and before another.
+pub fn entries_of(
+    alloc: Global,
+    plans: &Plans,
+    mode: Mode,
+    index: &Sightings,
+    from: u32,
+    to: u32,
+) -> Result<Vec<Conflict>, OutOfMemory>
+    requires order { from ≤ to }
+    requires within { to ≤ length plans.now.rows }
+    requires index { IsIndexOf (tracks_of mode plans.now.rows) index.now }
+    ensures { IfOk result (λ entries. (entry : Conflict) → Contains entries.items entry ↔ (Stands (tracks_of mode plans.now.rows) entry × IsRanked plans.now.rows from to (first_agent entry))) }
+{
+    let mut entries = Vec::new(alloc);
+    for rank in from..to {
+        add_agent(alloc, &mut entries, plans, mode, index, rank)?;
+    }
+    Ok(entries)
+}
