@@ -54,8 +54,8 @@ fn add_visit(
     Ok(())
 }
 
-// Adds the agent's visits.
-fn add_visits(
+/// Adds the agent's visits to those of agents before it.
+pub fn add_visits(
     visits: &mut Vec<Visit>,
     grid: &Grid,
     agent: Agent,

@@ -32,15 +32,15 @@ module _ (table : Table) (bucket place : ℕ) (slot : Slot) (Done More : Slot �
     (keeps : (s : Slot) → Done s → More s) (here : More slot) (others : (s : Slot) → slot_bucket (many_of table) s ≢ bucket → More s) where
   done_more : (k : ℕ) (d : Slot) → place ≤ k → k < length table.slots.items → More (get_or table.slots.items k d)
   done_more k d le lt = elim (cases_lt k walk.bound) [
-      | inr late ↦ keeps _ (walk.done k d late lt)
-      | inl early ↦ elim (cases_lt place k) [
-        | inl later ↦ others _ (walk.last.2 k d (omega arith) early)
-        | inr same_place ↦
-            let at : k ≡ place = omega arith in
-            let read : get_or table.slots.items k d ≡ slot = rw at (Rattle.std.proofs.lemmas.List.get_or_default table.slots.items place d slot (omega arith) ∙ sym is) in
-            rw read here
-      ]
+    | inr late ↦ keeps _ (walk.done k d late lt)
+    | inl early ↦ elim (cases_lt place k) [
+      | inl later ↦ others _ (walk.last.2 k d (omega arith) early)
+      | inr same_place ↦
+          let at : k ≡ place = omega arith in
+          let read : get_or table.slots.items k d ≡ slot = rw at (Rattle.std.proofs.lemmas.List.get_or_default table.slots.items place d slot (omega arith) ∙ sym is) in
+          rw read here
     ]
+  ]
 
   pub walk_more : Walked table bucket slot.before More
   walk_more =
@@ -56,9 +56,9 @@ module _ (table : Table) (bucket place : ℕ) (slot : Slot) (Done More : Slot �
 
 pub walk_over : (table : Table) (bucket : ℕ) (Done : Slot → Type 0) → Walked table bucket None Done → ((s : Slot) → slot_bucket (many_of table) s ≢ bucket → Done s) → (k : ℕ) (d : Slot) → k < length table.slots.items → Done (get_or table.slots.items k d)
 walk_over table bucket Done walk others k d lt = elim (cases_lt k walk.bound) [
-    | inl early ↦ others _ (walk.last k d (omega arith) early)
-    | inr late ↦ walk.done k d late lt
-  ]
+  | inl early ↦ others _ (walk.last k d (omega arith) early)
+  | inr late ↦ walk.done k d late lt
+]
 
 -- a slot with that key, of another agent, has its pass in the list
 abbrev pub Gathers : Point → ℕ → ℕ → List Pass → Slot → Type 0

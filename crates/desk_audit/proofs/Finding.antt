@@ -46,13 +46,13 @@ module _ (fleet : Fleet) (agent : ℕ) where
 
   pub finds_pair : (time second : ℕ) (old found new : List Conflict) → new ≡ old ++ found → ListsAll listing_key (λ entry. Stands fleet entry × IsOfPair entry time agent second) found → Finds fleet agent old new (λ entry. IsOfPair entry time agent second)
   finds_pair time second old found new is lists = rw is (record {
-      keeps = λ e h. Contains-append_left old found e h;
-      only = λ e h. elim (Contains-append_cases old found e h) [
-        | inl in_old ↦ inl in_old
-        | inr in_found ↦ let exact = (lists.exact e).0 in_found in inr (exact.0, first_of_pair e time agent second exact.1)
-      ];
-      has = λ e stands of. Contains-append_right old found e ((lists.exact e).1 (stands, of));
-    })
+    keeps = λ e h. Contains-append_left old found e h;
+    only = λ e h. elim (Contains-append_cases old found e h) [
+      | inl in_old ↦ inl in_old
+      | inr in_found ↦ let exact = (lists.exact e).0 in_found in inr (exact.0, first_of_pair e time agent second exact.1)
+    ];
+    has = λ e stands of. Contains-append_right old found e ((lists.exact e).1 (stands, of));
+  })
 
   pub finds_one : (entry : Conflict) (old : List Conflict) (Sought : Conflict → Type 0) → Stands fleet entry → first_agent entry ≡ agent → ((e : Conflict) → Stands fleet e → Sought e → entry ≡ e) → Finds fleet agent old (old ++ entry ∷ []) Sought
   finds_one entry old Sought stands first only = record {

@@ -4,3 +4,7 @@ pub mod Paths
 pub mod Soles
 pub mod Near
 pub mod Finding
+pub mod Listing
+pub mod Merging
+pub mod Bounding
+pub mod Tiles

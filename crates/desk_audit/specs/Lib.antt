@@ -2,3 +2,4 @@ pub mod Filing
 pub mod Index
 pub mod Parts
 pub mod Seeking
+pub mod Sorting

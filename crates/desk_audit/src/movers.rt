@@ -44,13 +44,7 @@ impl NextMovers for Movers<'_> {
 }
 
 // The one agent that moves out of the cell to which the agent moves.
-fn next_in(
-    plans: &Plans,
-    mode: Mode,
-    index: &Sightings,
-    time: u32,
-    agent: Agent,
-) -> Option<Agent>
+fn next_in(plans: &Plans, mode: Mode, index: &Sightings, time: u32, agent: Agent) -> Option<Agent>
     requires time { time ≤ MOST_LAST_INDEX }
     requires index { IsIndexOf (tracks_of mode plans.now.rows) index.now }
     ensures next { IfSome result (IsNext (tracks_of mode plans.now.rows) time agent) }
@@ -65,13 +59,7 @@ fn next_in(
 }
 
 // The one agent that moves out of the cell in the step.
-fn sole_mover(
-    plans: &Plans,
-    mode: Mode,
-    index: &Sightings,
-    time: u32,
-    cell: Cell,
-) -> Option<Agent>
+fn sole_mover(plans: &Plans, mode: Mode, index: &Sightings, time: u32, cell: Cell) -> Option<Agent>
     requires time { time ≤ MOST_LAST_INDEX }
     requires index { IsIndexOf (tracks_of mode plans.now.rows) index.now }
     ensures sole { IfSome result (IsSoleMover (tracks_of mode plans.now.rows) time cell) }

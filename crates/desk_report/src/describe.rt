@@ -1,17 +1,18 @@
-ghost use Rattle.std.specs.Prelude.{◌≡◌, ◌<◌, IfOk, length, map, slice_get, Option, Some, ℕ};
+ghost use Rattle.std.specs.Prelude.{◌≡◌, ◌+◌, ◌<◌, ◌≤◌, IfOk, length, map, slice_get, Option, Some, ℕ};
+ghost use Rattle.cost_ledger.specs.Costs.{IsSumOf, IsSumOfCosts, IsMakespan};
 ghost use Rattle.desk_report.specs.Report.{IsBound, IsLine, AreBounds, AreLines, IsReportOf};
 
 use crate::reports::{AgentLine, Report};
-use conflict_ledger::conflicts;
+use conflict_ledger::{Conflict, conflicts};
 use cost_ledger::{
-    blocked_visits, is_finished, is_unblocked, makespan, settle_time, sum_of, sum_of_costs,
+    Visit, blocked_visits, is_finished, is_unblocked, makespan, settle_time, sum_of, sum_of_costs,
 };
-use grid_cells::{Agent, Grid, List, OutOfMemory};
+use grid_cells::{Agent, Grid, List, MOST_AGENT, OutOfMemory};
 use plan_table::{Mode, Plans, Row};
 use std::alloc::Global;
 
-// What is said of the agent with that row.
-fn line(grid: &Grid, agent: Agent, row: &Row, bound: Option<u32>) -> AgentLine
+/// What is said of the agent with that row and that lower bound.
+pub fn line(grid: &Grid, agent: Agent, row: &Row, bound: Option<u32>) -> AgentLine
     ensures { IsBound grid.now row.now bound → IsLine grid.now (agent, row.now) result }
 {
     let settle = settle_time(&row.plan);
@@ -84,6 +85,38 @@ fn gaps_of(alloc: Global, lines: &[AgentLine]) -> Result<Vec<Option<u32>>, OutOf
     Ok(gaps)
 }
 
+/// The report of the plans with those conflicts, visits and lines: it adds the totals.
+pub fn with_totals(
+    alloc: Global,
+    plans: &Plans,
+    conflicts: List<Conflict>,
+    visits: List<Visit>,
+    lines: List<AgentLine>,
+) -> Result<Report, OutOfMemory>
+    requires { length lines ≤ MOST_AGENT + 1 }
+    ensures conflicts { IfOk result (λ report. report.conflicts ≡ conflicts) }
+    ensures visits { IfOk result (λ report. report.visits ≡ visits) }
+    ensures lines { IfOk result (λ report. report.lines ≡ lines) }
+    ensures sum { IfOk result (λ report. IsSumOfCosts plans.now.rows report.sum) }
+    ensures makespan { IfOk result (λ report. IsMakespan plans.now.rows report.makespan) }
+    ensures bounds { IfOk result (λ report. IsSumOf (map (λ line. line.bound) lines) report.bounds) }
+    ensures total_gap { IfOk result (λ report. IsSumOf (map (λ line. line.gap) lines) report.total_gap) }
+{
+    let sum = sum_of_costs(alloc, plans)?;
+    let makespan = makespan(alloc, plans)?;
+    let bounds = bounds_of(alloc, lines.items())?;
+    let gaps = gaps_of(alloc, lines.items())?;
+    Ok(Report {
+        conflicts,
+        visits,
+        lines,
+        sum,
+        makespan,
+        bounds: sum_of(&bounds),
+        total_gap: sum_of(&gaps),
+    })
+}
+
 /// The report of the map, the mode and the plans, found by going over all times and all pairs of
 /// agents, where the list has the agents' lower bounds in their order.
 pub fn plain_report(
@@ -98,18 +131,7 @@ pub fn plain_report(
     let _count = plans.count();
     let conflicts = conflicts(alloc, plans, mode)?;
     let visits = blocked_visits(alloc, grid, plans)?;
-    let sum = sum_of_costs(alloc, plans)?;
-    let makespan = makespan(alloc, plans)?;
     let lines = lines(alloc, grid, plans, bounds)?;
-    let bounds = bounds_of(alloc, &lines)?;
-    let gaps = gaps_of(alloc, &lines)?;
-    Ok(Report {
-        conflicts,
-        visits,
-        lines: List::new(lines),
-        sum,
-        makespan,
-        bounds: sum_of(&bounds),
-        total_gap: sum_of(&gaps),
-    })
+    let report = with_totals(alloc, plans, conflicts, visits, List::new(lines))?;
+    Ok(report)
 }

@@ -12,7 +12,7 @@ mod values;
 mod words;
 
 pub use bytes::{ReadFailed, Sink, Source, Spout, Tap, WriteFailed, put_all};
-pub use describe::plain_report;
+pub use describe::{line, plain_report, with_totals};
 pub use kinds::Kinds;
 pub use laws::{one_report, settle_is_bound_and_gap};
 pub use reports::{AgentLine, Report};

@@ -69,13 +69,13 @@ returns c =
     let here = row_here c.args.plans.now.rows c.count-agents.ensures.by_agent c.args.rank agent c.entry_at-entry.result.1.now c.entry_at-entry.ensures in
     OnOk_then c.add_rest.result _ _
     (λ (rest : Finds fleet agent c.loop-time.entries.items c.add_rest.new.entries.items (λ entry. (end < time_of entry) × (first_agent entry ≡ agent))) a at.
-      let same : agent ≡ a = same_Some agent a (sym here.1 ∙ at) in
-      subst (λ (q : ℕ). Finds fleet q c.args.entries.now.items c.add_rest.new.entries.items (λ entry. first_agent entry ≡ q)) same
-      (finds_then fleet agent c.args.entries.now.items c.loop-time.entries.items c.add_rest.new.entries.items
-        (λ entry. (time_of entry < c.loop-time.time) × (first_agent entry ≡ agent)) (λ entry. (end < time_of entry) × (first_agent entry ≡ agent)) (λ entry. first_agent entry ≡ agent)
-        c.loop-time.invariant rest
-        (λ e stands named. elim (cases_lt end (time_of e)) [
-          | inl late ↦ inr (late, named)
-          | inr early ↦ inl (omega arith, named)
-        ])))
+    let same : agent ≡ a = same_Some agent a (sym here.1 ∙ at) in
+    subst (λ (q : ℕ). Finds fleet q c.args.entries.now.items c.add_rest.new.entries.items (λ entry. first_agent entry ≡ q)) same
+    (finds_then fleet agent c.args.entries.now.items c.loop-time.entries.items c.add_rest.new.entries.items
+    (λ entry. (time_of entry < c.loop-time.time) × (first_agent entry ≡ agent)) (λ entry. (end < time_of entry) × (first_agent entry ≡ agent)) (λ entry. first_agent entry ≡ agent)
+    c.loop-time.invariant rest
+    (λ e stands named. elim (cases_lt end (time_of e)) [
+      | inl late ↦ inr (late, named)
+      | inr early ↦ inl (omega arith, named)
+    ])))
     c.add_rest.ensures

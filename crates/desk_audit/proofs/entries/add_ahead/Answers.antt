@@ -19,5 +19,5 @@ returns c =
       | else-not-is_empty w ↦
           rw w.entries-is (finds_none fleet c.args.agent c.args.entries.now.items (Leads fleet c.args.time c.args.agent c.args.cell)
           (λ e stands leads. let some : 0 < length c.in_ok-leaders.leaders.items = leads_some fleet c.args.time c.args.agent c.args.cell c.in_ok-leaders.leaders.items c.in_ok-leaders.ensures e leads in
-            let wrong = eqb-true _ _ (sym (w.if-not-is_empty.ensures)) in omega (arith, c.in_ok-leaders.leaders.ok)))
+          let wrong = eqb-true _ _ (sym (w.if-not-is_empty.ensures)) in omega (arith, c.in_ok-leaders.leaders.ok)))
     ]

@@ -13,6 +13,6 @@ returns c =
     let fleet = tracks_of c.args.mode c.args.plans.now.rows in
     OnOk_then c.add_passed.result _ _
     (finds_as fleet c.args.agent c.args.entries.now.items c.add_passed.new.entries.items (IsOfPassed fleet c.args.end c.args.agent c.deref.result.now) (λ entry. (c.args.end < time_of entry) × (first_agent entry ≡ c.args.agent))
-      (late_splits fleet c.args.index.now c.args.end c.args.agent c.args.cell c.deref.result.now c.requires.index c.requires.end c.requires.there
-        (λ pass filed apart. subst (λ (l : List Pass). Contains l pass) (sym c.deref.ensures.value) (c.in_ok-add_others.ensures.has pass filed apart))))
+    (late_splits fleet c.args.index.now c.args.end c.args.agent c.args.cell c.deref.result.now c.requires.index c.requires.end c.requires.there
+    (λ pass filed apart. subst (λ (l : List Pass). Contains l pass) (sym c.deref.ensures.value) (c.in_ok-add_others.ensures.has pass filed apart))))
     c.add_passed.ensures

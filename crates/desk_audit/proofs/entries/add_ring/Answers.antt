@@ -19,6 +19,6 @@ returns-in_ok-push c =
     let first : slice_index ring 0 ≡ c.args.agent = get_or_from_slice_get ring 0 c.args.agent 0 (c.begins_with.ensures.0 c.if-begins_with.true) in
     rw (c.in_ok-push.ensures.items, c.new.ensures) (finds_one fleet c.args.agent (Cycle time ring) c.args.entries.now.items (IsRingFrom time c.args.agent) is first
     (λ e stands sought.
-      let other : IsRing fleet time sought.0 = subst (Stands fleet) sought.1 stands in
-      let found = c.in_ok-ring.ensures.only fleet sought.0 refl other sought.2 in
-      ap (Cycle time) (same_Some ring sought.0 (sym c.in-Some.is ∙ found)) ∙ sym sought.1))
+    let other : IsRing fleet time sought.0 = subst (Stands fleet) sought.1 stands in
+    let found = c.in_ok-ring.ensures.only fleet sought.0 refl other sought.2 in
+    ap (Cycle time) (same_Some ring sought.0 (sym c.in-Some.is ∙ found)) ∙ sym sought.1))

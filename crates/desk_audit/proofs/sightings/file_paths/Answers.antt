@@ -21,8 +21,8 @@ loop-rank-preserved c =
       paths = below_rank_more rows c.loop-rank.rank agent (λ (a : ℕ). (row : Row) → row_of rows a ≡ Some row → HasPath moments passes a row.plan c.args.first_rest) here.1
           (λ a k lt is row live. keeps_path _ _ _ _ a row.plan c.args.first_rest adds.keeps_moments adds.keeps_passes (c.loop-rank.invariant.paths a k lt is row live))
           (λ row live.
-            let same : c.entry_at-entry.result.1.now ≡ row = same_Some _ row (sym here.0 ∙ live) in
-            subst (λ (r : Row). HasPath moments passes agent r.plan c.args.first_rest) same (added_path _ _ _ _ agent _ c.args.first_rest adds));
+          let same : c.entry_at-entry.result.1.now ≡ row = same_Some _ row (sym here.0 ∙ live) in
+          subst (λ (r : Row). HasPath moments passes agent r.plan c.args.first_rest) same (added_path _ _ _ _ agent _ c.args.first_rest adds));
     }
 
 pub returns : goal.returns

@@ -19,8 +19,8 @@ loop-rank-preserved c =
     let flag : c.track.result.leaves ≡ leaves_in c.args.mode row = ap (λ (r : Route). r.leaves) c.track.ensures in
     let last = last_of_row c.args.mode rows agent row here.0 in
     let more = λ (first : ℕ) (less : first ≤ c.loop-rank.first) (own : (time : ℕ) (cell : Point) → IsAtRest (tracks_of c.args.mode rows) agent time cell → first ≤ last_of (tracks_of c.args.mode rows) agent).
-        below_rank_more rows c.loop-rank.rank agent (λ (a : ℕ). (time : ℕ) (cell : Point) → IsAtRest (tracks_of c.args.mode rows) a time cell → first ≤ last_of (tracks_of c.args.mode rows) a) here.1
-        (λ a k lt is time cell rests. omega (arith, less, c.loop-rank.invariant a k lt is time cell rests)) own in
+    below_rank_more rows c.loop-rank.rank agent (λ (a : ℕ). (time : ℕ) (cell : Point) → IsAtRest (tracks_of c.args.mode rows) a time cell → first ≤ last_of (tracks_of c.args.mode rows) a) here.1
+    (λ a k lt is time cell rests. omega (arith, less, c.loop-rank.invariant a k lt is time cell rests)) own in
     elim c.if-not-track.branch [
       | then-not-track+then-last-first w ↦ rw w.first-is (more c.last-last.result (omega (arith, w.if-last-first.true)) (λ time cell rests. omega (arith, last, c.last-last.ensures.is)))
       | else-not-track w ↦ rw w.first-is (elim w.else-not-track.branch [

@@ -1,0 +1,79 @@
+-- Pieces that follow one another, and their parts joined.
+use Rattle.std.proofs.Common.{◌≡◌, ℕ, ◌+◌, ◌≤◌, List, [], ◌∷◌, ◌++◌, length, slice_range, refl, sym, ap, subst, ◌∙◌, arith, Bool, true, false}
+use Rattle.std.specs.List.{Contains}
+use Rattle.grid_cells.specs.Grid.{Chart}
+use Rattle.plan_table.specs.Order.{ListsAll}
+use Rattle.plan_table.specs.Plans.{IsByAgent}
+use Rattle.plan_table.specs.Route.{Fleet, tracks_of}
+use Rattle.plan_table.specs.declared.plans.Row.{Row}
+use Rattle.plan_table.specs.declared.tracks.Mode.{Mode}
+use Rattle.scene_edits.specs.Scene.{SceneState}
+use Rattle.conflict_ledger.specs.ConflictList.{Stands, AreConflicts, listing_key}
+use Rattle.conflict_ledger.specs.declared.entries.Conflict.TheVariants.{Vertex, Parked, Edge, Following, Swapping, Cycle}
+use Rattle.conflict_ledger.proofs.Live.{stands_live}
+use Rattle.conflict_ledger.proofs.RoundTrips.{ring_live}
+use Rattle.plan_table.proofs.Fleets.{tracks_live}
+use Rattle.std.specs.Prelude.{IsSome}
+use Rattle.std.proofs.lemmas.List.{take_rest}
+use Rattle.conflict_ledger.specs.declared.entries.Conflict.{Conflict}
+use Rattle.cost_ledger.specs.Visits.{visit_key}
+use Rattle.cost_ledger.specs.declared.visits.Visit.{Visit}
+use Rattle.desk_report.specs.Report.{IsLine, AreLines}
+use Rattle.desk_report.specs.declared.reports.AgentLine.{AgentLine}
+use Rattle.desk_audit.specs.Parts.{IsPart, IsVisitOf, AreEntriesOf, first_agent}
+use Rattle.desk_audit.specs.declared.parts.Part.{Part}
+use Rattle.desk_audit.specs.declared.threads.Piece.{Piece}
+use Rattle.desk_audit.proofs.Finding.{ranked_none}
+use Rattle.desk_audit.proofs.Merging.{joined, visits_joined, visits_none, EachOf-append, range_step, rank_in_all}
+
+-- the pieces are of this scene, and go from one rank to another with no gap
+abbrev pub Tiles : SceneState → ℕ → List Piece → ℕ → Type 0
+Tiles scene from [] to = from ≡ to
+Tiles scene from (p ∷ ps) to = (p.scene.now ≡ scene) × (p.from ≡ from) × (from ≤ p.to) × Tiles scene p.to ps to
+
+pub tiles-more : (scene : SceneState) (a b : ℕ) (ps : List Piece) (p : Piece) → Tiles scene a ps b → p.scene.now ≡ scene → p.from ≡ b → b ≤ p.to → Tiles scene a (ps ++ (p ∷ [])) p.to
+tiles-more scene a b [] p t is from le = (is, from ∙ sym t, omega arith, refl)
+tiles-more scene a b (q ∷ ps) p t is from le = (t.0, t.1, t.2, tiles-more scene q.to b ps p t.3 is from le)
+
+pub apart : (b : Bool) → b ≡ true → b ≡ false → ⊥
+apart b t f = cc
+
+pub part_none : (grid : Chart) (mode : Mode) (rows : List (ℕ × Row)) (part : Part) → part.conflicts.items ≡ [] → part.visits.items ≡ [] → part.lines.items ≡ [] → IsPart grid mode rows 0 0 part
+part_none grid mode rows part conflicts visits lines = record {
+  entries = subst (AreEntriesOf (tracks_of mode rows) rows 0 0) (sym conflicts) (ranked_none (tracks_of mode rows) rows 0);
+  visits = subst (ListsAll visit_key (IsVisitOf grid rows 0 0)) (sym visits) (visits_none grid rows 0);
+  lines = subst (AreLines grid (slice_range rows 0 0)) (sym lines) tt;
+}
+
+-- a part is joined on
+pub part_join : (grid : Chart) (mode : Mode) (rows : List (ℕ × Row)) → IsByAgent rows → (at to : ℕ) → at ≤ to → (whole part new : Part) → IsPart grid mode rows 0 at whole → IsPart grid mode rows at to part
+    → new.conflicts.items ≡ whole.conflicts.items ++ part.conflicts.items → new.visits.items ≡ whole.visits.items ++ part.visits.items → new.lines.items ≡ whole.lines.items ++ part.lines.items → IsPart grid mode rows 0 to new
+part_join grid mode rows by_agent at to le whole part new left right conflicts visits lines = record {
+  entries = subst (AreEntriesOf (tracks_of mode rows) rows 0 to) (sym conflicts) (joined rows (Stands (tracks_of mode rows)) first_agent at to le whole.conflicts.items part.conflicts.items left.entries right.entries);
+  visits = subst (ListsAll visit_key (IsVisitOf grid rows 0 to)) (sym visits) (visits_joined grid rows by_agent at to le whole.visits.items part.visits.items left.visits right.visits);
+  lines = subst (AreLines grid (slice_range rows 0 to)) (sym lines)
+      (subst (λ (r : List (ℕ × Row)). AreLines grid r (whole.lines.items ++ part.lines.items)) (range_step rows 0 at to (omega arith) le)
+      (EachOf-append (IsLine grid) (slice_range rows 0 at) (slice_range rows at to) whole.lines.items part.lines.items left.lines right.lines));
+}
+
+-- whoever an entry names first has a row
+stands_first : (fleet : Fleet) (entry : Conflict) → Stands fleet entry → IsSome (fleet (first_agent entry))
+stands_first fleet (Vertex x a b c) is = (stands_live fleet (Vertex x a b c) x a b is (refl, refl, refl)).0
+stands_first fleet (Parked x a b c) is = (stands_live fleet (Parked x a b c) x a b is (refl, refl, refl)).0
+stands_first fleet (Edge x a b c n) is = (stands_live fleet (Edge x a b c n) x a b is (refl, refl, refl)).0
+stands_first fleet (Following x a b c) is = (stands_live fleet (Following x a b c) x a b is (refl, refl, refl)).0
+stands_first fleet (Swapping x a b c n) is = (stands_live fleet (Swapping x a b c n) x a b is (refl, refl, refl)).0
+stands_first fleet (Cycle x r) is = ring_live fleet x r is
+
+-- the entries of all agents, in order and each once, are the conflict list
+pub all_entries : (mode : Mode) (rows : List (ℕ × Row)) (entries list : List Conflict) → AreEntriesOf (tracks_of mode rows) rows 0 (length rows) entries → ListsAll listing_key (Contains entries) list → AreConflicts (tracks_of mode rows) list
+all_entries mode rows entries list are lists = record {
+  ascending = lists.ascending;
+  exact = λ entry. (
+    λ h. ((are entry).0 ((lists.exact entry).0 h)).0,
+    λ is. (lists.exact entry).1 ((are entry).1 (is, rank_in_all rows (first_agent entry) (tracks_live mode rows (first_agent entry) (stands_first (tracks_of mode rows) entry is)))),
+  );
+}
+
+pub range_all : {X : Type 0} (xs : List X) → slice_range xs 0 (length xs) ≡ xs
+range_all xs = take_rest xs 0

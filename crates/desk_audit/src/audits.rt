@@ -1,0 +1,82 @@
+ghost use Rattle.std.specs.Prelude.{◌≡◌, ◌<◌, ◌≤◌, ◌↔◌, ◌⊎◌, IfOk, IfSome, IsErrOf, length};
+ghost use Rattle.plan_table.specs.Route.{tracks_of};
+ghost use Rattle.desk_report.specs.Report.{IsReportOf};
+ghost use Rattle.desk_audit.specs.Index.{IsIndexOf};
+ghost use Rattle.desk_audit.specs.Parts.{IsPart};
+
+use crate::faults::AuditFault;
+use crate::gates::Gate;
+use crate::parts::Part;
+use crate::sightings::Sightings;
+use crate::sorting::sorted;
+use crate::threads::in_scope;
+use desk_report::{Report, with_totals};
+use grid_cells::{List, OutOfMemory};
+use scene_edits::Scene;
+use std::alloc::Global;
+use std::sync::Wait;
+use std::thread;
+use std::thread::Threads;
+
+/// The most threads of an audit.
+pub const MOST_WORKERS: u32 = 64;
+
+// The report of the scene, whose part of all agents that is.
+fn report_of(alloc: Global, scene: &Scene, whole: Part) -> Result<Report, OutOfMemory>
+    requires { IsPart scene.now.grid scene.now.mode scene.now.rows 0 (length scene.now.rows) whole }
+    ensures { IfOk result (IsReportOf scene.now.grid scene.now.mode scene.now.rows) }
+{
+    let plans = scene.plans();
+    let _agents = plans.count();
+    let Part {
+        conflicts,
+        visits,
+        lines,
+    } = whole;
+    let conflicts = List::new(sorted(alloc, conflicts)?);
+    let report = with_totals(alloc, plans, conflicts, List::new(visits), List::new(lines))?;
+    Ok(report)
+}
+
+/// The report of the scene, made from scratch by that many threads. It uses no state but the
+/// scene's: it makes an index of its own, of which each piece tells its agents' part, and joins the
+/// parts.
+///
+/// # Errors
+/// BadWorkers where the number of workers is not 1 to MOST_WORKERS, before any growth. OutOfMemory
+/// where a growth or the start of a thread was refused; no thread is left.
+pub fn audit<G: Gate, R: Threads + Wait>(
+    rt: &R,
+    alloc: Global,
+    scene: &Scene,
+    workers: u32,
+    gate: &G,
+) -> Result<Report, AuditFault>
+    ensures bad_workers { IsErrOf result AuditFault.BadWorkers ↔ ((workers ≡ 0) ⊎ (64 < workers)) }
+    ensures report { IfOk result (IsReportOf scene.now.grid scene.now.mode scene.now.rows) }
+{
+    if workers == 0 || workers > MOST_WORKERS {
+        return Err(AuditFault::BadWorkers);
+    }
+    let index = match Sightings::new(alloc, scene.mode(), scene.plans()) {
+        Ok(index) => index,
+        Err(_) => return Err(AuditFault::OutOfMemory),
+    };
+    let index = &index;
+    let found = thread::scope(
+        thread::scope_env(),
+        rt,
+        |scope| -> Option<Part>
+            requires some { 0 < workers }
+            requires index { IsIndexOf (tracks_of scene.now.mode scene.now.rows) index.now }
+            ensures { IfSome result (IsPart scene.entry.now.grid scene.entry.now.mode scene.entry.now.rows 0 (length scene.entry.now.rows)) }
+        { in_scope(rt, alloc, scope, scene, index, workers, gate) },
+    );
+    match found {
+        None => Err(AuditFault::OutOfMemory),
+        Some(whole) => match report_of(alloc, scene, whole) {
+            Ok(report) => Ok(report),
+            Err(_) => Err(AuditFault::OutOfMemory),
+        },
+    }
+}
