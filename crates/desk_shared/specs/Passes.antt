@@ -28,6 +28,7 @@ pub record Sharing : Type 0 where
 abbrev pub Owns : Sharing → Held → Type 0
 Owns desk pass = pass.table_id ≡ desk.table_id
 
+-- the entries, after that one where it counts
 abbrev pub own_if : Bool → Entry → List Entry → List Entry
 own_if true entry entries = entry ∷ entries
 own_if false entry entries = entries
