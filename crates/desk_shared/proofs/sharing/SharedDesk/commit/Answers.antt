@@ -1,6 +1,8 @@
-use Rattle.std.proofs.Common.{sym, ap, ◌∙◌, subst, Ok}
+use Rattle.std.proofs.Common.{sym, ap, ◌∙◌, subst, Option, Ok}
+use Rattle.atomic_table.specs.Table.{Me}
 use Rattle.desk_core.specs.State.{DeskState, grown}
 use Rattle.desk_core.specs.Commits.{Accepts}
+use Rattle.desk_shared.specs.declared.board.Known.{Known}
 use Rattle.desk_shared.specs.Passes.{PassState}
 use Rattle.desk_shared.specs.Calls.{CommitsBy}
 use Rattle.desk_shared.specs.Turns.{shown}
@@ -9,11 +11,11 @@ use Rattle.desk_shared.proofs.sharing.SharedDesk.commit.Goals as goal
 
 pub grow-requires-clause-ready : goal.grow-requires-clause-ready
 grow-requires-clause-ready g c = let won = c.win-desk.ensures.won in let at = c.win-desk.ensures.desk in let did = c.in-Ok.ensures in (
-  (ap (λ m. m.0.live) won ∙ c.pass.invariant.2, ap (λ m. m.0.stage) won, ap (λ m. m.1) won),
+  (ap (λ (m : Me (Option DeskState) Known). m.0.live) won ∙ c.pass.invariant.2, ap (λ (m : Me (Option DeskState) Known). m.0.stage) won, ap (λ (m : Me (Option DeskState) Known). m.1) won),
   (
     c.args.commit,
     subst (λ (z : DeskState). Accepts z c.args.commit) at did.0,
-    c.requires.planner ∙ (sym (ap (λ h. h.known.planner) c.pass.view_is) ∙ sym (ap (λ m. m.0.planner) won)),
+    c.requires.planner ∙ (sym (ap (λ h. h.known.planner) c.pass.view_is) ∙ sym (ap (λ (m : Me (Option DeskState) Known). m.0.planner) won)),
     did.2 ∙ ap (λ (z : DeskState). grown z c.args.commit) at,
   ),
 )
