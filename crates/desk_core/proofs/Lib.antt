@@ -1,4 +1,6 @@
 pub mod Freshness
+pub mod Anywhere
+pub mod Stamping
 pub mod OnMap
 pub mod RunsOn
 pub mod Replaying

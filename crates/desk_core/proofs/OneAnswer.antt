@@ -77,14 +77,14 @@ module _ (desk : DeskState) (commit : Entry) where
   one_refusal (Stale now thing at) (Ahead other) first second some some_too = absurd (omega (arith, first.0.base, second.1))
   one_refusal (Stale now thing at) NoEdits first second some some_too = absurd (first.0.edits second.2)
   one_refusal (Stale now thing at) (Stale other another after) first second some some_too =
-    ap (λ n. Stale n thing at) (first.1 ∙ sym second.1) ∙ one_stale desk.journal commit thing another at after other first.2 second.2
+      ap (λ n. Stale n thing at) (first.1 ∙ sym second.1) ∙ one_stale desk.journal commit thing another at after other first.2 second.2
   one_refusal (Stale now thing at) (Faulty index why) first second some some_too = absurd (stale_not_fresh desk.journal commit thing at first.2 second.0.fresh)
   one_refusal (Faulty index why) (JournalFull limit) first second some some_too = absurd (omega (arith, first.0.in_order.room, second.0))
   one_refusal (Faulty index why) (Ahead now) first second some some_too = absurd (omega (arith, first.0.in_order.base, second.1))
   one_refusal (Faulty index why) NoEdits first second some some_too = absurd (first.0.in_order.edits second.2)
   one_refusal (Faulty index why) (Stale now thing at) first second some some_too = absurd (stale_not_fresh desk.journal commit thing at second.2 first.0.fresh)
   one_refusal (Faulty index why) (Faulty other reason) first second some some_too =
-    ap refusal_of (one_first_fault desk.scene commit.edits index other why reason first.1 second.1)
+      ap refusal_of (one_first_fault desk.scene commit.edits index other why reason first.1 second.1)
   one_refusal OutOfMemory b first second some some_too = absurd (some refl)
   one_refusal a OutOfMemory first second some some_too = absurd (some_too refl)
 

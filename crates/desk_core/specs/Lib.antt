@@ -1,6 +1,8 @@
 pub mod Entries
 pub mod State
 pub mod Stale
+pub mod Stamps
+pub mod Kept
 pub mod Commits
 pub mod Questions
 pub mod Runs

@@ -8,6 +8,7 @@ use crate::commits::Commit;
 use crate::limits::Limit;
 use crate::questions::{distance_in, report};
 use crate::stale::stale;
+use crate::stamps::{Stamps, with_entry};
 use grid_cells::{Agent, Cell, OutOfMemory};
 use scene_edits::{EditsFault, Scene};
 use std::alloc::Global;
@@ -20,6 +21,7 @@ pub struct Desk {
     scene: Scene,
     journal: Vec<Commit>,
     limit: Limit,
+    stamps: Option<Stamps>,
 }
 
 impl Model for Desk {
@@ -27,11 +29,11 @@ impl Model for Desk {
 
     ghost Value = { DeskState };
 
-    ghost use Rattle.std.specs.Prelude.{◌≤◌, length};
+    ghost use Rattle.desk_core.specs.Kept.{IsKept};
 
     ghost view = { λ d. record { scene = d.scene; journal = d.journal.items; limit = d.limit } };
 
-    ghost invariant = { λ d. length d.journal.items ≤ d.limit };
+    ghost invariant = { λ d. IsKept d.scene d.journal.items d.limit d.stamps };
 }
 
 impl Desk {
@@ -44,6 +46,7 @@ impl Desk {
             scene,
             journal: Vec::new(alloc),
             limit,
+            stamps: None,
         }
     }
 
@@ -88,20 +91,8 @@ impl Desk {
         if let Some(refusal) = self.not_current(&commit) {
             return Err((refusal, commit));
         }
-        if self.journal.reserve(1).is_err() {
-            return Err((Refusal::OutOfMemory, commit));
-        }
-        match self.scene.apply_all(commit.edits()) {
-            Ok(_) => {}
-            Err(EditsFault::Faulty { index, why }) => {
-                return Err((Refusal::Faulty { index, why }, commit));
-            }
-            Err(EditsFault::OutOfMemory) => return Err((Refusal::OutOfMemory, commit)),
-        }
-        match self.journal.push(commit) {
-            Ok(()) => Ok(self.journal.len() as u64),
-            Err(_) => unreachable!(),
-        }
+        self.make_stamps();
+        self.accept(commit)
     }
 
     /// The report of the scene, at the desk's version.
@@ -152,9 +143,48 @@ impl Desk {
         if commit.edits().is_empty() {
             return Some(Refusal::NoEdits);
         }
-        match stale(&self.journal, commit) {
+        match stale(&self.journal, self.stamps.as_ref(), commit) {
             Some((thing, at)) => Some(Refusal::Stale { now, thing, at }),
             None => None,
+        }
+    }
+
+    // Makes the stamps where they don't stand, if there is memory for them.
+    fn make_stamps(&mut self)
+        ensures { self.new ≡ self.old }
+    {
+        if self.stamps.is_some() {
+            return;
+        }
+        let _most = self.limit.entries();
+        let size = self.scene.grid().size();
+        if let Ok(stamps) = Stamps::of(self.alloc, size, &self.journal) {
+            self.stamps = Some(stamps);
+        }
+    }
+
+    // Applies the edits of a commit that is current, and puts it into the journal.
+    fn accept(&mut self, commit: Commit) -> Result<u64, (Refusal, Commit)>
+        requires { IsCurrent self.old commit }
+        ensures { Committed self.old commit result self.new }
+    {
+        if self.journal.reserve(1).is_err() {
+            return Err((Refusal::OutOfMemory, commit));
+        }
+        match self.scene.apply_all(commit.edits()) {
+            Ok(_) => {}
+            Err(EditsFault::Faulty { index, why }) => {
+                return Err((Refusal::Faulty { index, why }, commit));
+            }
+            Err(EditsFault::OutOfMemory) => return Err((Refusal::OutOfMemory, commit)),
+        }
+        let _most = self.limit.entries();
+        let size = self.scene.grid().size();
+        let stamps = self.stamps.take();
+        self.stamps = with_entry(size, stamps, &self.journal, &commit);
+        match self.journal.push(commit) {
+            Ok(()) => Ok(self.journal.len() as u64),
+            Err(_) => unreachable!(),
         }
     }
 }

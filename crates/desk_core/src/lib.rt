@@ -10,6 +10,7 @@ mod laws;
 mod limits;
 mod questions;
 mod stale;
+mod stamps;
 
 pub use answers::{Answer, AskFault, Call, Reading, Refusal, Snapshot};
 pub use commits::{Commit, CommitFault, MOST_EDITS, MOST_WATCHES};

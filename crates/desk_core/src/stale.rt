@@ -1,9 +1,12 @@
-//! Which commits are stale, decided by the journal alone.
+//! Which commits are stale.
 ghost use Rattle.std.specs.Prelude.{◌≡◌, ◌+◌, ◌<◌, ◌↔◌, IsTrue, Some, length, IfSome, IfNone, slice_get};
 ghost use Rattle.desk_core.specs.Entries.{thing_of, ChangesMap, NamesThing, Names, things_of};
+ghost use Rattle.std.specs.Option.{ForSome};
 ghost use Rattle.desk_core.specs.Stale.{IsFreshSince, IsLastNaming, IsStaleBy, IsFresh};
+ghost use Rattle.desk_core.specs.Stamps.{AreStamps};
 
 use crate::commits::Commit;
+use crate::stamps::Stamps;
 use scene_edits::{Edit, Thing};
 
 // The agent or the cell that the edit is about.
@@ -56,6 +59,19 @@ fn last_naming(journal: &[Commit], base: u64, thing: &Thing) -> Option<u64>
     None
 }
 
+// The last entry after the version that names the thing: by its stamp, where the stamps stand.
+fn last_named(journal: &[Commit], stamps: Option<&Stamps>, base: u64, thing: &Thing) -> Option<u64>
+    requires { ForSome stamps (λ s. AreStamps s.now.size journal.now s.now) }
+    ensures last { IfSome result (IsLastNaming journal.now base thing.now) }
+    ensures none { IfNone result (IsFreshSince journal.now base thing.now) }
+{
+    let Some(stamps) = stamps else {
+        return last_naming(journal, base, thing);
+    };
+    let number = stamps.stamp(thing);
+    if number > base { Some(number) } else { None }
+}
+
 // The commit's thing of that rank, from 0.
 fn thing_at(commit: &Commit, rank: usize) -> Thing
     requires { rank < length (things_of commit.now) }
@@ -70,13 +86,19 @@ fn thing_at(commit: &Commit, rank: usize) -> Thing
 }
 
 // The first thing of the commit that an entry after its base names, and the last such entry.
-pub(crate) fn stale(journal: &[Commit], commit: &Commit) -> Option<(Thing, u64)>
+pub(crate) fn stale(
+    journal: &[Commit],
+    stamps: Option<&Stamps>,
+    commit: &Commit,
+) -> Option<(Thing, u64)>
+    requires { ForSome stamps (λ s. AreStamps s.now.size journal.now s.now) }
     ensures stale { IfSome result (λ found. IsStaleBy journal.now commit.now found.0 found.1) }
     ensures fresh { IfNone result (IsFresh journal.now commit.now) }
 {
     for rank in 0..commit.watch().len() + commit.edits().len() {
-        if let Some(number) = last_naming(journal, commit.base(), &thing_at(commit, rank)) {
-            return Some((thing_at(commit, rank), number));
+        let thing = thing_at(commit, rank);
+        if let Some(number) = last_named(journal, stamps, commit.base(), &thing) {
+            return Some((thing, number));
         }
     }
     None

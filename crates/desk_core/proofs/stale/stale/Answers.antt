@@ -4,7 +4,7 @@ use Rattle.std.proofs.lemmas.Bool.{cases_order}
 use Rattle.std.proofs.lemmas.Option.{same_Some, slice_get_within}
 use Rattle.std.proofs.lemmas.List.{length-map}
 use Rattle.desk_core.specs.Entries.{thing_of, things_of}
-use Rattle.desk_core.specs.Stale.{IsFreshSince, IsLastNaming}
+use Rattle.desk_core.specs.Stale.{IsFreshSince}
 use Rattle.desk_core.proofs.stale.stale.Goals as goal
 
 pub loop-rank-init : goal.loop-rank-init
@@ -12,13 +12,11 @@ loop-rank-init c = λ earlier other less. absurd (omega (arith, less))
 
 pub returns-in-Some-clause-stale : goal.returns-in-Some-clause-stale
 returns-in-Some-clause-stale c =
-    let same : c.thing_at.result ≡ c.thing_at-in-Some.result = same_Some c.thing_at.result c.thing_at-in-Some.result (sym c.thing_at.ensures ∙ c.thing_at-in-Some.ensures) in
-    let last : IsLastNaming c.args.journal.now c.args.commit.now.base c.thing_at.result c.in-Some.number = rw c.base.ensures at c.in-Some.ensures.last in
     record {
       rank = c.loop-rank.rank;
-      told = c.thing_at-in-Some.ensures;
+      told = c.thing_at-thing.ensures;
       first = c.loop-rank.invariant;
-      last = subst (λ thing. IsLastNaming c.args.journal.now c.args.commit.now.base thing c.in-Some.number) same last;
+      last = rw c.base.ensures at c.in-Some.ensures.last;
     }
 
 pub loop-rank-preserved : goal.loop-rank-preserved
@@ -26,8 +24,8 @@ loop-rank-preserved c = λ earlier other less told.
     elim (cases_order earlier c.loop-rank.rank) [
       | inl same ↦
           let here = ap (λ k. slice_get (things_of c.args.commit.now) k) same in
-          let thing : c.thing_at.result ≡ other = same_Some c.thing_at.result other (sym c.thing_at.ensures ∙ sym here ∙ told) in
-          let fresh : IsFreshSince c.args.journal.now c.args.commit.now.base c.thing_at.result = rw c.base.ensures at c.in_default.ensures.none in
+          let thing : c.thing_at-thing.result ≡ other = same_Some c.thing_at-thing.result other (sym c.thing_at-thing.ensures ∙ sym here ∙ told) in
+          let fresh : IsFreshSince c.args.journal.now c.args.commit.now.base c.thing_at-thing.result = rw c.base.ensures at c.in_default.ensures.none in
           subst (λ t. IsFreshSince c.args.journal.now c.args.commit.now.base t) thing fresh
       | inr (inl sooner) ↦ c.loop-rank.invariant earlier other sooner told
       | inr (inr later) ↦ absurd (omega (arith, less))
