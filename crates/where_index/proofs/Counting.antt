@@ -1,5 +1,5 @@
 -- The records that tell two routes apart, listed one by one and counted.
-use Rattle.std.proofs.Common.{◌≡◌, ◌≢◌, ◌⊎◌, inl, inr, ℕ, zero, suc, ◌+◌, ◌-◌, ◌<◌, ◌≤◌, max, List, [], ◌∷◌, ◌++◌, length, get_or, slice_get, Contains, All, Option, Some, None, Bool, true, false, cond, ◌&&◌, ◌==◌, refl, sym, ap, ◌∙◌, subst, arith}
+use Rattle.std.proofs.Common.{◌≡◌, ◌≢◌, ◌⊎◌, inl, inr, ℕ, zero, suc, ◌+◌, ◌<◌, ◌≤◌, max, List, [], ◌∷◌, ◌++◌, length, Contains, Option, Some, None, Bool, true, false, cond, ◌&&◌, refl, sym, ap, ◌∙◌, subst, arith}
 use mathlib.Core.Logic.{◌↔◌}
 use Rattle.std.specs.List.{AllPairs}
 use Rattle.std.proofs.lemmas.Bool.Decides.{nat_tests}
@@ -11,7 +11,7 @@ use Rattle.grid_cells.specs.Cell.{Point}
 use Rattle.plan_table.specs.Route.{Route}
 use Rattle.where_index.specs.declared.trails.Hop.{Hop}
 use Rattle.where_index.specs.Records.{stand_at, tail_at, hop_at, same_point, changed, changed_hop, changes_below, records_apart}
-use Rattle.where_index.specs.Counted.{Record, Stand, Tail, Move, HasRecord, TellsApart, ListsApart}
+use Rattle.where_index.specs.Counted.{Record, Stand, Tail, Move, TellsApart}
 use Rattle.where_index.specs.Laws.{RecordsAreCounted}
 use Rattle.where_index.proofs.Sets.{Contains-nil, Contains-head, Contains-tail, Contains-cons_cases}
 use Rattle.where_index.proofs.Standing.{stand_past, rest_past, hop_past}

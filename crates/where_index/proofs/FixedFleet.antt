@@ -1,12 +1,12 @@
 -- What an index keeps fixes its fleet.
-use Rattle.std.proofs.Common.{◌≡◌, ◌⊎◌, inl, inr, ℕ, ◌+◌, ◌-◌, ◌<◌, ◌≤◌, List, length, slice_get, get_or, Contains, Option, Some, None, Bool, true, false, cond, not, nat_lt, ◌&&◌, ◌||◌, ◌==◌, refl, sym, ap, ◌∙◌, subst, arith}
+use Rattle.std.proofs.Common.{◌≡◌, ◌⊎◌, inl, inr, ℕ, ◌+◌, ◌<◌, ◌≤◌, List, length, slice_get, Option, Some, None, Bool, true, false, cond, not, nat_lt, ◌&&◌, ◌||◌, ◌==◌, refl, sym, ap, ◌∙◌, arith}
 use Rattle.std.specs.Option.{option_and_then, unwrap_or}
 use Rattle.std.proofs.lemmas.Bool.Decides.{nat_tests}
 use Rattle.std.proofs.lemmas.List.{same_lists}
 use Rattle.std.proofs.lemmas.Option.{slice_get_within, unwrap_or-slice_get}
 use Rattle.grid_cells.specs.Cell.{Point}
 use Rattle.plan_table.specs.Path.{last_index}
-use Rattle.plan_table.specs.Route.{Route, Fleet, position}
+use Rattle.plan_table.specs.Route.{Route, position}
 use Rattle.where_index.specs.declared.spots.Spot.{Spot}
 use Rattle.where_index.specs.declared.ends.End.{End}
 use Rattle.where_index.specs.Spot.{spot}
