@@ -1,5 +1,5 @@
 -- The order of places, and one list of moves changed.
-use Rattle.std.proofs.Common.{◌≡◌, ◌⊎◌, inl, inr, ℕ, List, [], Contains, Option, Some, None, Bool, true, false, cond, refl, sym, ap, ◌∙◌, subst}
+use Rattle.std.proofs.Common.{◌≡◌, ◌≢◌, ◌⊎◌, inl, inr, ℕ, List, [], Contains, Option, Some, None, Bool, true, false, cond, refl, sym, ap, ◌∙◌, subst}
 use Rattle.std.specs.Option.{unwrap_or}
 use mathlib.Core.Logic.{◌↔◌}
 use Rattle.std.specs.Cmp.{IsTotalOrder}
@@ -10,7 +10,7 @@ use Rattle.std.proofs.lemmas.Cmp.{nat_cmp_total, on_total, then_total, tied_itse
 use Rattle.grid_cells.specs.Cell.{Point}
 use Rattle.where_index.specs.declared.moves.Move.{Move}
 use Rattle.where_index.specs.declared.hops.Place.{Place}
-use Rattle.where_index.specs.Moves.{GainsMove, LosesMover, SetsMove}
+use Rattle.where_index.specs.Moves.{GainsMove, LosesMover}
 use Rattle.where_index.specs.Hops.{place, place_cmp, movers_in, GainsAt, LosesAt}
 use Rattle.where_index.proofs.SpotOrder.{then_equal}
 use Rattle.where_index.proofs.Sets.{tied_or_not}
@@ -47,6 +47,10 @@ apart_from cell time c t apart is_cell is_time =
     let tied : is_eq (place_cmp (place cell time) (place c t)) ≡ true = subst (λ p. is_eq (place_cmp (place cell time) p) ≡ true) same (ap is_eq (tied_itself place_total (place cell time))) in
     let wrong : true ≡ false = sym tied ∙ apart in
     cc
+
+-- new has that move in place of the agent's, and the others of old
+abbrev pub SetsMove : List Move → List Move → Move → Type 0
+SetsMove old new added = (m : Move) → Contains new m ↔ ((Contains old m × (m.agent ≢ added.agent)) ⊎ (m ≡ added))
 
 pub sets_move : (old mid new : List Move) (added : Move) → LosesMover old mid added.agent → GainsMove mid new added → SetsMove old new added
 sets_move old mid new added loses gains m = (

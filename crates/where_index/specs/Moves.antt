@@ -19,10 +19,6 @@ GainsMove old new added = (m : Move) → Contains new m ↔ (Contains old m ⊎ 
 abbrev pub LosesMover : List Move → List Move → ℕ → Type 0
 LosesMover old new agent = (m : Move) → Contains new m ↔ (Contains old m × (m.agent ≢ agent))
 
--- new has that move in place of the agent's, and the others of old
-abbrev pub SetsMove : List Move → List Move → Move → Type 0
-SetsMove old new added = (m : Move) → Contains new m ↔ ((Contains old m × (m.agent ≢ added.agent)) ⊎ (m ≡ added))
-
 -- the move at the place is the agent's
 pub record IsAt (moves : List Move) (agent at : ℕ) : Type 0 where
   pub within : at < length moves
