@@ -3,3 +3,4 @@ mod build;
 mod commits;
 mod rows;
 mod runs;
+mod stamps;
