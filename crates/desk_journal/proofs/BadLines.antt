@@ -1,24 +1,24 @@
 -- What a reader knows of a text, from the place where it is.
-use Rattle.std.proofs.Common.{◌≡◌, ◌<◌, ◌≤◌, ◌⊎◌, ℕ, suc, zero, ◌+◌, Bool, true, ◌&&◌, List, [], ◌∷◌, ◌++◌, length, codes, refl, ap, sym, ◌∙◌, subst, inl, inr, arith, append_assoc, append-nil, length-append, Ok}
+use Rattle.std.proofs.Common.{◌≡◌, ◌<◌, ◌≤◌, ℕ, ◌+◌, true, List, [], ◌∷◌, ◌++◌, length, codes, refl, ap, sym, ◌∙◌, subst, inl, inr, arith, append_assoc, append-nil, length-append, Ok}
 use Rattle.std.proofs.lemmas.Bool.{cases_lt}
 use Rattle.std.proofs.lemmas.List.Folds.{list_all-append}
-use Rattle.std.specs.List.{All, list_all, join_with_byte}
+use Rattle.std.specs.List.{join_with_byte}
 use Rattle.desk_report.specs.LineText.{line_text}
 use Rattle.plan_table.specs.declared.tracks.Mode.{Mode}
 use Rattle.desk_core.specs.Entries.{Entry}
 use Rattle.desk_core.specs.Replays.{Log}
-use Rattle.desk_journal.specs.Ranges.{IsEntry, IsJournal}
+use Rattle.desk_journal.specs.Ranges.{IsJournal}
 use Rattle.desk_journal.specs.JournalText.{journal_lines, text_of}
 use Rattle.desk_journal.specs.Reading.{IsTextOf, mode_of, Begins, IsBadLine, ReadsAs}
 use Rattle.desk_journal.specs.Places.{Steps, IsPlace}
 use Rattle.desk_journal.specs.declared.places.Heading.{Heading}
 use Rattle.desk_journal.specs.declared.places.Heading.TheVariants.{First, Second}
 use Rattle.desk_journal.specs.declared.places.Place.{Place}
-use Rattle.desk_journal.specs.declared.places.Place.TheVariants.{Start, Versioned, Between, Inside, Over}
+use Rattle.desk_journal.specs.declared.places.Place.TheVariants.{Start, Over}
 use Rattle.desk_journal.proofs.PlainWords.{are_plain, both}
-use Rattle.desk_journal.proofs.PlainLines.{are_lines, Longer, text-split}
-use Rattle.desk_journal.proofs.Walks.{Walks, walk-split, walk-same, place_lines, Reached}
-use Rattle.desk_journal.proofs.WholeWalks.{walk-journal, walk-reached, walk-plain, Ends, can-end}
+use Rattle.desk_journal.proofs.PlainLines.{are_lines, text-split}
+use Rattle.desk_journal.proofs.Walks.{Walks, walk-split, walk-same, place_lines}
+use Rattle.desk_journal.proofs.WholeWalks.{walk-journal, walk-reached, walk-plain, can-end}
 
 -- the lines that led to the place stand at the head of the text, and this is the rest
 pub record Stands (text : List ℕ) (place : Place) (rest : List ℕ) : Type 0 where

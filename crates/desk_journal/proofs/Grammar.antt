@@ -1,15 +1,15 @@
 -- The lines that are written of a journal stand, in the grammar of session lines, for what they were written of.
-use Rattle.std.proofs.Common.{◌≡◌, ◌<◌, ◌≤◌, ◌^◌, ℕ, ◌+◌, Bool, true, false, not, ◌&&◌, ◌==◌, Option, Some, None, Ok, List, [], ◌∷◌, ◌++◌, length, map, take, drop, codes, decimal, nat_lt, nat_le, refl, ap, sym, ◌∙◌, arith, lt-ltb, le-leb, append_assoc}
+use Rattle.std.proofs.Common.{◌≡◌, ◌<◌, ◌≤◌, ◌^◌, ℕ, ◌+◌, true, Some, Ok, List, [], ◌∷◌, ◌++◌, length, map, take, drop, codes, decimal, refl, ap, sym, ◌∙◌, arith, lt-ltb, le-leb, append_assoc}
 use Rattle.std.proofs.Math.Seq.{take-append_seam, drop-append-add}
 use Rattle.std.proofs.lemmas.Bool.{ne_eqb}
 use Rattle.std.proofs.lemmas.List.Elements.{All-head, All-tail}
 use Rattle.std.proofs.lemmas.Fmt.{decimal_is_IsNumeral}
 use Rattle.std.proofs.lemmas.Str.Parse.{digit_from_value}
-use Rattle.std.specs.List.{All, list_all, position_or_len, before_first, after_first}
+use Rattle.std.specs.List.{All, position_or_len, before_first, after_first}
 use Rattle.std.specs.Int.{IsInRange}
 use Rattle.std.specs.Str.{all_ascii_digits}
 use Rattle.std.specs.Str.Parse.{AllDigits}
-use Rattle.grid_cells.specs.Cell.{Point, point}
+use Rattle.grid_cells.specs.Cell.{Point}
 use Rattle.grid_cells.specs.declared.numbers.TheConstants.{MOST_AGENT}
 use Rattle.grid_cells.specs.declared.sizes.TheConstants.{MOST_SIDE}
 use Rattle.scene_edits.specs.declared.changes.Thing.{Thing}
@@ -18,7 +18,7 @@ use Rattle.scene_edits.specs.declared.edits.Edit.{Edit}
 use Rattle.scene_edits.specs.declared.edits.Edit.TheVariants.{Add, Drop, Goal, Path, Tail, Open, Close}
 use Rattle.desk_report.specs.LineText.{cell_text}
 use Rattle.bench_reader.specs.Words.{number_of}
-use Rattle.desk_lines.specs.Values.{agent_of, time_of, place_of, cell_of, is_comma}
+use Rattle.desk_lines.specs.Values.{agent_of, place_of, cell_of, is_comma}
 use Rattle.desk_lines.specs.Cells.{cells_of}
 use Rattle.desk_lines.specs.Requests.{request_of_words}
 use Rattle.desk_lines.specs.declared.requests.Request.TheVariants as request

@@ -1,8 +1,7 @@
 -- What a text reads as is one thing, but for want of memory.
-use Rattle.std.proofs.Common.{◌≡◌, ◌≢◌, ◌≤◌, ◌⊎◌, ℕ, ◌+◌, List, Result, Ok, Err, refl, ap, sym, ◌∙◌, inl, inr, arith}
+use Rattle.std.proofs.Common.{◌≡◌, ◌≤◌, ℕ, List, Result, Ok, Err, refl, ap, inl, inr, arith}
 use Rattle.desk_core.specs.Replays.{Log}
-use Rattle.desk_journal.specs.Ranges.{IsJournal}
-use Rattle.desk_journal.specs.Reading.{IsTextOf, IsBadLine, ReadsAs}
+use Rattle.desk_journal.specs.Reading.{IsBadLine}
 use Rattle.desk_journal.specs.Laws.{OneAnswer, ReadsBack}
 use Rattle.desk_journal.specs.declared.faults.JournalFault.{JournalFault}
 use Rattle.desk_journal.specs.declared.faults.JournalFault.TheVariants.{BadLine, OutOfMemory}

@@ -1,13 +1,12 @@
 -- How lines of plain words stand in a text: each ends at the first line feed, and tells its words.
-use Rattle.std.proofs.Common.{◌≡◌, ◌<◌, ◌≤◌, ℕ, suc, zero, ◌+◌, Bool, true, false, not, ◌&&◌, ◌==◌, List, [], ◌∷◌, ◌++◌, length, codes, nat_lt, refl, ap, sym, ◌∙◌, subst, arith, get_or, take, drop, take-append-drop, append_assoc, append-nil, length-append}
+use Rattle.std.proofs.Common.{◌≡◌, ◌<◌, ◌≤◌, ℕ, suc, zero, Bool, true, not, ◌&&◌, ◌==◌, List, [], ◌∷◌, ◌++◌, length, codes, nat_lt, refl, ap, sym, ◌∙◌, subst, arith, get_or, take, drop, take-append-drop, append_assoc, append-nil, length-append}
 use Rattle.std.proofs.Math.Seq.{drop-cons}
 use Rattle.std.proofs.lemmas.Bool.{ne_eqb, ltb-true}
 use Rattle.std.proofs.lemmas.List.{append_cancel_right}
 use Rattle.std.proofs.lemmas.List.Folds.{list_all-append}
-use Rattle.std.specs.List.{list_all, join_with_byte, flat_map}
+use Rattle.std.specs.List.{list_all, join_with_byte}
 use Rattle.desk_report.specs.LineText.{line_text}
-use Rattle.bench_reader.specs.Lines.{is_blank}
-use Rattle.bench_reader.specs.Words.{is_in_word, ends_word, words_of}
+use Rattle.bench_reader.specs.Words.{is_in_word, words_of}
 use Rattle.bench_reader.proofs.WordLemmas.{word_ends}
 use Rattle.desk_journal.specs.JournalText.{text_of}
 use Rattle.desk_journal.proofs.PlainWords.{is_clear, is_plain, are_plain, is_one_line, both}

@@ -1,11 +1,10 @@
 -- The words that are written of a journal are plain: not empty, and with no blank and no line feed. Plain words stand between single spaces as they are.
-use Rattle.std.proofs.Common.{◌≡◌, ◌<◌, ◌≤◌, ◌^◌, ℕ, ◌+◌, Bool, true, false, not, ◌&&◌, ◌==◌, List, [], ◌∷◌, ◌++◌, length, map, codes, decimal, nat_lt, refl, ap, sym, ◌∙◌, arith, lt-ltb, append_assoc, append-nil}
-use Rattle.std.proofs.lemmas.Bool.{ne_eqb, ltb-true}
+use Rattle.std.proofs.Common.{◌≡◌, ◌<◌, ◌^◌, ℕ, Bool, true, false, not, ◌&&◌, ◌==◌, List, [], ◌∷◌, ◌++◌, length, map, codes, decimal, nat_lt, refl, ◌∙◌, arith, lt-ltb}
 use Rattle.std.proofs.lemmas.List.Folds.{list_all-append}
 use Rattle.std.proofs.lemmas.List.Elements.{All-head, All-tail}
 use Rattle.std.proofs.lemmas.Fmt.{decimal_is_IsNumeral}
 use Rattle.std.proofs.lemmas.Str.Parse.{digit_from_value}
-use Rattle.std.specs.List.{All, list_all, join_with_byte}
+use Rattle.std.specs.List.{All, list_all}
 use Rattle.std.specs.Int.{IsInRange}
 use Rattle.std.specs.Str.Parse.{AllDigits}
 use Rattle.grid_cells.specs.Cell.{Point}
@@ -16,9 +15,6 @@ use Rattle.scene_edits.specs.declared.changes.Thing.TheVariants as things
 use Rattle.scene_edits.specs.declared.edits.Edit.{Edit}
 use Rattle.scene_edits.specs.declared.edits.Edit.TheVariants.{Add, Drop, Goal, Path, Tail, Open, Close}
 use Rattle.desk_report.specs.LineText.{cell_text}
-use Rattle.bench_reader.specs.Lines.{is_blank}
-use Rattle.bench_reader.specs.Words.{is_in_word, ends_word, words_of}
-use Rattle.bench_reader.proofs.WordLemmas.{word_ends}
 use Rattle.desk_journal.specs.Ranges.{IsCell, IsThing, IsEdit, AreNumbers}
 use Rattle.desk_journal.specs.JournalText.{watch_words, edit_words, entry_words, mode_words, end_words}
 

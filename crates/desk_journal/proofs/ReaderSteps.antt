@@ -1,5 +1,5 @@
 -- How a reader of a journal goes on by one line, and where it sticks.
-use Rattle.std.proofs.Common.{◌≡◌, ◌<◌, ◌⊎◌, ℕ, ◌+◌, Bool, true, List, [], ◌∷◌, ◌++◌, length, codes, Some, None, inl, inr, refl, ap, sym, ◌∙◌, subst, arith, append_assoc, append-nil, length-append}
+use Rattle.std.proofs.Common.{◌≡◌, ◌<◌, ℕ, ◌+◌, true, List, [], ◌∷◌, ◌++◌, length, codes, Some, None, inl, inr, ap, sym, ◌∙◌, subst, arith, append_assoc, append-nil, length-append}
 use Rattle.std.specs.List.{join_with_byte}
 use Rattle.scene_edits.specs.declared.changes.Thing.{Thing}
 use Rattle.scene_edits.specs.declared.changes.Thing.TheVariants as things
@@ -9,7 +9,7 @@ use Rattle.plan_table.specs.declared.tracks.Mode.{Mode}
 use Rattle.plan_table.specs.declared.tracks.Mode.TheVariants.{Stay, Disappear}
 use Rattle.desk_report.specs.LineText.{line_text}
 use Rattle.desk_journal.specs.JournalText.{watch_words, edit_words, mode_words, text_of}
-use Rattle.desk_journal.specs.Places.{Steps, IsPlace, LeadsTo}
+use Rattle.desk_journal.specs.Places.{Steps, LeadsTo}
 use Rattle.desk_journal.specs.declared.places.Place.{Place}
 use Rattle.desk_journal.specs.declared.places.Place.TheVariants.{Start, Versioned, Between, Inside, Over}
 use Rattle.desk_journal.proofs.PlainWords.{are_plain, is_one_line}

@@ -1,6 +1,6 @@
 -- What a walk of lines leads to: one place, which tells the lines, and from which a journal can be ended.
-use Rattle.std.proofs.Common.{◌≡◌, ◌<◌, ◌≤◌, ◌^◌, ◌⊎◌, ℕ, suc, zero, ◌+◌, ◌-◌, Bool, true, false, ◌||◌, List, [], ◌∷◌, ◌++◌, length, map, codes, decimal, nat_lt, refl, ap, sym, ◌∙◌, subst, inl, inr, arith, rules, append_assoc, append-nil, length-append}
-use Rattle.std.proofs.lemmas.Bool.{cases_Bool, cases_lt, ltb-true, ltb-false, eqb-false, lt-ltb, le-ltb, or_parts, or_left, or_right, or_from, or_cases}
+use Rattle.std.proofs.Common.{◌≡◌, ◌<◌, ◌≤◌, ℕ, suc, zero, true, ◌||◌, List, [], ◌∷◌, ◌++◌, length, map, codes, refl, ap, sym, ◌∙◌, subst, inl, inr, arith, rules, append_assoc, append-nil, length-append}
+use Rattle.std.proofs.lemmas.Bool.{cases_Bool, ltb-false, eqb-false, or_parts}
 use Rattle.std.proofs.lemmas.List.{map-append}
 use Rattle.std.proofs.lemmas.List.Elements.{All-push}
 use Rattle.std.proofs.lemmas.Fmt.{decimal_injective}
@@ -12,12 +12,12 @@ use Rattle.scene_edits.specs.declared.changes.Thing.{Thing}
 use Rattle.scene_edits.specs.declared.edits.Edit.{Edit}
 use Rattle.desk_core.specs.Entries.{Entry}
 use Rattle.desk_core.specs.declared.limits.TheConstants.{MOST_ENTRIES}
-use Rattle.desk_journal.specs.Ranges.{IsThing, IsEdit, AreNumbers, IsEntry}
+use Rattle.desk_journal.specs.Ranges.{IsThing, IsEdit, IsEntry}
 use Rattle.desk_journal.specs.JournalText.{watch_words, edit_words, entry_words, entry_lines, version_words, mode_words, heading_lines, end_words, journal_lines}
 use Rattle.desk_journal.specs.Begun.{IsHead, head_words, fresh, lacks_watch, lacks_edit, entry_of, IsBegun}
-use Rattle.desk_journal.specs.Places.{settled, BeginsEntry, Watches, Edits, Steps, IsPlace}
+use Rattle.desk_journal.specs.Places.{settled, Steps, IsPlace}
 use Rattle.desk_journal.specs.declared.places.Heading.{Heading}
-use Rattle.desk_journal.specs.declared.places.Heading.TheVariants.{First, Second}
+use Rattle.desk_journal.specs.declared.places.Heading.TheVariants.{Second}
 use Rattle.desk_journal.specs.declared.places.Head.{Head}
 use Rattle.desk_journal.specs.declared.places.Begun.{Begun}
 use Rattle.desk_journal.specs.declared.places.Place.{Place}

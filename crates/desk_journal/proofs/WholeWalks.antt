@@ -1,8 +1,8 @@
 -- The lines of each journal are a walk, and each place can be walked from to the end of some journal.
-use Rattle.std.proofs.Common.{◌≡◌, ◌<◌, ◌≤◌, ◌⊎◌, ℕ, suc, zero, ◌+◌, ◌-◌, Bool, true, false, ◌||◌, List, [], ◌∷◌, ◌++◌, length, map, refl, ap, sym, ◌∙◌, subst, inl, inr, arith, rules, append_assoc, append-nil, length-append}
+use Rattle.std.proofs.Common.{◌≡◌, ◌<◌, ◌≤◌, ℕ, ◌+◌, ◌-◌, true, ◌||◌, List, [], ◌∷◌, ◌++◌, length, map, refl, ap, sym, ◌∙◌, subst, inl, inr, arith, append_assoc, append-nil, length-append}
 use Rattle.std.specs.Prelude.{replicate}
 use Rattle.std.proofs.lemmas.List.{length-replicate}
-use Rattle.std.proofs.lemmas.Bool.{cases_lt, ltb-true, ltb-false, lt-ltb, le-ltb, or_right, or_from, or_cases}
+use Rattle.std.proofs.lemmas.Bool.{cases_lt, ltb-true, lt-ltb, le-ltb, or_right, or_cases}
 use Rattle.std.proofs.lemmas.List.Elements.{All-head, All-tail, All-replicate, All-nil}
 use Rattle.std.specs.List.{All, flat_map}
 use Rattle.scene_edits.specs.declared.changes.Thing.{Thing}
@@ -11,11 +11,10 @@ use Rattle.scene_edits.specs.declared.edits.Edit.{Edit}
 use Rattle.scene_edits.specs.declared.edits.Edit.TheVariants as edit
 use Rattle.plan_table.specs.declared.tracks.Mode.TheVariants.{Stay}
 use Rattle.desk_core.specs.Entries.{Entry}
-use Rattle.desk_core.specs.Replays.{Log}
 use Rattle.desk_core.specs.declared.limits.TheConstants.{MOST_ENTRIES}
-use Rattle.desk_journal.specs.Ranges.{IsThing, IsEdit, IsEntry, IsJournal}
+use Rattle.desk_journal.specs.Ranges.{IsThing, IsEdit, IsEntry}
 use Rattle.desk_journal.specs.JournalText.{mode_words, watch_words, edit_words, entry_lines, heading_lines, end_words, journal_lines}
-use Rattle.desk_journal.specs.Begun.{head_words, fresh, lacks_watch, lacks_edit, entry_of, IsBegun}
+use Rattle.desk_journal.specs.Begun.{fresh, lacks_watch, lacks_edit, entry_of}
 use Rattle.desk_journal.specs.Places.{settled, Steps, IsPlace}
 use Rattle.desk_journal.specs.declared.places.Heading.{Heading}
 use Rattle.desk_journal.specs.declared.places.Heading.TheVariants.{First, Second}
@@ -24,7 +23,7 @@ use Rattle.desk_journal.specs.declared.places.Begun.{Begun}
 use Rattle.desk_journal.specs.declared.places.Place.{Place}
 use Rattle.desk_journal.specs.declared.places.Place.TheVariants.{Start, Versioned, Between, Inside, Over}
 use Rattle.desk_journal.proofs.PlainLines.{are_lines}
-use Rattle.desk_journal.proofs.Walks.{Walks, walk-more, walk-join, walk-split, walk-same, place_lines, Reached, step-reached, step-plain}
+use Rattle.desk_journal.proofs.Walks.{Walks, walk-more, walk-join, place_lines, Reached, step-reached, step-plain}
 
 settled-watch : (heading : Heading) (entries : List Entry) (entry : Begun) → length entry.watch < entry.head.watches → settled heading entries entry ≡ Inside heading entries entry
 settled-watch heading entries entry due = rw (lt-ltb (length entry.watch) entry.head.watches due) refl

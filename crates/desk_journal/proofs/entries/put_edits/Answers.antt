@@ -1,4 +1,4 @@
-use Rattle.std.proofs.Common.{◌∷◌, rules}
+use Rattle.std.proofs.Common.{rules}
 use Rattle.scene_edits.specs.declared.edits.Edit.{Edit}
 use Rattle.desk_report.specs.LineText.{line_text}
 use Rattle.desk_journal.specs.JournalText.{edit_words}

@@ -1,4 +1,3 @@
-use Rattle.std.proofs.KnownBytes.{Appends-trans}
 use Rattle.desk_report.proofs.Fronts.{front-more, front-after, err-of, ok-after, err-after}
 use Rattle.desk_journal.proofs.RouteLines.{text-entry}
 use Rattle.desk_journal.proofs.entries.put_entry.Goals as goal

@@ -1,4 +1,4 @@
-use Rattle.std.proofs.Common.{◌≡◌, ap, ◌∙◌, arith}
+use Rattle.std.proofs.Common.{ap, ◌∙◌, arith}
 use Rattle.bench_reader.specs.Words.{number_of}
 use Rattle.desk_journal.proofs.Grammar.{number_of-decimal}
 use Rattle.desk_journal.proofs.lines.count_of.Goals as goal

@@ -1,4 +1,4 @@
-use Rattle.std.proofs.Common.{◌≡◌, ◌<◌, get_or, length, arith, add-one, eq-eqb}
+use Rattle.std.proofs.Common.{get_or, arith, add-one, eq-eqb}
 use Rattle.std.proofs.lemmas.Bool.{eqb-true}
 use Rattle.std.proofs.lemmas.List.{take_rest}
 use Rattle.desk_journal.proofs.PlainLines.{no-feed, one-line-front, feed-parts}

@@ -1,8 +1,6 @@
-use Rattle.std.proofs.Common.{◌≡◌, ◌+◌, ◌≤◌, ℕ, length, ap, sym, subst, ◌∙◌, arith, length-append, ◌∷◌}
+use Rattle.std.proofs.Common.{◌+◌, ℕ, length, ap, sym, subst, ◌∙◌, arith, length-append, ◌∷◌}
 use Rattle.std.proofs.lemmas.Bool.{eqb-false}
 use Rattle.desk_journal.specs.Reading.{IsBadLine}
-use Rattle.desk_journal.specs.declared.places.Place.{Place}
-use Rattle.desk_journal.proofs.Walks.{place_lines}
 use Rattle.desk_journal.proofs.BadLines.{bad-line}
 use Rattle.desk_journal.proofs.ReaderSteps.{goes-on, sticks-line, sticks-end, not-empty}
 use Rattle.desk_journal.proofs.reading.read_journal.Goals as goal

@@ -1,4 +1,4 @@
-use Rattle.std.proofs.Common.{◌≡◌, ℕ, List, Option, Some, length, codes, ◌++◌, refl, ap, sym, subst, ◌∙◌, inl, inr, arith, rules}
+use Rattle.std.proofs.Common.{◌≡◌, Option, Some, length, codes, ◌++◌, refl, ap, subst, ◌∙◌, inl, inr, arith}
 use Rattle.desk_report.specs.LineText.{line_text}
 use Rattle.desk_journal.specs.JournalText.{end_words}
 use Rattle.desk_journal.specs.Begun.{IsHead, head_words}

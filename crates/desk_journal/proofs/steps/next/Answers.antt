@@ -1,4 +1,3 @@
-use Rattle.std.proofs.Common.{◌≡◌, sym, subst}
 use Rattle.desk_journal.proofs.steps.next.Goals as goal
 
 pub returns-then-items-entry : goal.returns-then-items-entry

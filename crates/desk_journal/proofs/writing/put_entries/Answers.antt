@@ -1,4 +1,4 @@
-use Rattle.std.proofs.Common.{◌∷◌, rules}
+use Rattle.std.proofs.Common.{rules}
 use Rattle.desk_core.specs.Entries.{Entry}
 use Rattle.desk_journal.specs.JournalText.{entry_lines, text_of}
 use Rattle.desk_report.proofs.Fronts.{err-of}

@@ -1,4 +1,4 @@
-use Rattle.std.proofs.Common.{◌≡◌, ◌∷◌, take}
+use Rattle.std.proofs.Common.{◌≡◌, take}
 use Rattle.std.specs.List.{All, flat_map}
 use Rattle.desk_journal.specs.Ranges.{IsEntry}
 use Rattle.std.specs.Io.KnownBytes.{Appends}
