@@ -1,6 +1,7 @@
 pub mod Freshness
 pub mod Anywhere
 pub mod Stamping
+pub mod Goaling
 pub mod OnMap
 pub mod RunsOn
 pub mod Replaying

@@ -2,6 +2,7 @@ pub mod Entries
 pub mod State
 pub mod Stale
 pub mod Stamps
+pub mod Goals
 pub mod Kept
 pub mod Commits
 pub mod Questions

@@ -2,26 +2,31 @@ ghost use Rattle.std.specs.Prelude.{◌≡◌, ◌≤◌, IfOk, IfSome, IfNone};
 ghost use Rattle.desk_core.specs.State.{opening, version_of};
 ghost use Rattle.desk_core.specs.Commits.{IsCurrent, Refuses, Committed};
 ghost use Rattle.desk_core.specs.Questions.{Shows, Tells, Copies};
+ghost use Rattle.desk_core.specs.Goals.{AreFieldsOf};
 
 use crate::answers::{AskFault, Reading, Refusal, Snapshot};
 use crate::commits::Commit;
+use crate::goals::{distance_to, fields_after, fields_of};
 use crate::limits::Limit;
-use crate::questions::{distance_in, report};
+use crate::questions::{goal_asked, report};
 use crate::stale::stale;
 use crate::stamps::{Stamps, with_entry};
+use goal_fields::Fields;
 use grid_cells::{Agent, Cell, OutOfMemory};
 use scene_edits::{EditsFault, Scene};
 use std::alloc::Global;
+use std::fmt::{Debug, Error, Formatter, Write};
 use std::marker::Model;
 
 /// A scene, and the journal of the commits that made it of the scene at the opening.
-#[derive(Debug, Drop)]
+#[derive(Drop)]
 pub struct Desk {
     alloc: Global,
     scene: Scene,
     journal: Vec<Commit>,
     limit: Limit,
     stamps: Option<Stamps>,
+    fields: Option<Fields>,
 }
 
 impl Model for Desk {
@@ -33,7 +38,17 @@ impl Model for Desk {
 
     ghost view = { λ d. record { scene = d.scene; journal = d.journal.items; limit = d.limit } };
 
-    ghost invariant = { λ d. IsKept d.scene d.journal.items d.limit d.stamps };
+    ghost invariant = { λ d. IsKept d.scene d.journal.items d.limit d.stamps d.fields };
+}
+
+impl Debug for Desk {
+    fn fmt<W: Write>(&self, f: &mut Formatter<W>) -> Result<(), Error> {
+        f.debug_struct("Desk")
+            .field("scene", &self.scene)
+            .field("journal", &self.journal)
+            .field("limit", &self.limit)
+            .finish_non_exhaustive()
+    }
 }
 
 impl Desk {
@@ -47,6 +62,7 @@ impl Desk {
             journal: Vec::new(alloc),
             limit,
             stamps: None,
+            fields: None,
         }
     }
 
@@ -101,8 +117,13 @@ impl Desk {
         ensures shown { IfOk result (Shows self.old) }
     {
         let version = self.version();
-        let report = report(self.alloc, &self.scene)?;
-        Ok(Reading { version, report })
+        let fields = self.take_fields()?;
+        let report = report(self.alloc, &fields, &self.scene);
+        self.fields = Some(fields);
+        match report {
+            Ok(report) => Ok(Reading { version, report }),
+            Err(refused) => Err(refused),
+        }
     }
 
     /// The distance in steps of the cell to the agent's goal on the present map, if there is one.
@@ -114,7 +135,11 @@ impl Desk {
         ensures same { self.new ≡ self.old }
         ensures told { Tells self.old.scene agent cell result }
     {
-        distance_in(self.alloc, &self.scene, agent, cell)
+        let goal = goal_asked(&self.scene, agent, cell)?;
+        let fields = self.take_fields()?;
+        let distance = distance_to(&fields, cell, goal);
+        self.fields = Some(fields);
+        Ok(distance)
     }
 
     /// A copy of the scene, at the desk's version.
@@ -146,6 +171,18 @@ impl Desk {
         match stale(&self.journal, self.stamps.as_ref(), commit) {
             Some((thing, at)) => Some(Refusal::Stale { now, thing, at }),
             None => None,
+        }
+    }
+
+    // The fields of the agents' goals: those that stand, and else new ones. None stand until they are
+    // put back.
+    fn take_fields(&mut self) -> Result<Fields, OutOfMemory>
+        ensures same { self.new ≡ self.old }
+        ensures fields { IfOk result (AreFieldsOf self.old.scene) }
+    {
+        match self.fields.take() {
+            Some(fields) => Ok(fields),
+            None => fields_of(self.alloc, &self.scene),
         }
     }
 
@@ -182,6 +219,8 @@ impl Desk {
         let size = self.scene.grid().size();
         let stamps = self.stamps.take();
         self.stamps = with_entry(size, stamps, &self.journal, &commit);
+        let fields = self.fields.take();
+        self.fields = fields_after(fields, commit.edits());
         match self.journal.push(commit) {
             Ok(()) => Ok(self.journal.len() as u64),
             Err(_) => unreachable!(),

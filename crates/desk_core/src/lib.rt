@@ -5,6 +5,7 @@ mod answers;
 mod commits;
 mod desks;
 mod driving;
+mod goals;
 mod journals;
 mod laws;
 mod limits;

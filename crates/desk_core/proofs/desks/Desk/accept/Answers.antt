@@ -5,6 +5,7 @@ use Rattle.scene_edits.specs.Scene.{SceneState}
 use Rattle.scene_edits.specs.InOrder.{AreAllowed, edited_all}
 use Rattle.desk_core.specs.Entries.{Entry}
 use Rattle.desk_core.specs.State.{DeskState}
+use Rattle.desk_core.specs.Goals.{WhereFieldsStand}
 use Rattle.desk_core.specs.Stamps.{AreOnMap, NameOnMap, AreStamps, WhereTheyStand}
 use Rattle.desk_core.proofs.Stamping.{all_on, same_size_all, on_map_push}
 use Rattle.desk_core.proofs.desks.Desk.accept.Goals as goal
@@ -36,8 +37,11 @@ invariant_of-self-2 c =
     let old = ap length before in
     let on : AreOnMap c.self.inside.scene.grid.size (c.self.inside.journal.items ++ c.args.commit ∷ []) = on_map_push c.self.inside.scene.grid.size c.self.inside.journal.items c.args.commit c.self.invariant.on_map (all_on c.self.inside.scene c.args.commit.edits allowed) in
     let stand : WhereTheyStand c.apply_all.new.self.grid.size (c.self.inside.journal.items ++ c.args.commit ∷ []) c.with_entry.result = rw (← size, ← journal) c.with_entry.ensures in
+    let held : WhereFieldsStand c.self.inside.scene c.take-fields.result = rw c.take-fields.ensures.value c.self.invariant.fielded in
+    let kept : WhereFieldsStand (edited_all c.self.inside.scene c.args.commit.edits) c.fields_after.result = rw (← c.edits-2.ensures.is) (c.fields_after.ensures c.self.inside.scene held) in
     record {
       within = omega (arith, many, old, most, length_push c.self.inside.journal.items c.args.commit, c.requires.in_order.room);
       on_map = rw (same, items) on;
       stamped = rw items stand;
+      fielded = rw new kept;
     }
