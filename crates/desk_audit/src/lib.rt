@@ -17,3 +17,6 @@ mod visits;
 pub use audits::audit;
 pub use faults::AuditFault;
 pub use gates::{Gate, NoGate};
+
+#[cfg(test)]
+mod tests;

@@ -51,12 +51,13 @@ pub fn bucket(many: usize, cell: Cell, number: u32) -> usize
 }
 
 impl Table {
-    // A table of that many buckets, or one, with room for that many slots, in which nothing is filed.
+    // A table of about that many buckets, with room for that many slots, in which nothing is filed.
+    // The number of buckets is odd, so that the cells of a column don't meet in a few of them.
     pub fn new(alloc: Global, buckets: usize, room: usize) -> Result<Table, OutOfMemory>
         ensures { IfOk result IsFiled }
     {
         Ok(Table {
-            heads: vec![in alloc; None; buckets.max(1)]?,
+            heads: vec![in alloc; None; buckets / 2 * 2 + 1]?,
             slots: Vec::with_capacity(alloc, room)?,
         })
     }
