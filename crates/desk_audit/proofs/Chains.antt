@@ -1,10 +1,10 @@
 -- A walk along the chain of one bucket.
-use Rattle.std.proofs.Common.{◌≡◌, ◌≢◌, ℕ, ◌+◌, ◌<◌, ◌≤◌, List, length, get_or, Some, None, Option, refl, sym, ap, subst, ◌∙◌, ◌⊎◌, inl, inr, arith}
+use Rattle.std.proofs.Common.{◌≡◌, ◌≢◌, ℕ, ◌<◌, ◌≤◌, List, length, get_or, Some, None, Option, refl, sym, subst, ◌∙◌, inl, inr, arith}
 use Rattle.std.proofs.lemmas.Bool.{cases_lt}
 use Rattle.std.specs.List.{Contains}
 use Rattle.grid_cells.specs.Cell.{Point}
 use Rattle.desk_audit.specs.declared.tables.Pass.{Pass}
-use Rattle.desk_audit.specs.Filing.{bucket_of, slot_bucket, NoneIn, IsLast, IsFiled}
+use Rattle.desk_audit.specs.Filing.{bucket_of, slot_bucket, IsLast, IsFiled}
 use Rattle.desk_audit.specs.declared.tables.Slot.{Slot}
 use Rattle.desk_audit.specs.declared.tables.Table.{Table}
 

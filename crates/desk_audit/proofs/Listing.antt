@@ -1,8 +1,8 @@
 -- Entries in the order in which they are listed.
-use Rattle.std.proofs.Common.{◌≡◌, ◌≢◌, ℕ, ◌+◌, ◌-◌, ◌<◌, ◌≤◌, List, [], ◌∷◌, ◌++◌, length, get_or, refl, sym, ap, subst, ◌∙◌, ◌⊎◌, inl, inr, arith, length-append}
+use Rattle.std.proofs.Common.{◌≡◌, ℕ, ◌+◌, ◌-◌, ◌<◌, List, [], ◌∷◌, ◌++◌, length, get_or, refl, sym, ap, subst, ◌∙◌, inl, inr, arith, length-append}
 use mathlib.Core.Logic.{◌↔◌}
-use Rattle.std.specs.List.{Contains, AllPairs}
-use Rattle.std.specs.Ordering.{nat_cmp, ordering_then, is_lt}
+use Rattle.std.specs.List.{Contains}
+use Rattle.std.specs.Ordering.{nat_cmp, ordering_then}
 use Rattle.std.specs.Cmp.Lexicographic.{slice_cmp}
 use Rattle.std.specs.declared.cmp.Ordering.{Ordering}
 use Rattle.std.specs.declared.cmp.Ordering.TheVariants.{Less, Equal, Greater}
@@ -10,7 +10,7 @@ use Rattle.std.proofs.lemmas.Bool.{cases_lt}
 use Rattle.std.proofs.lemmas.List.{get_or_default, get_or_append_left, get_or_push}
 use Rattle.std.proofs.lemmas.List.Elements.{Contains-push, Contains-push_cases, Contains-append_left, Contains-get_or}
 use Rattle.plan_table.specs.Order.{ComesBefore, ListsAll}
-use Rattle.plan_table.proofs.Order.{ComesBefore-trans, Contains-nil}
+use Rattle.plan_table.proofs.Order.{ComesBefore-trans}
 use Rattle.conflict_ledger.specs.ConflictList.{listing_key}
 use Rattle.conflict_ledger.specs.Finding.{IsListed}
 use Rattle.conflict_ledger.specs.declared.entries.Conflict.{Conflict}

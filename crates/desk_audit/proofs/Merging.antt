@@ -1,5 +1,5 @@
 -- Parts joined rank by rank.
-use Rattle.std.proofs.Common.{◌≡◌, ◌≢◌, ℕ, ◌+◌, ◌-◌, ◌*◌, ◌/◌, ◌<◌, ◌≤◌, List, [], ◌∷◌, ◌++◌, length, get_or, take, drop, slice_range, Some, None, Option, refl, sym, ap, subst, ◌∙◌, ◌⊎◌, inl, inr, arith, length-append, true, false, Bool}
+use Rattle.std.proofs.Common.{◌≡◌, ℕ, ◌+◌, ◌-◌, ◌*◌, ◌/◌, ◌<◌, ◌≤◌, List, [], ◌∷◌, ◌++◌, length, get_or, take, drop, slice_range, Some, refl, sym, ap, subst, ◌∙◌, ◌⊎◌, inl, inr, arith, length-append}
 use mathlib.Core.Logic.{◌↔◌}
 use Rattle.std.specs.List.{Contains, AllPairs, slice_get}
 use Rattle.std.proofs.Math.Seq.{take-add}
@@ -8,25 +8,19 @@ use Rattle.std.proofs.lemmas.Nat.{le-div}
 use Rattle.std.proofs.lemmas.Bool.{cases_lt}
 use Rattle.std.proofs.lemmas.Bool.Decides.{nat_tests}
 use Rattle.std.proofs.lemmas.Option.{same_Some, get_or_from_slice_get, slice_get_within}
-use Rattle.std.proofs.lemmas.List.{get_or_append_left, get_or-append_right, get_or-drop, drop-drop, take_more}
+use Rattle.std.proofs.lemmas.List.{get_or_append_left, get_or-append_right, drop-drop}
 use Rattle.std.proofs.lemmas.List.Elements.{Contains-append_left, Contains-append_right, Contains-append_cases, Contains-get_or}
 use Rattle.grid_cells.specs.Grid.{Chart}
 use Rattle.plan_table.specs.Order.{ComesBefore, ListsAll, EachOf}
 use Rattle.plan_table.specs.Path.{last_index}
 use Rattle.plan_table.specs.Plans.{row_of, agents_of, IsByAgent}
-use Rattle.plan_table.specs.Route.{Fleet, tracks_of}
 use Rattle.plan_table.specs.declared.plans.Row.{Row}
-use Rattle.plan_table.specs.declared.tracks.Mode.{Mode}
 use Rattle.plan_table.proofs.Order.{Contains-nil}
 use Rattle.plan_table.proofs.Fleets.{row_at_rank, row_here, rank_of}
-use Rattle.conflict_ledger.specs.declared.entries.Conflict.{Conflict}
-use Rattle.conflict_ledger.specs.ConflictList.{Stands}
 use Rattle.cost_ledger.specs.Visits.{IsVisit, IsBlocked, visit_key, AreVisits}
-use Rattle.cost_ledger.specs.VisitSearch.{IsVisitIn, AddsVisits}
+use Rattle.cost_ledger.specs.VisitSearch.{AddsVisits}
 use Rattle.cost_ledger.specs.declared.visits.Visit.{Visit}
-use Rattle.desk_report.specs.Report.{IsLine, AreLines}
-use Rattle.desk_report.specs.declared.reports.AgentLine.{AgentLine}
-use Rattle.desk_audit.specs.Parts.{IsRanked, first_agent, IsVisitOf, AreEntriesOf, edge}
+use Rattle.desk_audit.specs.Parts.{IsRanked, IsVisitOf, edge}
 
 -- agents rise with their ranks
 pub ranks_rise : (rows : List (ℕ × Row)) → IsByAgent rows → (i j a b : ℕ) → slice_get (agents_of rows) i ≡ Some a → slice_get (agents_of rows) j ≡ Some b → i < j → a < b

@@ -1,12 +1,12 @@
 -- Where the rows of a table put their agents, on their paths and at rest.
-use Rattle.std.proofs.Common.{◌≡◌, ℕ, ◌<◌, ◌≤◌, List, Some, None, Option, Bool, true, eqb, ◌&&◌, refl, sym, ap, subst, ◌∙◌, inl, inr, arith}
+use Rattle.std.proofs.Common.{◌≡◌, ℕ, ◌≤◌, List, Some, None, Option, Bool, true, eqb, ◌&&◌, refl, sym, ◌∙◌, inl, inr, arith}
 use Rattle.std.proofs.lemmas.Bool.{cases_lt}
 use Rattle.std.proofs.lemmas.Bool.Decides.{nat_tests}
 use Rattle.std.specs.Prelude.{IsTrue}
 use Rattle.grid_cells.specs.Cell.{Point}
 use Rattle.plan_table.specs.Path.{last_index, place}
 use Rattle.plan_table.specs.Plans.{row_of}
-use Rattle.plan_table.specs.Route.{Route, position_of, position, last_of, Leaves, leaves_in, tracks_of, route_in}
+use Rattle.plan_table.specs.Route.{position_of, position, last_of, Leaves, leaves_in, tracks_of, route_in}
 use Rattle.plan_table.specs.declared.plans.Row.{Row}
 use Rattle.plan_table.specs.declared.tracks.Mode.{Mode}
 use Rattle.plan_table.proofs.Fleets.{position_on_path, position_rests, position_staying, position_gone, leaver_early, true_or_not}

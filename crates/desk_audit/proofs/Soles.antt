@@ -1,9 +1,9 @@
 -- The one agent that moves out of a cell, found along a chain.
-use Rattle.std.proofs.Common.{◌≡◌, ◌≢◌, ℕ, ◌+◌, ◌<◌, ◌≤◌, length, get_or, Some, None, Option, refl, sym, subst, ◌∙◌}
+use Rattle.std.proofs.Common.{◌≡◌, ◌≢◌, ℕ, get_or, Some, None, Option, refl, sym, subst, ◌∙◌}
 use Rattle.std.specs.Prelude.{IfSome}
 use Rattle.std.proofs.lemmas.Option.{same_Some}
 use Rattle.grid_cells.specs.Cell.{Point}
-use Rattle.plan_table.specs.Route.{Fleet, position_of}
+use Rattle.plan_table.specs.Route.{Fleet}
 use Rattle.plan_table.proofs.Fleets.{changes_early}
 use Rattle.conflict_ledger.specs.Cycles.{MovesOut}
 use Rattle.conflict_ledger.specs.RingWalk.{IsSoleMover}

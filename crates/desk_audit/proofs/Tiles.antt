@@ -1,5 +1,5 @@
 -- Pieces that follow one another, and their parts joined.
-use Rattle.std.proofs.Common.{◌≡◌, ℕ, ◌+◌, ◌≤◌, List, [], ◌∷◌, ◌++◌, length, slice_range, refl, sym, ap, subst, ◌∙◌, arith, Bool, true, false}
+use Rattle.std.proofs.Common.{◌≡◌, ℕ, ◌≤◌, List, [], ◌∷◌, ◌++◌, length, slice_range, refl, sym, subst, ◌∙◌, arith, Bool, true, false}
 use Rattle.std.specs.List.{Contains}
 use Rattle.grid_cells.specs.Grid.{Chart}
 use Rattle.plan_table.specs.Order.{ListsAll}
@@ -17,9 +17,7 @@ use Rattle.std.specs.Prelude.{IsSome}
 use Rattle.std.proofs.lemmas.List.{take_rest}
 use Rattle.conflict_ledger.specs.declared.entries.Conflict.{Conflict}
 use Rattle.cost_ledger.specs.Visits.{visit_key}
-use Rattle.cost_ledger.specs.declared.visits.Visit.{Visit}
 use Rattle.desk_report.specs.Report.{IsLine, AreLines}
-use Rattle.desk_report.specs.declared.reports.AgentLine.{AgentLine}
 use Rattle.desk_audit.specs.Parts.{IsPart, IsVisitOf, AreEntriesOf, first_agent}
 use Rattle.desk_audit.specs.declared.parts.Part.{Part}
 use Rattle.desk_audit.specs.declared.threads.Piece.{Piece}

@@ -1,5 +1,5 @@
 -- Sightings in buckets: words for the index's own steps (this project's choice).
-use Rattle.std.specs.Prelude.{◌≡◌, ◌≢◌, ℕ, ◌+◌, ◌*◌, ◌%◌, ◌<◌, ◌≤◌, Option, Some, None, MatchOption, List, length, slice_index_or, Contains}
+use Rattle.std.specs.Prelude.{◌≡◌, ◌≢◌, ℕ, ◌+◌, ◌*◌, ◌%◌, ◌<◌, ◌≤◌, Option, Some, None, List, length, slice_index_or, Contains}
 use Rattle.grid_cells.specs.Cell.{Point}
 use Rattle.desk_audit.specs.declared.tables.Pass.{Pass}
 use Rattle.desk_audit.specs.declared.tables.Slot.{Slot}

@@ -1,15 +1,14 @@
-use Rattle.std.proofs.Common.{◌≡◌, ◌≢◌, ◌<◌, ℕ, ◌+◌, Some, refl, sym, ap, subst, ◌∙◌, inl, inr, arith}
+use Rattle.std.proofs.Common.{◌≡◌, ◌<◌, ℕ, ◌+◌, Some, sym, ap, subst, ◌∙◌, inl, inr, arith}
 use Rattle.std.proofs.lemmas.Bool.{cases_lt}
 use Rattle.std.proofs.lemmas.Option.{same_Some}
 use Rattle.plan_table.specs.Path.{place}
 use Rattle.plan_table.specs.Route.{tracks_of}
 use Rattle.plan_table.specs.declared.plans.Row.{Row}
 use Rattle.plan_table.proofs.Fleets.{row_here}
-use Rattle.conflict_ledger.specs.declared.entries.Conflict.{Conflict}
 use Rattle.conflict_ledger.proofs.PairEntries.{OnOk_then}
 use Rattle.desk_audit.specs.Parts.{first_agent}
 use Rattle.desk_audit.specs.Seeking.{Finds, time_of}
-use Rattle.desk_audit.proofs.Finding.{finds_then, finds_none, finds_as}
+use Rattle.desk_audit.proofs.Finding.{finds_then, finds_none}
 use Rattle.desk_audit.proofs.Places.{on_path, last_of_row, place_of_position, same_cell}
 use Rattle.desk_audit.proofs.entries.add_agent.Goals as goal
 use Rattle.desk_audit.proofs.entries.add_agent.Goals.{then-eq, else-eq}

@@ -1,8 +1,7 @@
-use Rattle.std.proofs.Common.{◌≡◌, ◌<◌, length, List, sym, subst, arith}
+use Rattle.std.proofs.Common.{◌<◌, length, sym, subst, arith}
 use Rattle.std.proofs.lemmas.Bool.{eqb-true}
 use Rattle.plan_table.specs.Route.{tracks_of}
 use Rattle.desk_audit.specs.Seeking.{IsOfMet, IsRingFrom, Leads, HasMet}
-use Rattle.desk_audit.specs.declared.tables.Pass.{Pass}
 use Rattle.desk_audit.proofs.Finding.{finds_then, finds_none}
 use Rattle.desk_audit.proofs.Near.{leads_splits, leads_some}
 use Rattle.desk_audit.proofs.entries.add_ahead.Goals as goal

@@ -1,4 +1,3 @@
-use Rattle.std.proofs.Common.{◌≡◌, ◌++◌, subst, sym}
 use Rattle.plan_table.specs.Route.{tracks_of}
 use Rattle.desk_audit.proofs.Finding.{finds_pair}
 use Rattle.desk_audit.proofs.entries.add_pair.Goals as goal

@@ -2,7 +2,7 @@ use Rattle.std.proofs.Common.{◌≡◌, ◌<◌, List, Contains, sym, subst}
 use Rattle.plan_table.specs.Route.{tracks_of}
 use Rattle.conflict_ledger.proofs.PairEntries.{OnOk_then}
 use Rattle.desk_audit.specs.Parts.{first_agent}
-use Rattle.desk_audit.specs.Seeking.{Finds, IsOfPassed, time_of}
+use Rattle.desk_audit.specs.Seeking.{IsOfPassed, time_of}
 use Rattle.desk_audit.specs.declared.tables.Pass.{Pass}
 use Rattle.desk_audit.proofs.Finding.{finds_as}
 use Rattle.desk_audit.proofs.Near.{late_splits}

@@ -1,13 +1,12 @@
-use Rattle.std.proofs.Common.{◌≡◌, ℕ, List, Some, refl, sym, ap, subst, ◌∙◌}
-use Rattle.std.specs.Prelude.{IfSome, slice_index}
+use Rattle.std.proofs.Common.{◌≡◌, refl, sym, ap, subst, ◌∙◌}
+use Rattle.std.specs.Prelude.{slice_index}
 use Rattle.std.proofs.lemmas.Option.{same_Some, get_or_from_slice_get, MatchOption-at_some}
-use Rattle.plan_table.specs.Route.{Fleet, tracks_of}
+use Rattle.plan_table.specs.Route.{tracks_of}
 use Rattle.conflict_ledger.specs.Cycles.{IsRing}
 use Rattle.conflict_ledger.specs.ConflictList.{Stands}
-use Rattle.conflict_ledger.specs.declared.entries.Conflict.{Conflict}
 use Rattle.conflict_ledger.specs.declared.entries.Conflict.TheVariants.{Cycle}
 use Rattle.desk_audit.specs.Seeking.{IsRingFrom}
-use Rattle.desk_audit.proofs.Finding.{finds_one, finds_none}
+use Rattle.desk_audit.proofs.Finding.{finds_one}
 use Rattle.desk_audit.proofs.entries.add_ring.Goals as goal
 
 pub returns-in_ok-push : goal.returns-in_ok-push

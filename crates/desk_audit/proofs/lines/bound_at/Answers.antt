@@ -1,4 +1,4 @@
-use Rattle.std.proofs.Common.{◌≡◌, sym, ap, subst, ◌∙◌}
+use Rattle.std.proofs.Common.{sym, ap, subst}
 use Rattle.grid_cells.specs.Grid.{Chart}
 use Rattle.plan_table.proofs.Fleets.{row_here}
 use Rattle.goal_fields.specs.Target.{Target}

@@ -1,8 +1,7 @@
-use Rattle.std.proofs.Common.{◌≡◌, ◌-◌, ℕ, length, replicate, None, Some, Option, sym, ap, subst, ◌∙◌, arith}
+use Rattle.std.proofs.Common.{◌≡◌, ℕ, ◌∙◌, arith}
 use Rattle.plan_table.specs.declared.plans.Row.{Row}
 use Rattle.plan_table.proofs.Order.{EachOf-push}
 use Rattle.desk_report.specs.Report.{IsLine}
-use Rattle.desk_audit.specs.Parts.{HasBounds}
 use Rattle.desk_audit.proofs.Bounding.{bounds_none, range_push, range_none}
 use Rattle.desk_audit.proofs.lines.lines_of.Goals as goal
 

@@ -1,11 +1,11 @@
-use Rattle.std.proofs.Common.{◌≡◌, ◌≢◌, ◌++◌, ◌∷◌, [], length, List, Contains, sym, subst, ◌∙◌}
+use Rattle.std.proofs.Common.{◌++◌, ◌∷◌, [], Contains, sym, ◌∙◌}
 use mathlib.Core.Bool.{false≢true}
 use Rattle.std.proofs.lemmas.List.Elements.{Contains-push, Contains-append_left}
 use Rattle.desk_audit.specs.Filing.{bucket_of}
 use Rattle.desk_audit.specs.declared.tables.Pass.{Pass}
 use Rattle.desk_audit.specs.declared.tables.Slot.{Slot}
 use Rattle.desk_audit.specs.declared.tables.Table.{Table}
-use Rattle.desk_audit.proofs.Chains.{Walked, Gathers, gathers_others, walk_more, many_of}
+use Rattle.desk_audit.proofs.Chains.{Gathers, gathers_others, walk_more, many_of}
 use Rattle.desk_audit.proofs.tables.Table.add_others.Goals as goal
 use Rattle.desk_audit.proofs.tables.Table.add_others.Goals.{then-is_other+in_ok-push, else-is_other}
 

@@ -1,4 +1,4 @@
-use Rattle.std.proofs.Common.{◌+◌, Option, Contains, length}
+use Rattle.std.proofs.Common.{◌+◌, Contains, length}
 use Rattle.std.specs.Option.{option_map_or}
 use Rattle.desk_audit.specs.Filing.{bucket_of}
 use Rattle.desk_audit.specs.declared.tables.Pass.{Pass}
