@@ -47,12 +47,12 @@ pub fn bucket(many: usize, cell: Cell, number: u32) -> usize
 {
     let place = u64::from(cell.y()) * 2_048 + u64::from(cell.x());
     let mixed = place * 2_654_435_761 + u64::from(number) * 2_246_822_519;
-    (mixed % many as u64) as usize
+    (mixed / 65_536 % many as u64) as usize
 }
 
 impl Table {
     // A table of about that many buckets, with room for that many slots, in which nothing is filed.
-    // The number of buckets is odd, so that the cells of a column don't meet in a few of them.
+    // The number of buckets is odd: with a power of two the cells of a column would meet in a few.
     pub fn new(alloc: Global, buckets: usize, room: usize) -> Result<Table, OutOfMemory>
         ensures { IfOk result IsFiled }
     {
