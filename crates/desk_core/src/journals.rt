@@ -10,6 +10,7 @@ use plan_table::Mode;
 use scene_edits::Scene;
 use std::alloc::Global;
 use std::marker::Model;
+use thiserror::Error;
 
 /// Accepted commits in their order, and the mode of the scene that they were made on.
 #[derive(Debug, Drop, PartialEq)]
@@ -55,12 +56,15 @@ impl Journal {
 }
 
 /// Why a journal isn't replayed: the first that holds.
-#[derive(Clone, Copy, Debug, PartialEq, Eq)]
+#[derive(Clone, Copy, Debug, PartialEq, Eq, Error)]
 pub enum ReplayFault {
     /// The scene's mode isn't the journal's.
+    #[error("mode differs")]
     ModeDiffers,
     /// The first entry that the desk refuses, counted from 1, and why it does.
+    #[error("entry {entry} refused")]
     Refused { entry: usize, why: Refusal },
+    #[error("out of memory")]
     OutOfMemory,
 }
 

@@ -6,12 +6,16 @@ use Rattle.bench_reader.specs.declared.scens.ScenFault.{ScenFault}
 use Rattle.bench_reader.specs.declared.scens.ScenFault.TheVariants as scen
 use Rattle.scene_edits.specs.declared.tasks.TaskFault.{TaskFault}
 use Rattle.scene_edits.specs.declared.tasks.TaskFault.TheVariants as tasks
+use Rattle.desk_core.specs.declared.journals.ReplayFault.{ReplayFault}
+use Rattle.desk_core.specs.declared.journals.ReplayFault.TheVariants as replay
+use Rattle.desk_journal.specs.declared.faults.JournalFault.{JournalFault}
+use Rattle.desk_journal.specs.declared.faults.JournalFault.TheVariants as journal
 use Rattle.desk_session.specs.declared.bounds.ServeFault.{ServeFault}
 use Rattle.desk_session.specs.declared.bounds.ServeFault.TheVariants as session
 use Rattle.desk_session.specs.declared.bounds.StartFault.{StartFault}
 use Rattle.desk_session.specs.declared.bounds.StartFault.TheVariants as start
 use Rattle.mapf_desk.specs.declared.faults.RunFault.{RunFault}
-use Rattle.mapf_desk.specs.declared.faults.RunFault.TheVariants.{Map, Scen, Tasks, Serve, OutOfMemory}
+use Rattle.mapf_desk.specs.declared.faults.RunFault.TheVariants.{Map, Scen, Tasks, Journal, Replay, Serve, OutOfMemory}
 
 abbrev pub of_map : MapFault → RunFault
 of_map map.OutOfMemory = OutOfMemory
@@ -24,6 +28,14 @@ of_scen why = Scen why
 abbrev pub of_tasks : TaskFault → RunFault
 of_tasks tasks.OutOfMemory = OutOfMemory
 of_tasks why = Tasks why
+
+abbrev pub of_journal : JournalFault → RunFault
+of_journal journal.OutOfMemory = OutOfMemory
+of_journal why = Journal why
+
+abbrev pub of_replay : ReplayFault → RunFault
+of_replay replay.OutOfMemory = OutOfMemory
+of_replay why = Replay why
 
 abbrev pub of_session : ServeFault → RunFault
 of_session session.OutOfMemory = OutOfMemory

@@ -1,8 +1,9 @@
 ghost use Rattle.std.specs.Prelude.{◌≡◌};
-ghost use Rattle.mapf_desk.specs.Faults.{of_map, of_scen, of_session, of_start, of_tasks};
+ghost use Rattle.mapf_desk.specs.Faults.{of_journal, of_map, of_replay, of_scen, of_session, of_start, of_tasks};
 
 use bench_reader::{MapFault, ScenFault};
-use desk_session::{ServeFault, StartFault};
+use desk_core::ReplayFault;
+use desk_session::{JournalFault, ServeFault, StartFault};
 use scene_edits::TaskFault;
 use thiserror::Error;
 
@@ -18,9 +19,18 @@ pub enum RunFault {
     /// The first tasks of the scenario make no scene on the map.
     #[error("scen: {0}")]
     Tasks(TaskFault),
+    /// The journal's text is no journal.
+    #[error("journal: {0}")]
+    Journal(JournalFault),
+    /// The journal isn't of the scene's mode, or the desk refuses one of its entries.
+    #[error("journal: {0}")]
+    Replay(ReplayFault),
     /// The session ended before its input did.
     #[error("{0}")]
     Serve(ServeFault),
+    /// A report could not be written.
+    #[error("write failed")]
+    WriteFailed,
     #[error("out of memory")]
     OutOfMemory,
 }
@@ -54,6 +64,28 @@ impl From<TaskFault> for RunFault {
         match fault {
             TaskFault::OutOfMemory => RunFault::OutOfMemory,
             fault => RunFault::Tasks(fault),
+        }
+    }
+}
+
+impl From<JournalFault> for RunFault {
+    ghost from_gives = { λ why fault. fault ≡ of_journal why };
+
+    fn from(fault: JournalFault) -> RunFault {
+        match fault {
+            JournalFault::OutOfMemory => RunFault::OutOfMemory,
+            fault => RunFault::Journal(fault),
+        }
+    }
+}
+
+impl From<ReplayFault> for RunFault {
+    ghost from_gives = { λ why fault. fault ≡ of_replay why };
+
+    fn from(fault: ReplayFault) -> RunFault {
+        match fault {
+            ReplayFault::OutOfMemory => RunFault::OutOfMemory,
+            fault => RunFault::Replay(fault),
         }
     }
 }

@@ -1,6 +1,7 @@
-//! The program: a desk that serves a planner's session over files and standard streams.
+//! The program: a desk that serves a planner's session over files and standard streams, and audits.
 #![tactic(auto)]
 
+mod auditing;
 mod faults;
 mod files;
 mod scenes;
@@ -10,20 +11,27 @@ mod streams;
 mod tests;
 mod words;
 
+use auditing::audit_files;
 use faults::{Fault, RunFault};
 use serving::serve_streams;
 use std::process::ExitCode;
 use std::rt::Files;
+use std::sync::Wait;
+use std::thread::Threads;
 use std::{env, io};
 use words::{Asked, Words, read_words};
 
 // Does what the words ask for.
-fn obey<'a, R: Files + AllocGlobal + Print + Input>(
+fn obey<'a, R: Files + AllocGlobal + Print + Input + Threads + Wait>(
     rt: &R,
     words: &Words<'a>,
 ) -> Result<ExitCode, Fault<'a>> {
     match words {
         Words::Serve(serve) => match serve_streams(rt, serve) {
+            Ok(()) => Ok(ExitCode::SUCCESS),
+            Err(fault) => Err(fault),
+        },
+        Words::Audit(audit) => match audit_files(rt, audit) {
             Ok(()) => Ok(ExitCode::SUCCESS),
             Err(fault) => Err(fault),
         },

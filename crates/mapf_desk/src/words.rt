@@ -8,6 +8,7 @@ use std::alloc::{AllocError, Global};
 #[derive(Drop)]
 pub enum Words<'a> {
     Serve(ServeWords<'a>),
+    Audit(AuditWords<'a>),
 }
 
 /// The words of `serve`.
@@ -18,6 +19,17 @@ pub struct ServeWords<'a> {
     pub agents: u32,
     pub limit: Limit,
     pub mode: Mode,
+}
+
+/// The words of `audit`.
+#[derive(Drop)]
+pub struct AuditWords<'a> {
+    pub map: &'a str,
+    pub scen: Option<&'a str>,
+    pub agents: u32,
+    pub mode: Mode,
+    pub journal: Option<&'a str>,
+    pub workers: u32,
 }
 
 /// What the words come to.
@@ -51,10 +63,15 @@ several edits; report, distance, solves and version ask.
 Example:
   mapf_desk serve --map demo/warehouse.map --scen demo/warehouse.scen --agents 10";
 
+const AUDIT_EXAMPLE: &str = "\
+The report is made from scratch: nothing that a desk keeps is used. Each worker is a thread of its
+own and tells its share of the agents.
+
+Example:
+  mapf_desk audit --map demo/warehouse.map --scen demo/warehouse.scen --agents 10 --workers 4";
+
 fn map_argument<'a>(alloc: Global) -> Arg<'a> {
-    Arg::new(alloc, "map").long("map").value_name("F").help(
-        "The map, a MovingAI .map file; without it the map stands first on standard input",
-    )
+    Arg::new(alloc, "map").long("map").value_name("F")
 }
 
 fn scen_argument<'a>(alloc: Global) -> Arg<'a> {
@@ -92,21 +109,58 @@ fn limit_argument<'a>(alloc: Global) -> Arg<'a> {
 }
 
 fn serve_command<'a>(alloc: Global) -> Result<Command<'a>, AllocError> {
+    let map = map_argument(alloc).help(
+        "The map, a MovingAI .map file; without it the map stands first on standard input",
+    );
     Command::new(alloc, "serve")
         .about("Serves one planner's session from standard input to standard output")
         .after_help(SERVE_EXAMPLE)
-        .arg(map_argument(alloc))?
+        .arg(map)?
         .arg(scen_argument(alloc))?
         .arg(agents_argument(alloc))?
         .arg(limit_argument(alloc))?
         .arg(mode_argument(alloc))
 }
 
+fn journal_argument<'a>(alloc: Global) -> Arg<'a> {
+    Arg::new(alloc, "journal")
+        .long("journal")
+        .value_name("F")
+        .help("A journal, whose entries are committed before the audit")
+}
+
+fn workers_argument<'a>(alloc: Global) -> Arg<'a> {
+    Arg::new(alloc, "workers")
+        .long("workers")
+        .value_name("N")
+        .value_parser(value_parser!(u32).range(1..=64))
+        .default_value("4")
+        .help("How many threads make the report, from 1 to 64")
+}
+
+fn audit_command<'a>(alloc: Global) -> Result<Command<'a>, AllocError> {
+    let map = map_argument(alloc)
+        .required(true)
+        .help("The map, a MovingAI .map file");
+    Command::new(alloc, "audit")
+        .about(
+            "Prints the report of a map, a scenario's agents and a journal, made from scratch in threads",
+        )
+        .after_help(AUDIT_EXAMPLE)
+        .arg(map)?
+        .arg(scen_argument(alloc))?
+        .arg(agents_argument(alloc))?
+        .arg(mode_argument(alloc))?
+        .arg(journal_argument(alloc))?
+        .arg(workers_argument(alloc))
+}
+
 fn command<'a>(alloc: Global) -> Result<Command<'a>, AllocError> {
     Command::new(alloc, "mapf_desk")
         .about(ABOUT)
         .after_help(PROGRAM_EXAMPLE)
-        .subcommand(serve_command(alloc)?)
+        .subcommand(serve_command(alloc)?)?
+        .subcommand(audit_command(alloc)?)
 }
 
 fn mode_of(matches: &ArgMatches<'_>) -> Mode {
@@ -127,6 +181,14 @@ fn limit_of(matches: &ArgMatches<'_>) -> Limit {
 
 fn words_of<'a>(matches: &ArgMatches<'a>) -> Words<'a> {
     match matches.subcommand() {
+        Some(("audit", inner)) => Words::Audit(AuditWords {
+            map: inner.get_str("map").unwrap_or(""),
+            scen: inner.get_str("scen"),
+            agents: inner.get_one::<u32>("agents").unwrap_or(0),
+            mode: mode_of(inner),
+            journal: inner.get_str("journal"),
+            workers: inner.get_one::<u32>("workers").unwrap_or(4),
+        }),
         Some((_, inner)) => Words::Serve(ServeWords {
             map: inner.get_str("map"),
             scen: inner.get_str("scen"),

@@ -1,3 +1,4 @@
 //! Runs of the commands' functions over bytes, and the texts of their faults. Answers and texts are written by hand.
+mod audits;
 mod faults;
 mod runs;

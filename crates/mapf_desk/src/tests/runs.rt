@@ -39,7 +39,7 @@ pub fn served(
 }
 
 // The report of agent 0 of the scenario, which rests at its start.
-const RESTING: &str =
+pub const RESTING: &str =
     "version 0\nagents 1\nagent 0 settle 0 goal no bound 2 gap none\nconflicts 0\n\
 blocked 0\nsum none\nmakespan none\nbounds 2\ngap none\nend\n";
 

@@ -1,0 +1,132 @@
+ghost use Rattle.std.specs.Prelude.{◌≤◌, IfOk, OnOk, option_map};
+ghost use Rattle.std.specs.Io.KnownBytes.{Appends};
+ghost use Rattle.mapf_desk.specs.Audits.{Audits, Replays, audit_text};
+
+use crate::faults::{Fault, RunFault};
+use crate::files::{file_bytes, named_bytes};
+use crate::scenes::scene_of;
+use crate::words::AuditWords;
+use desk_audit::{AuditFault, NoGate, audit};
+use desk_core::{Desk, Limit, MOST_ENTRIES, replay};
+use desk_report::{Report, Sink, Spout, Word, WriteFailed, put_line, write_report};
+use desk_session::read_journal;
+use plan_table::Mode;
+use scene_edits::Scene;
+use std::alloc::Global;
+use std::io;
+use std::io::{BufWriter, Write};
+use std::rt::Files;
+use std::sync::Wait;
+use std::thread::Threads;
+
+/// Writes the version and the report of a desk that is opened on the scene of a map and the agents
+/// of the first tasks of a scenario, and commits a journal's entries. The report is made from
+/// scratch, by so many threads.
+///
+/// # Errors
+///
+/// The first fault of the map, the scenario, the tasks and the journal, want of memory, or a fault
+/// of the writer.
+pub fn run_audit<T: Threads + Wait, W: Sink>(
+    rt: &T,
+    alloc: Global,
+    map: &[u8],
+    scen: Option<&[u8]>,
+    agents: u32,
+    mode: Mode,
+    journal: Option<&[u8]>,
+    workers: u32,
+    writer: &mut W,
+) -> Result<(), RunFault>
+    requires workers { (1 ≤ workers) × (workers ≤ 64) }
+    ensures { OnOk result (Audits map.now (option_map (λ text. text.now) scen.entry) agents mode (option_map (λ text. text.now) journal.entry) (W.held writer.old) (W.held writer.new)) }
+{
+    let scene = match scene_of(alloc, map, scen, agents, mode) {
+        Ok(scene) => scene,
+        Err(fault) => return Err(fault),
+    };
+    let desk = match replayed(alloc, scene, journal) {
+        Ok(desk) => desk,
+        Err(fault) => return Err(fault),
+    };
+    let report = match audit(rt, alloc, desk.scene(), workers, &NoGate) {
+        Ok(report) => report,
+        Err(AuditFault::BadWorkers) => unreachable!(),
+        Err(AuditFault::OutOfMemory) => return Err(RunFault::OutOfMemory),
+    };
+    match put_audit(writer, &desk, &report) {
+        Ok(()) => Ok(()),
+        Err(WriteFailed) => Err(RunFault::WriteFailed),
+    }
+}
+
+// The desk that is opened on the scene and commits the entries of a journal's text.
+fn replayed(alloc: Global, scene: Scene, journal: Option<&[u8]>) -> Result<Desk, RunFault>
+    ensures { IfOk result (Replays (option_map (λ text. text.now) journal.entry) scene) }
+{
+    let Some(limit) = Limit::new(MOST_ENTRIES) else {
+        unreachable!()
+    };
+    let Some(text) = journal else {
+        return Ok(Desk::open(alloc, scene, limit));
+    };
+    let journal = match read_journal(alloc, text) {
+        Ok(journal) => journal,
+        Err(fault) => return Err(RunFault::from(fault)),
+    };
+    match replay(alloc, scene, limit, journal) {
+        Ok(desk) => Ok(desk),
+        Err(fault) => Err(RunFault::from(fault)),
+    }
+}
+
+// Writes the desk's version and the report.
+fn put_audit<W: Sink>(writer: &mut W, desk: &Desk, report: &Report) -> Result<(), WriteFailed>
+    ensures { OnOk result (Appends (W.held writer.old) (W.held writer.new) (audit_text desk.now report.now)) }
+{
+    match put_line(writer, b"version", &[Word::Number(desk.version())]) {
+        Ok(()) => write_report(report, writer),
+        Err(failed) => Err(failed),
+    }
+}
+
+/// Audits as the words ask for, onto standard output.
+///
+/// # Errors
+///
+/// What the words lack, a file that can't be read, or the run's fault.
+pub fn audit_files<'a, R: Files + AllocGlobal + Print + Threads + Wait>(
+    rt: &R,
+    words: &AuditWords<'a>,
+) -> Result<(), Fault<'a>> {
+    if words.agents > 0 && words.scen.is_none() {
+        return Err(Fault::AgentsWithoutScen);
+    }
+    let map = file_bytes(rt, words.map)?;
+    let scen = named_bytes(rt, words.scen)?;
+    let journal = named_bytes(rt, words.journal)?;
+    let alloc = rt.alloc();
+    let Ok(buffered) = BufWriter::new(alloc, io::writer(rt)) else {
+        return Err(Fault::Run(RunFault::OutOfMemory));
+    };
+    let mut writer = Spout::new(buffered);
+    let ended = run_audit(
+        rt,
+        alloc,
+        map.as_slice(),
+        scen.as_deref(),
+        words.agents,
+        words.mode,
+        journal.as_deref(),
+        words.workers.clamp(1, 64),
+        &mut writer,
+    );
+    let mut buffered = writer.into_inner();
+    match ended {
+        Err(fault) => Err(Fault::Run(fault)),
+        Ok(()) => match buffered.flush() {
+            Ok(()) => Ok(()),
+            Err(_) => Err(Fault::Run(RunFault::WriteFailed)),
+        },
+    }
+}
