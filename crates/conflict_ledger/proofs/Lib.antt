@@ -6,3 +6,13 @@ pub mod PairEntries
 pub mod LawsHold
 pub mod RoundTrips
 pub mod Sets
+pub mod Change
+pub mod KeptChanges
+pub mod Sighted
+pub mod Gathers
+pub mod Late
+pub mod Walks
+pub mod MoverIn
+pub mod KeptLoops
+pub mod LeftRings
+pub mod Turning

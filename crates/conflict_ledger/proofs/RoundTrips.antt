@@ -22,7 +22,7 @@ use Rattle.plan_table.specs.Plans.{agents_of}
 use Rattle.plan_table.specs.declared.plans.Row.{Row}
 use Rattle.plan_table.proofs.Order.{Contains-cons_head, Contains-cons_tail, Contains-cons_cases, AllPairs-head, AllPairs-tail}
 use Rattle.plan_table.proofs.Fleets.{rank_of, tracks_live, position_live, changes_early}
-use Rattle.conflict_ledger.specs.RingWalk.{IsNext, IsChain, BeginsWith}
+use Rattle.conflict_ledger.specs.RingWalk.{IsSoleMover, MovesTo, IsNext, IsChain, BeginsWith}
 
 -- an agent has one next
 pub IsNext-unique : (fleet : Fleet) (time agent a b : ℕ) → IsNext fleet time agent a → IsNext fleet time agent b → a ≡ b
@@ -31,13 +31,13 @@ IsNext-unique fleet time agent a b left right =
     right.sole.only a (subst (MovesOut fleet time a) cells left.sole.moves)
 
 -- the index after k, round the ring
-after_within : (k n : ℕ) → k < n → (k + 1) % n < n
+pub after_within : (k n : ℕ) → k < n → (k + 1) % n < n
 after_within k n h = omega arith
 
-after_inside : (k n : ℕ) → k + 1 < n → (k + 1) % n ≡ k + 1
+pub after_inside : (k n : ℕ) → k + 1 < n → (k + 1) % n ≡ k + 1
 after_inside k n h = grind arith
 
-after_end : (k n : ℕ) → k + 1 ≡ n → (k + 1) % n ≡ 0
+pub after_end : (k n : ℕ) → k + 1 ≡ n → (k + 1) % n ≡ 0
 after_end k n h = rw h (mod_self n)
 
 -- an agent that follows another moves out of where it is
@@ -278,3 +278,112 @@ ring_early fleet h time ring above is =
     let step = is.round 0 (omega (arith, is.three)) in
     let early = changes_early fleet (slice_index ring 0) time (λ same. step.1.moves (same ∙ step.1.follower_to)) in
     omega (arith, above (slice_index ring 0))
+
+-- the next of an agent that moves to a cell is the one that alone moves out of it
+pub next_of_sole : (fleet : Fleet) (time agent next : ℕ) (cell : Point) → MovesTo fleet time agent cell → IsSoleMover fleet time cell next → IsNext fleet time agent next
+next_of_sole fleet time agent next cell moves sole = record { cell = cell; to = moves.to; moves = moves.moves; sole = sole }
+
+pub sole_of_next : (fleet : Fleet) (time agent next : ℕ) (cell : Point) → MovesTo fleet time agent cell → IsNext fleet time agent next → IsSoleMover fleet time cell next
+sole_of_next fleet time agent next cell moves is = subst (λ (c : Point). IsSoleMover fleet time c next) (same_Some _ _ (sym is.to ∙ moves.to)) is.sole
+
+-- the first agent of a ring moves
+pub ring_moves : (fleet : Fleet) (time : ℕ) (ring : List ℕ) → IsRing fleet time ring → (cell : Point) × MovesTo fleet time (slice_index ring 0) cell
+ring_moves fleet time ring is = let step = is.round 0 (omega (arith, is.three)) in (step.0, record { to = step.1.follower_to; moves = step.1.moves })
+
+-- ---- few numbers lie below another
+down_from : ℕ → List ℕ
+down_from zero = []
+down_from (suc n) = n ∷ down_from n
+
+down_length : (n : ℕ) → length (down_from n) ≡ n
+unfolding down_from
+down_length zero = refl
+down_length (suc n) = let rest = down_length n in omega arith
+
+down_has : (n x : ℕ) → x < n → Contains (down_from n) x
+unfolding down_from
+down_has zero x low = absurd (omega arith)
+down_has (suc n) x low = elim (cases_lt x n) [
+  | inl lower ↦ Contains-cons_tail n (down_from n) x (down_has n x lower)
+  | inr at ↦ let same : n ≡ x = omega arith in subst (Contains (n ∷ down_from n)) same (Contains-cons_head n (down_from n))
+]
+
+-- distinct numbers below n are no more than n
+pub distinct_below : (n : ℕ) (xs : List ℕ) → AllPairs (λ a b. a ≢ b) xs → ((x : ℕ) → Contains xs x → x < n) → length xs ≤ n
+distinct_below n xs distinct low =
+    let fits = distinct_fits xs (down_from n) distinct (λ x has. down_has n x (low x has)) in
+    omega (arith, down_length n)
+
+-- what holds of an agent of a ring, and of each one's next, holds of its least
+module _ (fleet : Fleet) (time : ℕ) (ring : List ℕ) (P : ℕ → Type 0) (step : (a next : ℕ) → IsNext fleet time a next → P a → P next) (is : IsRing fleet time ring) where
+  on : (k : ℕ) → k < length ring → P (slice_index ring k) → P (slice_index ring ((k + 1) % length ring))
+  on k within h = step _ _ (ring_next fleet time ring is k within) h
+
+  climb_to : (k steps : ℕ) → k + steps < length ring → P (slice_index ring k) → P (slice_index ring (k + steps))
+  climb_to k zero within h = subst (λ q. P (slice_index ring q)) {x = k} (omega arith) h
+  climb_to k (suc steps) within h =
+      let before : P (slice_index ring (k + steps)) = climb_to k steps (omega arith) h in
+      let place : (k + steps + 1) % length ring ≡ k + suc steps = after_inside (k + steps) (length ring) (omega arith) ∙ omega arith in
+      subst (λ q. P (slice_index ring q)) place (on (k + steps) (omega arith) before)
+
+  pub round_to_least : (agent : ℕ) → Contains ring agent → P agent → P (slice_index ring 0)
+  round_to_least agent (i, within, at) h =
+      let here : P (slice_index ring i) = subst P (sym (get_or_default ring i 0 agent within ∙ at)) h in
+      let last : P (slice_index ring (length ring - 1)) = subst (λ q. P (slice_index ring q)) {x = i + (length ring - 1 - i)} (omega arith) (climb_to i (length ring - 1 - i) (omega arith) here) in
+      subst (λ q. P (slice_index ring q)) (after_end (length ring - 1) (length ring) (omega arith)) (on (length ring - 1) (omega arith) last)
+
+module _ (fleet : Fleet) (time : ℕ) (ring : List ℕ) (is : IsRing fleet time ring) where
+  -- the next of an agent of the ring is of the ring
+  pub next_in_ring : (agent next : ℕ) → Contains ring agent → IsNext fleet time agent next → Contains ring next
+  next_in_ring agent next (i, within, at) follows =
+      let here : slice_index ring i ≡ agent = get_or_default ring i 0 agent within ∙ at in
+      let its = ring_next fleet time ring is i within in
+      let same : slice_index ring ((i + 1) % length ring) ≡ next = IsNext-unique fleet time agent _ next (subst (λ a. IsNext fleet time a (slice_index ring ((i + 1) % length ring))) here its) follows in
+      subst (Contains ring) same (Contains-get_or ring ((i + 1) % length ring) 0 (after_within i (length ring) within))
+
+  -- an agent of the ring has one agent before it
+  pub one_before : (a b next : ℕ) → Contains ring a → Contains ring b → IsNext fleet time a next → IsNext fleet time b next → a ≡ b
+  one_before a b next (i, i_in, i_at) (j, j_in, j_at) fa fb =
+      let here_a : slice_index ring i ≡ a = get_or_default ring i 0 a i_in ∙ i_at in
+      let here_b : slice_index ring j ≡ b = get_or_default ring j 0 b j_in ∙ j_at in
+      let na : slice_index ring ((i + 1) % length ring) ≡ next = IsNext-unique fleet time a _ next (subst (λ q. IsNext fleet time q (slice_index ring ((i + 1) % length ring))) here_a (ring_next fleet time ring is i i_in)) fa in
+      let nb : slice_index ring ((j + 1) % length ring) ≡ next = IsNext-unique fleet time b _ next (subst (λ q. IsNext fleet time q (slice_index ring ((j + 1) % length ring))) here_b (ring_next fleet time ring is j j_in)) fb in
+      let place : (i + 1) % length ring ≡ (j + 1) % length ring = one_place _ _ (after_within i (length ring) i_in) (after_within j (length ring) j_in) (na ∙ sym nb) in
+      let same : i ≡ j = same_before i j (length ring) i_in j_in place in
+      sym here_a ∙ ap (slice_index ring) same ∙ here_b
+    where
+      one_place : (k m : ℕ) → k < length ring → m < length ring → slice_index ring k ≡ slice_index ring m → k ≡ m
+      one_place k m k_in m_in at = elim (cases_lt k m) [
+        | inl lt ↦ absurd (is.distinct k m 0 lt m_in at)
+        | inr ge ↦ elim (cases_lt m k) [ inl gt ↦ absurd (is.distinct m k 0 gt k_in (sym at)) | inr le ↦ omega arith ]
+      ]
+
+      same_before : (k m n : ℕ) → k < n → m < n → (k + 1) % n ≡ (m + 1) % n → k ≡ m
+      same_before k m n k_in m_in at = elim (cases_lt (k + 1) n) [
+        | inl k_low ↦ elim (cases_lt (m + 1) n) [
+          | inl m_low ↦ let e : k + 1 ≡ m + 1 = sym (after_inside k n k_low) ∙ at ∙ after_inside m n m_low in omega arith
+          | inr m_end ↦ let e : k + 1 ≡ 0 = sym (after_inside k n k_low) ∙ at ∙ after_end m n (omega arith) in absurd (omega arith)
+        ]
+        | inr k_end ↦ elim (cases_lt (m + 1) n) [
+          | inl m_low ↦ let e : 0 ≡ m + 1 = sym (after_end k n (omega arith)) ∙ at ∙ after_inside m n m_low in absurd (omega arith)
+          | inr m_end ↦ omega arith
+        ]
+      ]
+
+  pub has_next : (agent : ℕ) → Contains ring agent → (next : ℕ) × IsNext fleet time agent next
+  has_next agent (i, within, at) =
+      let here : slice_index ring i ≡ agent = get_or_default ring i 0 agent within ∙ at in
+      (slice_index ring ((i + 1) % length ring), subst (λ a. IsNext fleet time a (slice_index ring ((i + 1) % length ring))) here (ring_next fleet time ring is i within))
+
+-- an agent of a ring is the next of another one of it
+pub one_to : (fleet : Fleet) (time : ℕ) (ring : List ℕ) → IsRing fleet time ring → (a : ℕ) → Contains ring a → (before : ℕ) × IsNext fleet time before a
+one_to fleet time ring is a (zero, within, at) =
+    let here : slice_index ring 0 ≡ a = get_or_default ring 0 0 a within ∙ at in
+    let n : ℕ = length ring - 1 in
+    let next = ring_next fleet time ring is n (omega arith) in
+    (slice_index ring n, subst (IsNext fleet time (slice_index ring n)) (ap (slice_index ring) (after_end n (length ring) (omega arith)) ∙ here) next)
+one_to fleet time ring is a (suc k, within, at) =
+    let here : slice_index ring (suc k) ≡ a = get_or_default ring (suc k) 0 a within ∙ at in
+    let next = ring_next fleet time ring is k (omega arith) in
+    let place : (k + 1) % length ring ≡ suc k = after_inside k (length ring) (omega arith) ∙ omega arith in
+    (slice_index ring k, subst (IsNext fleet time (slice_index ring k)) (ap (slice_index ring) place ∙ here) next)

@@ -23,3 +23,10 @@ pub record IsRing (fleet : Fleet) (time : ℕ) (ring : List ℕ) : Type 0 where
   pub least_first : All (λ a. slice_index ring 0 ≤ a) ring
   pub round : EachIndex ring (λ k. Follows fleet time (slice_index ring k) (slice_index ring ((k + 1) % length ring)))
   pub alone : (member other : ℕ) (cell : Point) → Contains ring member → position_of fleet member time ≡ Some cell → MovesOut fleet time other cell → other ≡ member
+
+-- the ring has a member that moves out of the cell
+pub record IsRingAt (fleet : Fleet) (time : ℕ) (cell : Point) (ring : List ℕ) : Type 0 where
+  pub round : IsRing fleet time ring
+  pub member : ℕ
+  pub of : Contains ring member
+  pub out : MovesOut fleet time member cell

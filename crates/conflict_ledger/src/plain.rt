@@ -9,7 +9,7 @@ ghost use Rattle.conflict_ledger.specs.Finding.{AreFound, KeepsAll, HasPair, Has
 
 use crate::entries::Conflict;
 use crate::pairs::{edge, following, last, parked, swapping, vertex};
-use crate::rings::{Table, agent_of, ring_from};
+use crate::rings::{Table, agent_of, destination, ring_from};
 use crate::sorted::add_found;
 use grid_cells::{Agent, List, OutOfMemory, Step};
 use plan_table::{MOST_LAST_INDEX, Mode, Plans};
@@ -144,7 +144,10 @@ fn cycle(
     ensures stands { IfOk result (λ found. IfSome found (Stands (tracks_of mode plans.now.rows))) }
     ensures found { IfOk result (λ found. (ring : List ℕ) → IsRing (tracks_of mode plans.now.rows) time ring → slice_index ring 0 ≡ first → found ≡ Some (Conflict.Cycle time ring)) }
 {
-    match ring_from(alloc, &Table { plans, mode }, time, first)? {
+    let Some(to) = destination(plans, mode, time, first) else {
+        return Ok(None);
+    };
+    match ring_from(alloc, &Table { plans, mode }, time, first, to)? {
         Some(ring) => Ok(Some(Conflict::Cycle {
             time: Step::new(time),
             ring,

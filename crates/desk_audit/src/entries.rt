@@ -12,7 +12,7 @@ ghost use Rattle.desk_audit.specs.Parts.{IsRanked, first_agent};
 ghost use Rattle.desk_audit.specs.Seeking.{Finds, time_of, IsOfMet, IsOfPassed, IsRingFrom, IsAhead, Leads, HasMet};
 ghost use Rattle.desk_audit.specs.declared.tables.Pass.{Pass};
 
-use crate::movers::Movers;
+use crate::movers::Indexed;
 use crate::sightings::Sightings;
 use crate::tables::Pass;
 use conflict_ledger::{Conflict, Ring, entries_of_pair, last, ring_from};
@@ -83,16 +83,20 @@ fn add_passed(
 fn add_ring(
     alloc: Global,
     entries: &mut Vec<Conflict>,
-    movers: &Movers,
+    movers: &Indexed<'_>,
     time: u32,
     agent: Agent,
 ) -> Result<(), OutOfMemory>
     requires { time ≤ MOST_LAST_INDEX }
     ensures { OnOk result (Finds (tracks_of movers.now.mode movers.now.rows) agent entries.old.items entries.new.items (IsRingFrom time agent)) }
 {
-    if let Some(ring) = ring_from(alloc, movers, time, agent)?
-        && begins_with(&ring, agent)
-    {
+    let Some(to) = movers.destination(time, agent) else {
+        return Ok(());
+    };
+    let Some(ring) = ring_from(alloc, movers, time, agent, to)? else {
+        return Ok(());
+    };
+    if begins_with(&ring, agent) {
         entries.push(Conflict::Cycle {
             time: Step::new(time),
             ring,
@@ -150,7 +154,7 @@ fn add_ahead(
     let leaders = others_at(alloc, plans, mode, index, time, cell, agent)?;
     if !leaders.is_empty() {
         add_met(alloc, entries, plans, mode, time, agent, &leaders)?;
-        let movers = Movers { plans, mode, index };
+        let movers = Indexed { plans, mode, index };
         add_ring(alloc, entries, &movers, time, agent)?;
     }
     Ok(())

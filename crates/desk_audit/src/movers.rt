@@ -1,26 +1,27 @@
 //! Which agent moves out of a cell in a step, looked up in the index: what the search for rings
 //! asks of it.
-ghost use Rattle.std.specs.Prelude.{◌≡◌, ℕ, ◌≤◌, Some, IfSome};
+ghost use Rattle.std.specs.Prelude.{◌≡◌, ℕ, ◌<◌, Some, IfSome, IsSome};
+ghost use Rattle.grid_cells.specs.Cell.{Point};
 ghost use Rattle.plan_table.specs.Route.{tracks_of};
-ghost use Rattle.conflict_ledger.specs.RingWalk.{IsNext, IsSoleMover};
+ghost use Rattle.conflict_ledger.specs.RingWalk.{IsSoleMover, MovesTo};
 ghost use Rattle.desk_audit.specs.Index.{IsIndexOf};
 
 use crate::sightings::Sightings;
 use crate::tables::bucket;
-use conflict_ledger::{NextMovers, moves_out, position};
+use conflict_ledger::{Movers, destination, moves_out};
 use grid_cells::{Agent, Cell};
-use plan_table::{MOST_LAST_INDEX, Mode, Plans};
+use plan_table::{Mode, Plans};
 use std::marker::Model;
 
 /// The plans of a table in a mode, with their index.
 #[derive(Drop)]
-pub struct Movers<'a> {
+pub struct Indexed<'a> {
     pub plans: &'a Plans,
     pub mode: Mode,
     pub index: &'a Sightings,
 }
 
-impl<'a> Model for Movers<'a> {
+impl<'a> Model for Indexed<'a> {
     ghost use Rattle.plan_table.specs.Route.{tracks_of};
     ghost use Rattle.desk_audit.specs.Index.{Fleetwide, IsIndexOf};
 
@@ -31,36 +32,47 @@ impl<'a> Model for Movers<'a> {
     ghost invariant = { λ m. IsIndexOf (tracks_of m.mode m.plans.now.rows) m.index.now };
 }
 
-impl NextMovers for Movers<'_> {
+impl Movers for Indexed<'_> {
     ghost tells = { λ m fleet. fleet ≡ tracks_of m.mode m.rows };
 
-    fn next_of(&self, time: u32, agent: Agent) -> Option<Agent> {
-        next_in(self.plans, self.mode, self.index, time, agent)
-    }
-
-    fn most_agents(&self) -> u32 {
-        self.plans.count()
+    fn sole_mover(&self, time: u32, cell: Cell) -> Option<(Agent, Cell)> {
+        mover_in(self.plans, self.mode, self.index, time, cell)
     }
 }
 
-// The one agent that moves out of the cell to which the agent moves.
-fn next_in(plans: &Plans, mode: Mode, index: &Sightings, time: u32, agent: Agent) -> Option<Agent>
-    requires time { time ≤ MOST_LAST_INDEX }
-    requires index { IsIndexOf (tracks_of mode plans.now.rows) index.now }
-    ensures next { IfSome result (IsNext (tracks_of mode plans.now.rows) time agent) }
-    ensures only { (next : ℕ) → IsNext (tracks_of mode plans.now.rows) time agent next → result ≡ Some next }
-{
-    let from = position(plans, mode, agent, time)?;
-    let to = position(plans, mode, agent, time + 1)?;
-    if from == to {
-        return None;
+impl<'a> Indexed<'a> {
+    /// The cell to which the agent moves in the step that begins at the time, if it moves.
+    pub fn destination(&self, time: u32, agent: Agent) -> Option<Cell>
+        requires { time < u32.MAX }
+        ensures moves { IfSome result (MovesTo (tracks_of self.now.mode self.now.rows) time agent) }
+        ensures found { (cell : Point) → MovesTo (tracks_of self.now.mode self.now.rows) time agent cell → result ≡ Some cell }
+    {
+        destination(self.plans, self.mode, time, agent)
     }
-    sole_mover(plans, mode, index, time, to)
+}
+
+// The one agent that moves out of the cell in the step, and the cell to which it moves.
+fn mover_in(
+    plans: &Plans,
+    mode: Mode,
+    index: &Sightings,
+    time: u32,
+    cell: Cell,
+) -> Option<(Agent, Cell)>
+    requires time { time < u32.MAX }
+    requires index { IsIndexOf (tracks_of mode plans.now.rows) index.now }
+    ensures sole { IfSome result (λ mover. IsSoleMover (tracks_of mode plans.now.rows) time cell mover.0) }
+    ensures to { IfSome result (λ mover. MovesTo (tracks_of mode plans.now.rows) time mover.0 mover.1) }
+    ensures found { (agent : ℕ) → IsSoleMover (tracks_of mode plans.now.rows) time cell agent → IsSome result }
+{
+    let agent = sole_mover(plans, mode, index, time, cell)?;
+    let to = destination(plans, mode, time, agent)?;
+    Some((agent, to))
 }
 
 // The one agent that moves out of the cell in the step.
 fn sole_mover(plans: &Plans, mode: Mode, index: &Sightings, time: u32, cell: Cell) -> Option<Agent>
-    requires time { time ≤ MOST_LAST_INDEX }
+    requires time { time < u32.MAX }
     requires index { IsIndexOf (tracks_of mode plans.now.rows) index.now }
     ensures sole { IfSome result (IsSoleMover (tracks_of mode plans.now.rows) time cell) }
     ensures only { (agent : ℕ) → IsSoleMover (tracks_of mode plans.now.rows) time cell agent → result ≡ Some agent }

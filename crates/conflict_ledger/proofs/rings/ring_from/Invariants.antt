@@ -1,12 +1,16 @@
-use Rattle.std.proofs.Common.{◌≡◌, ◌+◌, ◌↔◌, ℕ, length, Contains}
+use Rattle.std.proofs.Common.{◌≡◌, ◌+◌, ◌-◌, ◌<◌, ◌↔◌, ℕ, length, Contains}
+use Rattle.std.specs.Prelude.{slice_index}
+use Rattle.grid_cells.specs.declared.numbers.TheConstants.{MOST_AGENT}
 use Rattle.plan_table.specs.Route.{Fleet}
-use Rattle.conflict_ledger.specs.RingWalk.{IsChain, IsForced}
+use Rattle.conflict_ledger.specs.RingWalk.{MovesTo, IsChain, IsForced}
 use Rattle.conflict_ledger.proofs.rings.ring_from.Given as goal
 
 abbrev pub invariant-loop : goal.invariant-loop
 invariant-loop g l = record {
-  chain : (fleet : Fleet) → g.M.NextMovers.tells l.movers fleet → IsChain fleet l.time l.first l.chain.items;
-  forced : (fleet : Fleet) → g.M.NextMovers.tells l.movers fleet → IsForced fleet l.time l.first l.chain.items;
+  ahead : (fleet : Fleet) → g.M.Movers.tells l.movers fleet → MovesTo fleet l.time l.first l.fn.to → MovesTo fleet l.time (slice_index l.chain.items (length l.chain.items - 1)) l.ahead;
+  chain : (fleet : Fleet) → g.M.Movers.tells l.movers fleet → MovesTo fleet l.time l.first l.fn.to → IsChain fleet l.time l.first l.chain.items;
+  forced : (fleet : Fleet) → g.M.Movers.tells l.movers fleet → MovesTo fleet l.time l.first l.fn.to → IsForced fleet l.time l.first l.chain.items;
   seen : (agent : ℕ) → Contains l.seen.keys agent ↔ Contains l.chain.items agent;
+  numbers : (agent : ℕ) → Contains l.chain.items agent → agent < MOST_AGENT + 1;
   long : length l.chain.items ≡ l.counter + 1;
 }

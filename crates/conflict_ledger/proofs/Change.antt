@@ -1,0 +1,257 @@
+-- The entries of a fleet after one route is put in or taken out.
+use Rattle.std.proofs.Common.{◌≡◌, ◌≢◌, ◌⊎◌, inl, inr, ℕ, zero, suc, ◌+◌, ◌-◌, ◌<◌, ◌≤◌, ◌%◌, List, length, Some, None, refl, sym, ap, ◌∙◌, subst, arith}
+use mathlib.Core.Logic.{◌↔◌}
+use Rattle.std.specs.Prelude.{IsSome, IsTrue, slice_index, false}
+use Rattle.std.specs.Option.{unwrap_or, option_map, option_and_then}
+use Rattle.std.specs.List.{Contains}
+use Rattle.std.proofs.lemmas.List.Elements.{Contains-get_or}
+use Rattle.std.proofs.lemmas.List.{same_lists, get_or_default}
+use Rattle.grid_cells.specs.Cell.{Point}
+use Rattle.plan_table.specs.Path.{last_index}
+use Rattle.plan_table.specs.Route.{Route, Fleet, position, position_of, last_of, leaves_of}
+use Rattle.conflict_ledger.specs.Entries.{IsFollowing}
+use Rattle.conflict_ledger.specs.Cycles.{MovesOut, IsRing}
+use Rattle.conflict_ledger.specs.ConflictList.{Stands}
+use Rattle.conflict_ledger.specs.RingWalk.{IsNext}
+use Rattle.conflict_ledger.specs.declared.entries.Conflict.{Conflict}
+use Rattle.conflict_ledger.specs.declared.entries.Conflict.TheVariants.{Vertex, Parked, Edge, Following, Swapping, Cycle}
+use Rattle.conflict_ledger.specs.Naming.{Names, IsPair, time_of}
+use Rattle.conflict_ledger.specs.Change.{SameBut, IsNear, RingsAfterArrival}
+use Rattle.conflict_ledger.proofs.RoundTrips.{IsNext-unique, ring_next, after_inside, after_end, after_within}
+
+module _ (old new : Fleet) (agent : ℕ) (same : SameBut old new agent) where
+  pub there : (a time : ℕ) → a ≢ agent → position_of old a time ≡ position_of new a time
+  there a time apart = ap (λ r. option_and_then (λ route. position route time) r) (same a apart)
+
+  pub ends : (a : ℕ) → a ≢ agent → last_of old a ≡ last_of new a
+  ends a apart = ap (λ r. unwrap_or (option_map (λ (route : Route). last_index route.path) r) 0) (same a apart)
+
+  leaving : (a : ℕ) → a ≢ agent → leaves_of old a ≡ leaves_of new a
+  leaving a apart = ap (λ r. unwrap_or (option_map (λ (route : Route). route.leaves) r) false) (same a apart)
+
+  follows_stays : (time follower leader : ℕ) (cell : Point) → follower ≢ agent → leader ≢ agent → IsFollowing old time follower leader cell → IsFollowing new time follower leader cell
+  follows_stays time follower leader cell nf nl h = record {
+    two = h.two;
+    leader_there = sym (there leader time nl) ∙ h.leader_there;
+    leader_goes_on = subst IsSome (there leader (time + 1) nl) h.leader_goes_on;
+    follower_to = sym (there follower (time + 1) nf) ∙ h.follower_to;
+    moves = λ is. h.moves (there follower time nf ∙ is);
+  }
+
+  moves_out_stays : (time a : ℕ) (cell : Point) → a ≢ agent → MovesOut old time a cell → MovesOut new time a cell
+  moves_out_stays time a cell apart h = record {
+    from = sym (there a time apart) ∙ h.from;
+    goes_on = subst IsSome (there a (time + 1) apart) h.goes_on;
+    moves = λ is. h.moves (there a (time + 1) apart ∙ is);
+  }
+
+  -- an entry of two agents that does not name the agent stays
+  pub pair_stays : (entry : Conflict) → IsPair entry → (Names entry agent → ⊥) → Stands old entry → Stands new entry
+  pair_stays (Vertex time first second cell) pair out h =
+      let nf : first ≢ agent = λ e. out (inl e) in
+      let ns : second ≢ agent = λ e. out (inr e) in
+      let lf = ends first nf in
+      let ls = ends second ns in
+      record {
+        ordered = h.ordered;
+        first_there = sym (there first time nf) ∙ h.first_there;
+        second_there = sym (there second time ns) ∙ h.second_there;
+        passes = elim h.passes [
+          | inl lt ↦ inl (omega (arith, lf, ls, lt))
+          | inr more ↦ inr (elim more [ inl a ↦ inl (subst IsTrue (leaving first nf) a) | inr b ↦ inr (subst IsTrue (leaving second ns) b) ])
+        ];
+      }
+  pair_stays (Parked time first second cell) pair out h =
+      let nf : first ≢ agent = λ e. out (inl e) in
+      let ns : second ≢ agent = λ e. out (inr e) in
+      let lf = ends first nf in
+      let ls = ends second ns in
+      record {
+        ordered = h.ordered;
+        first_there = sym (there first time nf) ∙ h.first_there;
+        second_there = sym (there second time ns) ∙ h.second_there;
+        rests = omega (arith, lf, ls, h.rests);
+        first_stays = λ l. h.first_stays (subst IsTrue (sym (leaving first nf)) l);
+        second_stays = λ l. h.second_stays (subst IsTrue (sym (leaving second ns)) l);
+      }
+  pair_stays (Edge time first second cell next) pair out h =
+      let nf : first ≢ agent = λ e. out (inl e) in
+      let ns : second ≢ agent = λ e. out (inr e) in
+      record {
+        ordered = h.ordered;
+        first_from = sym (there first time nf) ∙ h.first_from;
+        second_from = sym (there second time ns) ∙ h.second_from;
+        first_to = sym (there first (time + 1) nf) ∙ h.first_to;
+        second_to = sym (there second (time + 1) ns) ∙ h.second_to;
+        moves = h.moves;
+      }
+  pair_stays (Following time follower leader cell) pair out h = follows_stays time follower leader cell (λ e. out (inl e)) (λ e. out (inr e)) h
+  pair_stays (Swapping time first second cell other) pair out h =
+      let nf : first ≢ agent = λ e. out (inl e) in
+      let ns : second ≢ agent = λ e. out (inr e) in
+      record {
+        ordered = h.ordered;
+        first_from = sym (there first time nf) ∙ h.first_from;
+        second_from = sym (there second time ns) ∙ h.second_from;
+        first_to = sym (there first (time + 1) nf) ∙ h.first_to;
+        second_to = sym (there second (time + 1) ns) ∙ h.second_to;
+        moves = h.moves;
+      }
+  pair_stays (Cycle time ring) pair out h = absurd pair
+
+  -- a ring without the agent stays, unless the agent moves out of a member's cell
+  pub ring_stays : (time : ℕ) (ring : List ℕ) → (Contains ring agent → ⊥)
+      → ((member : ℕ) (cell : Point) → Contains ring member → position_of new member time ≡ Some cell → MovesOut new time agent cell → ⊥)
+      → ((a : ℕ) → (a ≡ agent) ⊎ (a ≢ agent)) → IsRing old time ring → IsRing new time ring
+  ring_stays time ring out free which is = record {
+    three = is.three;
+    distinct = is.distinct;
+    least_first = is.least_first;
+    round = λ k within.
+        let step = is.round k within in
+        let here : slice_index ring k ≢ agent = λ e. out (subst (Contains ring) e (Contains-get_or ring k 0 within)) in
+        let next : slice_index ring ((k + 1) % length ring) ≢ agent = λ e. out (subst (Contains ring) e (Contains-get_or ring ((k + 1) % length ring) 0 (after_within k (length ring) within))) in
+        (step.0, follows_stays time _ _ step.0 here next step.1);
+    alone = λ member other cell in_ring at moves. elim (which other) [
+      | inl e ↦ absurd (free member cell in_ring at (subst (λ a. MovesOut new time a cell) e moves))
+      | inr apart ↦
+          let nm : member ≢ agent = λ e. out (subst (Contains ring) e in_ring) in
+          is.alone member other cell in_ring (there member time nm ∙ at) (back other cell apart moves)
+    ];
+  } where
+    back : (other : ℕ) (cell : Point) → other ≢ agent → MovesOut new time other cell → MovesOut old time other cell
+    back other cell apart h = record {
+      from = there other time apart ∙ h.from;
+      goes_on = subst IsSome (sym (there other (time + 1) apart)) h.goes_on;
+      moves = λ still. h.moves (sym (there other (time + 1) apart) ∙ still);
+    }
+
+-- ---- two rings of one time that share an agent are one
+module _ (fleet : Fleet) (time : ℕ) where
+  -- the next of a member is a member
+  next_inside : (r s : List ℕ) → IsRing fleet time r → IsRing fleet time s → (k : ℕ) → k < length r → Contains s (slice_index r k) → Contains s (slice_index r ((k + 1) % length r))
+  next_inside r s is_r is_s k within (j, inside, at) =
+      let here : slice_index s j ≡ slice_index r k = get_or_default s j 0 (slice_index r k) inside ∙ at in
+      let left : IsNext fleet time (slice_index r k) (slice_index r ((k + 1) % length r)) = ring_next fleet time r is_r k within in
+      let right : IsNext fleet time (slice_index r k) (slice_index s ((j + 1) % length s)) = subst (λ a. IsNext fleet time a (slice_index s ((j + 1) % length s))) here (ring_next fleet time s is_s j inside) in
+      let one : slice_index s ((j + 1) % length s) ≡ slice_index r ((k + 1) % length r) = IsNext-unique fleet time (slice_index r k) _ _ right left in
+      subst (Contains s) one (Contains-get_or s ((j + 1) % length s) 0 (after_within j (length s) inside))
+
+  module _ (r s : List ℕ) (is_r : IsRing fleet time r) (is_s : IsRing fleet time s) where
+    -- from a place to a later one
+    climb : (k steps : ℕ) → k + steps < length r → Contains s (slice_index r k) → Contains s (slice_index r (k + steps))
+    climb k zero within h = subst (λ q. Contains s (slice_index r q)) {x = k} (omega arith) h
+    climb k (suc steps) within h =
+        let before : Contains s (slice_index r (k + steps)) = climb k steps (omega arith) h in
+        let more : Contains s (slice_index r ((k + steps + 1) % length r)) = next_inside r s is_r is_s (k + steps) (omega arith) before in
+        let place : (k + steps + 1) % length r ≡ k + suc steps = after_inside (k + steps) (length r) (omega arith) ∙ omega arith in
+        subst (λ q. Contains s (slice_index r q)) place more
+
+    -- so all members of one are members of the other
+    pub all_inside : (i : ℕ) → i < length r → Contains s (slice_index r i) → (k : ℕ) → k < length r → Contains s (slice_index r k)
+    all_inside i within h k inside =
+        let last : Contains s (slice_index r (length r - 1)) = subst (λ q. Contains s (slice_index r q)) {x = i + (length r - 1 - i)} (omega arith) (climb i (length r - 1 - i) (omega arith) h) in
+        let wrapped : Contains s (slice_index r ((length r - 1 + 1) % length r)) = next_inside r s is_r is_s (length r - 1) (omega arith) last in
+        let first : Contains s (slice_index r 0) = subst (λ q. Contains s (slice_index r q)) (after_end (length r - 1) (length r) (omega arith)) wrapped in
+        subst (λ q. Contains s (slice_index r q)) {x = 0 + k} (omega arith) (climb 0 k (omega arith) first)
+
+  pub inside_all : (r s : List ℕ) → IsRing fleet time r → IsRing fleet time s → (m : ℕ) → Contains r m → Contains s m → (a : ℕ) → Contains r a → Contains s a
+  inside_all r s is_r is_s m (i, within, at_i) in_s a (k, inside, at_k) =
+      let here : slice_index r i ≡ m = get_or_default r i 0 m within ∙ at_i in
+      let there_k : slice_index r k ≡ a = get_or_default r k 0 a inside ∙ at_k in
+      subst (Contains s) there_k (all_inside r s is_r is_s i within (subst (Contains s) (sym here) in_s) k inside)
+
+  least_of : (r : List ℕ) → IsRing fleet time r → (a : ℕ) → Contains r a → slice_index r 0 ≤ a
+  least_of r is a (k, inside, at_k) = subst (λ v. slice_index r 0 ≤ v) at_k (is.least_first k a inside)
+
+  same_walk : (r s : List ℕ) → IsRing fleet time r → IsRing fleet time s → slice_index r 0 ≡ slice_index s 0 → (k : ℕ) → k < length r → k < length s → slice_index r k ≡ slice_index s k
+  same_walk r s is_r is_s starts zero a b = starts
+  same_walk r s is_r is_s starts (suc k) a b =
+      let before : slice_index r k ≡ slice_index s k = same_walk r s is_r is_s starts k (omega arith) (omega arith) in
+      let left : IsNext fleet time (slice_index s k) (slice_index r ((k + 1) % length r)) = subst (λ q. IsNext fleet time q (slice_index r ((k + 1) % length r))) before (ring_next fleet time r is_r k (omega arith)) in
+      let one : slice_index r ((k + 1) % length r) ≡ slice_index s ((k + 1) % length s) = IsNext-unique fleet time (slice_index s k) _ _ left (ring_next fleet time s is_s k (omega arith)) in
+      let in_r : (k + 1) % length r ≡ suc k = after_inside k (length r) (omega arith) ∙ omega arith in
+      let in_s : (k + 1) % length s ≡ suc k = after_inside k (length s) (omega arith) ∙ omega arith in
+      sym (ap (slice_index r) in_r) ∙ (one ∙ ap (slice_index s) in_s)
+
+  -- neither is shorter: its last agent's next would stand twice in the other
+  not_shorter : (r s : List ℕ) → IsRing fleet time r → IsRing fleet time s → slice_index r 0 ≡ slice_index s 0 → length r < length s → ⊥
+  not_shorter r s is_r is_s starts shorter =
+      let k : ℕ = length r - 1 in
+      let last : slice_index r k ≡ slice_index s k = same_walk r s is_r is_s starts k (omega (arith, is_r.three)) (omega (arith, is_r.three)) in
+      let left : IsNext fleet time (slice_index s k) (slice_index r ((k + 1) % length r)) = subst (λ q. IsNext fleet time q (slice_index r ((k + 1) % length r))) last (ring_next fleet time r is_r k (omega (arith, is_r.three))) in
+      let one : slice_index r ((k + 1) % length r) ≡ slice_index s ((k + 1) % length s) = IsNext-unique fleet time (slice_index s k) _ _ left (ring_next fleet time s is_s k (omega arith)) in
+      let back : (k + 1) % length r ≡ 0 = after_end k (length r) (omega (arith, is_r.three)) in
+      let on : (k + 1) % length s ≡ k + 1 = after_inside k (length s) (omega (arith, is_r.three)) in
+      is_s.distinct 0 (k + 1) 0 (omega arith) (omega (arith, is_r.three)) (sym starts ∙ (sym (ap (slice_index r) back) ∙ (one ∙ ap (slice_index s) on)))
+
+  -- two rings that share an agent are one
+  pub rings_meet : (r s : List ℕ) → IsRing fleet time r → IsRing fleet time s → (m : ℕ) → Contains r m → Contains s m → r ≡ s
+  rings_meet r s is_r is_s m in_r in_s =
+      let first_r : Contains r (slice_index r 0) = Contains-get_or r 0 0 (omega (arith, is_r.three)) in
+      let first_s : Contains s (slice_index s 0) = Contains-get_or s 0 0 (omega (arith, is_s.three)) in
+      let a : slice_index s 0 ≤ slice_index r 0 = least_of s is_s _ (inside_all r s is_r is_s m in_r in_s _ first_r) in
+      let b : slice_index r 0 ≤ slice_index s 0 = least_of r is_r _ (inside_all s r is_s is_r m in_s in_r _ first_s) in
+      let starts : slice_index r 0 ≡ slice_index s 0 = omega arith in
+      let x = not_shorter r s is_r is_s starts in
+      let y = not_shorter s r is_s is_r (sym starts) in
+      let long : length r ≡ length s = same_length (length r) (length s) x y in
+      same_lists r s long (λ k d within. get_or_default r k d 0 within ∙ (same_walk r s is_r is_s starts k within (omega arith) ∙ get_or_default s k 0 d (omega arith)))
+    where
+      same_length : (p q : ℕ) → (p < q → ⊥) → (q < p → ⊥) → p ≡ q
+      same_length p q f g = grind arith
+
+  -- so at most one ring has a member that moves out of a cell
+  pub one_ring_at : (r s : List ℕ) → IsRing fleet time r → IsRing fleet time s → (cell : Point) (a b : ℕ) → Contains r a → Contains s b → MovesOut fleet time a cell → MovesOut fleet time b cell → r ≡ s
+  one_ring_at r s is_r is_s cell a b in_r in_s out_a out_b =
+      rings_meet r s is_r is_s a in_r (subst (Contains s) (sym (is_s.alone b a cell in_s out_b.from out_a)) in_s)
+
+-- ---- where the entries of an agent are looked for
+pub near_of : (fleet : Fleet) (agent : ℕ) (entry : Conflict) → IsPair entry → Names entry agent → Stands fleet entry → (other : ℕ) × Names entry other × (other ≢ agent) × IsNear fleet agent (time_of entry) other
+near_of fleet agent (Vertex time first second cell) pair names h = elim names [
+  | inl e ↦ (second, inr refl, λ is. omega (arith, h.ordered, e, is), (cell, inl (subst (λ a. position_of fleet a time ≡ Some cell) e h.first_there, h.second_there)))
+  | inr e ↦ (first, inl refl, λ is. omega (arith, h.ordered, e, is), (cell, inl (subst (λ a. position_of fleet a time ≡ Some cell) e h.second_there, h.first_there)))
+]
+near_of fleet agent (Parked time first second cell) pair names h = elim names [
+  | inl e ↦ (second, inr refl, λ is. omega (arith, h.ordered, e, is), (cell, inl (subst (λ a. position_of fleet a time ≡ Some cell) e h.first_there, h.second_there)))
+  | inr e ↦ (first, inl refl, λ is. omega (arith, h.ordered, e, is), (cell, inl (subst (λ a. position_of fleet a time ≡ Some cell) e h.second_there, h.first_there)))
+]
+near_of fleet agent (Edge time first second cell next) pair names h = elim names [
+  | inl e ↦ (second, inr refl, λ is. omega (arith, h.ordered, e, is), (cell, inl (subst (λ a. position_of fleet a time ≡ Some cell) e h.first_from, h.second_from)))
+  | inr e ↦ (first, inl refl, λ is. omega (arith, h.ordered, e, is), (cell, inl (subst (λ a. position_of fleet a time ≡ Some cell) e h.second_from, h.first_from)))
+]
+near_of fleet agent (Following time follower leader cell) pair names h = elim names [
+  | inl e ↦ (leader, inr refl, λ is. h.two (e ∙ sym is), (cell, inr (inl (subst (λ a. position_of fleet a (time + 1) ≡ Some cell) e h.follower_to, h.leader_there))))
+  | inr e ↦ (follower, inl refl, λ is. h.two (is ∙ sym e), (cell, inr (inr (subst (λ a. position_of fleet a time ≡ Some cell) e h.leader_there, h.follower_to))))
+]
+near_of fleet agent (Swapping time first second cell other) pair names h = elim names [
+  | inl e ↦ (second, inr refl, λ is. omega (arith, h.ordered, e, is), (other, inr (inl (subst (λ a. position_of fleet a (time + 1) ≡ Some other) e h.first_to, h.second_from))))
+  | inr e ↦ (first, inl refl, λ is. omega (arith, h.ordered, e, is), (cell, inr (inl (subst (λ a. position_of fleet a (time + 1) ≡ Some cell) e h.second_to, h.first_from))))
+]
+near_of fleet agent (Cycle time ring) pair names h = absurd pair
+
+which_agent : (agent a : ℕ) → (a ≡ agent) ⊎ (a ≢ agent)
+which_agent agent a = grind arith
+
+gone : (fleet : Fleet) (agent time : ℕ) (cell : Point) → fleet agent ≡ None → MovesOut fleet time agent cell → ⊥
+gone fleet agent time cell is h =
+    let nowhere : position_of fleet agent time ≡ None = ap (λ r. option_and_then (λ route. position route time) r) is in
+    let wrong : None ≡ Some cell = sym nowhere ∙ h.from in
+    cc
+
+pub rings_after_arrival : RingsAfterArrival
+rings_after_arrival old new agent time ring same absent there_or_not =
+    let back : SameBut new old agent = λ a apart. sym (same a apart) in (
+      (λ h. elim there_or_not [
+        | inl in_ring ↦ inl (in_ring, h)
+        | inr out ↦ inr (out, ring_stays new old agent back time ring out (λ member cell in_ring at moves. gone old agent time cell absent moves) (which_agent agent) h, λ member cell in_ring at moves. out (subst (Contains ring) (sym (h.alone member agent cell in_ring at moves)) in_ring))
+      ]),
+      (λ h. elim h [
+        | inl with ↦ with.1
+        | inr without ↦ ring_stays old new agent same time ring without.0 without.2 (which_agent agent) without.1
+      ]),
+    )
+
+-- the entries of two agents, likewise
+pub pairs_after_change : (old new : Fleet) (agent : ℕ) (entry : Conflict) → SameBut old new agent → IsPair entry → (Names entry agent → ⊥) → Stands old entry ↔ Stands new entry
+pairs_after_change old new agent entry same pair out = (pair_stays old new agent same entry pair out, pair_stays new old agent (λ a apart. sym (same a apart)) entry pair out)

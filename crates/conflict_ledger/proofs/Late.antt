@@ -1,0 +1,207 @@
+-- Where the entries of one agent are found in an index.
+use Rattle.std.proofs.Common.{◌≡◌, ◌≢◌, ◌⊎◌, inl, inr, ℕ, ◌+◌, ◌<◌, ◌≤◌, List, Some, None, Option, Contains, refl, sym, ap, subst, ◌∙◌, arith}
+use mathlib.Core.Bool.{false≢true}
+use Rattle.std.specs.Prelude.{IsSome}
+use Rattle.std.proofs.lemmas.Bool.{cases_lt}
+use Rattle.std.proofs.lemmas.Option.{same_Some}
+use Rattle.grid_cells.specs.Cell.{Point}
+use Rattle.plan_table.specs.Route.{Route, Fleet, position_of, last_of, leaves_of, Leaves}
+use Rattle.plan_table.proofs.Fleets.{changes_early, leaver_early, position_rests, position_sooner, true_or_not}
+use Rattle.where_index.specs.Index.{Contents}
+use Rattle.where_index.specs.Asked.{AreStandingAt, Passes}
+use Rattle.where_index.specs.declared.passings.Passing.{Passing}
+use Rattle.conflict_ledger.specs.Entries.{both_end_by, IsVertex, IsParked, IsFollowing}
+use Rattle.conflict_ledger.specs.ConflictList.{Stands}
+use Rattle.conflict_ledger.specs.Naming.{IsOfTwo, IsPair, Names, time_of}
+use Rattle.conflict_ledger.specs.Change.{IsNear}
+use Rattle.conflict_ledger.specs.Sight.{Shows}
+use Rattle.conflict_ledger.specs.Gathering.{IsWhere, HasTwo, HasTime, IsLateOf}
+use Rattle.conflict_ledger.specs.Finding.{KeepsAll}
+use Rattle.conflict_ledger.proofs.Change.{near_of, there, ends}
+use Rattle.conflict_ledger.specs.declared.entries.Conflict.{Conflict}
+use Rattle.conflict_ledger.specs.declared.entries.Conflict.TheVariants.{Vertex, Parked, Edge, Following, Swapping, Cycle}
+
+-- the two agents that an entry names, in one order or the other
+both_named : (p q a b : ℕ) → (p ≡ a) ⊎ (q ≡ a) → (p ≡ b) ⊎ (q ≡ b) → b ≢ a → ((p ≡ a) × (q ≡ b)) ⊎ ((p ≡ b) × (q ≡ a))
+both_named p q a b one two apart = elim one [
+  | inl pa ↦ elim two [ inl pb ↦ absurd (apart (sym pb ∙ pa)) | inr qb ↦ inl (pa, qb) ]
+  | inr qa ↦ elim two [ inl pb ↦ inr (pb, qa) | inr qb ↦ absurd (apart (sym qb ∙ qa)) ]
+]
+
+timed : (x p q a b : ℕ) → ((p ≡ a) × (q ≡ b)) ⊎ ((p ≡ b) × (q ≡ a)) → ((x ≡ x) × (p ≡ a) × (q ≡ b)) ⊎ ((x ≡ x) × (p ≡ b) × (q ≡ a))
+timed x p q a b h = elim h [ inl w ↦ inl (refl, w.0, w.1) | inr w ↦ inr (refl, w.0, w.1) ]
+
+pub two_of : (entry : Conflict) (a b : ℕ) → IsPair entry → Names entry a → Names entry b → b ≢ a → IsOfTwo entry (time_of entry) a b
+two_of (Vertex x p q c) a b pair one two apart = timed x p q a b (both_named p q a b one two apart)
+two_of (Parked x p q c) a b pair one two apart = timed x p q a b (both_named p q a b one two apart)
+two_of (Edge x p q c n) a b pair one two apart = timed x p q a b (both_named p q a b one two apart)
+two_of (Following x p q c) a b pair one two apart = timed x p q a b (both_named p q a b one two apart)
+two_of (Swapping x p q c n) a b pair one two apart = timed x p q a b (both_named p q a b one two apart)
+two_of (Cycle x r) a b pair one two apart = absurd pair
+
+module _ (index : Contents) (agent : ℕ) (route : Option Route) (fleet : Fleet) (shows : Shows index agent route fleet) where
+  base_there : (a time : ℕ) (cell : Point) → a ≢ agent → position_of fleet a time ≡ Some cell → position_of shows.base a time ≡ Some cell
+  base_there a time cell apart at = there shows.base fleet agent shows.others a time apart ∙ at
+
+  -- what those near the agent at the time give are all its entries then
+  pub step_has : (time : ℕ) (here next : Point) → IsWhere fleet agent time here next → (l1 l2 l3 : List ℕ) (e1 e2 e3 : List Conflict)
+      → AreStandingAt shows.base time here l1 → AreStandingAt shows.base time next l2 → AreStandingAt shows.base (time + 1) here l3
+      → ((b : ℕ) → Contains l1 b → HasTwo fleet time agent b e1) → ((b : ℕ) → Contains l2 b → HasTwo fleet time agent b e2) → ((b : ℕ) → Contains l3 b → HasTwo fleet time agent b e3)
+      → KeepsAll e1 e2 → KeepsAll e2 e3 → HasTime fleet agent time e3
+  step_has time here next place l1 l2 l3 e1 e2 e3 s1 s2 s3 h1 h2 h3 k12 k23 entry is at =
+      let near = near_of fleet agent entry is.pair is.names is.stands in
+      let other : ℕ = near.0 in
+      let of : IsOfTwo entry time agent other = subst (λ (t : ℕ). IsOfTwo entry t agent other) at (two_of entry agent other is.pair is.names near.1 near.2) in
+      let close : IsNear fleet agent time other = subst (λ (t : ℕ). IsNear fleet agent t other) at near.3 in
+      let cell : Point = close.0 in
+      elim close.1 [
+        | inl w ↦
+            let same : cell ≡ here = place.now cell w.0 in
+            let has : Contains l1 other = (s1.exact other).1 (base_there other time here near.2 (w.1 ∙ ap Some same)) in
+            k23 entry (k12 entry (h1 other has entry is.stands of))
+        | inr more ↦ elim more [
+          | inl w ↦
+              let same : cell ≡ next = place.later cell w.0 in
+              let has : Contains l2 other = (s2.exact other).1 (base_there other time next near.2 (w.1 ∙ ap Some same)) in
+              k23 entry (h2 other has entry is.stands of)
+          | inr w ↦
+              let same : cell ≡ here = place.now cell w.0 in
+              let has : Contains l3 other = (s3.exact other).1 (base_there other (time + 1) here near.2 (w.1 ∙ ap Some same)) in
+              h3 other has entry is.stands of
+        ]
+      ]
+
+  -- an agent that is nowhere has no entries then
+  pub nowhere_has : (time : ℕ) (entries : List Conflict) → position_of fleet agent time ≡ None → HasTime fleet agent time entries
+  nowhere_has time entries none entry is at =
+      let near = near_of fleet agent entry is.pair is.names is.stands in
+      let close : IsNear fleet agent time near.0 = subst (λ (t : ℕ). IsNear fleet agent t near.0) at near.3 in
+      elim close.1 [
+        | inl w ↦ absurd (gone close.0 w.0)
+        | inr more ↦ elim more [
+          | inl w ↦ let sooner : IsSome (position_of fleet agent time) = position_sooner fleet agent time (rw w.0 refl) in absurd (false≢true (subst IsSome none sooner))
+          | inr w ↦ absurd (gone close.0 w.0)
+        ]
+      ]
+    where
+      gone : (cell : Point) → position_of fleet agent time ≡ Some cell → ⊥
+      gone cell there = let wrong : None ≡ Some cell = sym none ∙ there in cc
+
+  module _ (last : ℕ) (is_last : last ≡ last_of fleet agent) where
+    -- after its last index the agent is where it is one step later, if anywhere
+    pub rests_there : (time : ℕ) (cell : Point) → last < time → position_of fleet agent time ≡ Some cell → position_of fleet agent (last + 1) ≡ Some cell
+    rests_there time cell late at =
+        elim (true_or_not (leaves_of fleet agent)) [
+          | inl leaves ↦ let early = leaver_early fleet agent time cell leaves at in absurd (omega arith)
+          | inr stays ↦ sym (position_rests fleet agent (last + 1) time stays (omega arith) (omega arith)) ∙ at
+        ]
+
+    still : (time : ℕ) → last < time → position_of fleet agent time ≢ position_of fleet agent (time + 1) → ⊥
+    still time late changes = let early = changes_early fleet agent time changes in omega arith
+
+    -- an agent that comes to a cell in a step has not passed its last index after it
+    pub comes_early : (other time : ℕ) (cell : Point) → position_of fleet other time ≢ Some cell → position_of fleet other (time + 1) ≡ Some cell → time + 1 ≤ last_of fleet other
+    comes_early other time cell before after =
+        elim (cases_lt (last_of fleet other) (time + 1)) [
+          | inr early ↦ omega arith
+          | inl late ↦ elim (true_or_not (leaves_of fleet other)) [
+            | inl leaves ↦ leaver_early fleet other (time + 1) cell leaves after
+            | inr stays ↦ absurd (before (sym (position_rests fleet other time (time + 1) stays (omega arith) (omega arith)) ∙ after))
+          ]
+        ]
+
+    module _ (rest : Point) (rests : position_of fleet agent (last + 1) ≡ Some rest) where
+      same_rest : (time : ℕ) (cell : Point) → last < time → position_of fleet agent time ≡ Some cell → cell ≡ rest
+      same_rest time cell late at = same_Some cell rest (sym (rests_there time cell late at) ∙ rests)
+
+      abbrev LatePlace : Conflict → Type 0
+      LatePlace entry = (passing : Passing) × IsLateOf entry passing.time agent passing.agent rest × Passes shows.base rest (last + 1) passing
+
+      passes : (other time : ℕ) (cell : Point) → other ≢ agent → cell ≡ rest → last < time → time ≤ last_of fleet other → position_of fleet other time ≡ Some cell → Passes shows.base rest (last + 1) (record { time = time; agent = other })
+      passes other time cell apart same late early at =
+          let end : last_of shows.base other ≡ last_of fleet other = ends shows.base fleet agent shows.others other apart in
+          record { not_before = omega arith; not_after = omega arith; there = base_there other time rest apart (at ∙ ap Some same) }
+
+      -- of two agents that meet, of whom one is at rest, the other has not passed its last index
+      meets_early : (other time : ℕ) (cell : Point) → last < time → position_of fleet agent time ≡ Some cell → position_of fleet other time ≡ Some cell → (time < both_end_by fleet agent other) ⊎ (Leaves fleet agent ⊎ Leaves fleet other) → time ≤ last_of fleet other
+      meets_early other time cell late here there_too how = elim how [
+        | inl moving ↦ omega (arith, is_last)
+        | inr leaves ↦ elim leaves [
+          | inl own ↦ let early = leaver_early fleet agent time cell own here in absurd (omega (arith, is_last))
+          | inr its ↦ leaver_early fleet other time cell its there_too
+        ]
+      ]
+
+      pub late_place : (entry : Conflict) → IsPair entry → Names entry agent → Stands fleet entry → last < time_of entry → LatePlace entry
+      late_place (Vertex x p q c) pair names h late = elim names [
+        | inl e ↦
+            let here : position_of fleet agent x ≡ Some c = subst (λ (a : ℕ). position_of fleet a x ≡ Some c) e h.first_there in
+            let apart : q ≢ agent = λ is. omega (arith, h.ordered, e, is) in
+            let early = meets_early q x c late here h.second_there (subst (λ (a : ℕ). (x < both_end_by fleet a q) ⊎ (Leaves fleet a ⊎ Leaves fleet q)) e h.passes) in
+            (record { time = x; agent = q }, (refl, same_rest x c late here, inl (e, refl)), passes q x c apart (same_rest x c late here) late early h.second_there)
+        | inr e ↦
+            let here : position_of fleet agent x ≡ Some c = subst (λ (a : ℕ). position_of fleet a x ≡ Some c) e h.second_there in
+            let apart : p ≢ agent = λ is. omega (arith, h.ordered, e, is) in
+            let how : (x < both_end_by fleet agent p) ⊎ (Leaves fleet agent ⊎ Leaves fleet p) = turned p x (subst (λ (a : ℕ). (x < both_end_by fleet p a) ⊎ (Leaves fleet p ⊎ Leaves fleet a)) e h.passes) in
+            let early = meets_early p x c late here h.first_there how in
+            (record { time = x; agent = p }, (refl, same_rest x c late here, inr (refl, e)), passes p x c apart (same_rest x c late here) late early h.first_there)
+      ]
+        where
+          turned : (b t : ℕ) → (t < both_end_by fleet b agent) ⊎ (Leaves fleet b ⊎ Leaves fleet agent) → (t < both_end_by fleet agent b) ⊎ (Leaves fleet agent ⊎ Leaves fleet b)
+          turned b t how = elim how [ inl moving ↦ inl (omega arith) | inr leaves ↦ elim leaves [ inl l ↦ inr (inr l) | inr l ↦ inr (inl l) ] ]
+      late_place (Parked x p q c) pair names h late = elim names [
+        | inl e ↦
+            let here : position_of fleet agent x ≡ Some c = subst (λ (a : ℕ). position_of fleet a x ≡ Some c) e h.first_there in
+            let apart : q ≢ agent = λ is. omega (arith, h.ordered, e, is) in
+            let end : x ≡ both_end_by fleet agent q = subst (λ (a : ℕ). x ≡ both_end_by fleet a q) e h.rests in
+            (record { time = x; agent = q }, (refl, same_rest x c late here, inl (e, refl)), passes q x c apart (same_rest x c late here) late (omega (arith, is_last, late)) h.second_there)
+        | inr e ↦
+            let here : position_of fleet agent x ≡ Some c = subst (λ (a : ℕ). position_of fleet a x ≡ Some c) e h.second_there in
+            let apart : p ≢ agent = λ is. omega (arith, h.ordered, e, is) in
+            let end : x ≡ both_end_by fleet p agent = subst (λ (a : ℕ). x ≡ both_end_by fleet p a) e h.rests in
+            (record { time = x; agent = p }, (refl, same_rest x c late here, inr (refl, e)), passes p x c apart (same_rest x c late here) late (omega (arith, is_last, late)) h.first_there)
+      ]
+      late_place (Edge x p q c n) pair names h late = elim names [
+        | inl e ↦ absurd (still x late (λ same. h.moves (same_Some c n (sym (subst (λ (a : ℕ). position_of fleet a x ≡ Some c) e h.first_from) ∙ same ∙ subst (λ (a : ℕ). position_of fleet a (x + 1) ≡ Some n) e h.first_to))))
+        | inr e ↦ absurd (still x late (λ same. h.moves (same_Some c n (sym (subst (λ (a : ℕ). position_of fleet a x ≡ Some c) e h.second_from) ∙ same ∙ subst (λ (a : ℕ). position_of fleet a (x + 1) ≡ Some n) e h.second_to))))
+      ]
+      late_place (Following x f l c) pair names h late = elim names [
+        | inl e ↦ absurd (still x late (λ same. h.moves (subst (λ (a : ℕ). position_of fleet a x ≡ Some c) (sym e) (same ∙ subst (λ (a : ℕ). position_of fleet a (x + 1) ≡ Some c) e h.follower_to))))
+        | inr e ↦
+            let here : position_of fleet agent x ≡ Some c = subst (λ (a : ℕ). position_of fleet a x ≡ Some c) e h.leader_there in
+            let apart : f ≢ agent = λ is. h.two (is ∙ sym e) in
+            let early = comes_early f x c h.moves h.follower_to in
+            (record { time = x + 1; agent = f }, (refl, same_rest x c late here, refl, e), passes f (x + 1) c apart (same_rest x c late here) (omega arith) early h.follower_to)
+      ]
+      late_place (Swapping x p q c n) pair names h late = elim names [
+        | inl e ↦ absurd (still x late (λ same. h.moves (same_Some c n (sym (subst (λ (a : ℕ). position_of fleet a x ≡ Some c) e h.first_from) ∙ same ∙ subst (λ (a : ℕ). position_of fleet a (x + 1) ≡ Some n) e h.first_to))))
+        | inr e ↦ absurd (still x late (λ same. h.moves (sym (same_Some n c (sym (subst (λ (a : ℕ). position_of fleet a x ≡ Some n) e h.second_from) ∙ same ∙ subst (λ (a : ℕ). position_of fleet a (x + 1) ≡ Some c) e h.second_to)))))
+      ]
+      late_place (Cycle x r) pair names h late = absurd pair
+
+    -- an agent that is nowhere after its last index has no entries then
+    pub late_none : position_of fleet agent (last + 1) ≡ None → (time : ℕ) (entries : List Conflict) → last < time → HasTime fleet agent time entries
+    late_none none time entries late = nowhere_has time entries (by_place (position_of fleet agent time) refl)
+      where
+        by_place : (o : Option Point) → position_of fleet agent time ≡ o → position_of fleet agent time ≡ None
+        by_place None e = e
+        by_place (Some cell) e = let wrong : None ≡ Some cell = sym none ∙ rests_there time cell late e in absurd (cc)
+
+-- what is offered of an agent at rest and one that passes are all such entries
+pub one_of_late : (fleet : Fleet) (time agent other : ℕ) (rest : Point) (v w p q f : Option Conflict)
+    → (IsVertex fleet time agent other rest → v ≡ Some (Vertex time agent other rest)) → (IsVertex fleet time other agent rest → w ≡ Some (Vertex time other agent rest))
+    → (IsParked fleet time agent other rest → p ≡ Some (Parked time agent other rest)) → (IsParked fleet time other agent rest → q ≡ Some (Parked time other agent rest))
+    → ((x : ℕ) → x + 1 ≡ time → IsFollowing fleet x other agent rest → f ≡ Some (Following x other agent rest))
+    → (entry : Conflict) → Stands fleet entry → IsLateOf entry time agent other rest → (v ≡ Some entry) ⊎ ((w ≡ Some entry) ⊎ ((p ≡ Some entry) ⊎ ((q ≡ Some entry) ⊎ (f ≡ Some entry))))
+one_of_late fleet time agent other rest v w p q f vs ws ps qs fs (Vertex x a b c) h (is_time, is_cell, who) = elim who [
+  | inl one ↦ inl (vs (rw (← is_time, ← is_cell, ← one.0, ← one.1) h) ∙ rw (is_time, is_cell, one.0, one.1) refl)
+  | inr two ↦ inr (inl (ws (rw (← is_time, ← is_cell, ← two.0, ← two.1) h) ∙ rw (is_time, is_cell, two.0, two.1) refl))
+]
+one_of_late fleet time agent other rest v w p q f vs ws ps qs fs (Parked x a b c) h (is_time, is_cell, who) = elim who [
+  | inl one ↦ inr (inr (inl (ps (rw (← is_time, ← is_cell, ← one.0, ← one.1) h) ∙ rw (is_time, is_cell, one.0, one.1) refl)))
+  | inr two ↦ inr (inr (inr (inl (qs (rw (← is_time, ← is_cell, ← two.0, ← two.1) h) ∙ rw (is_time, is_cell, two.0, two.1) refl))))
+]
+one_of_late fleet time agent other rest v w p q f vs ws ps qs fs (Edge x a b c n) h late = absurd late
+one_of_late fleet time agent other rest v w p q f vs ws ps qs fs (Following x a b c) h (is_time, is_cell, is_f, is_l) = inr (inr (inr (inr (fs x is_time (rw (← is_cell, ← is_f, ← is_l) h) ∙ rw (is_cell, is_f, is_l) refl))))
+one_of_late fleet time agent other rest v w p q f vs ws ps qs fs (Swapping x a b c n) h late = absurd late
+one_of_late fleet time agent other rest v w p q f vs ws ps qs fs (Cycle x r) h late = absurd late

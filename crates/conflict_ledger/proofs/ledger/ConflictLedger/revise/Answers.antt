@@ -1,0 +1,13 @@
+use Rattle.std.proofs.Common.{None, Some, sym, ◌∙◌}
+use Rattle.std.proofs.lemmas.Result.{IfOk-weaker}
+use Rattle.plan_table.specs.Route.{route_of}
+use Rattle.where_index.specs.Index.{with_route}
+use Rattle.conflict_ledger.proofs.Turning.{with_other, with_shows, itself_shows}
+use Rattle.conflict_ledger.proofs.ledger.ConflictLedger.revise.Goals as goal
+
+pub returns : goal.returns
+returns c = IfOk-weaker c.enter.result _ _ (λ ledger gives fleet stands own has.
+    gives (with_route fleet c.args.agent None) fleet (with_shows _ fleet c.args.agent None stands) (itself_shows _ fleet c.args.agent (Some (route_of c.args.new)) stands own)
+    (λ a apart. sym (with_other fleet c.args.agent None a apart))
+    (c.in_ok-others.ensures (with_route fleet c.args.agent (Some (route_of c.args.old))) (with_route fleet c.args.agent None) (with_shows _ fleet c.args.agent (Some (route_of c.args.old)) stands) (with_shows _ fleet c.args.agent None stands)
+    (λ a apart. sym (with_other fleet c.args.agent None a apart) ∙ with_other fleet c.args.agent (Some (route_of c.args.old)) a apart) has)) c.enter.ensures

@@ -1,0 +1,26 @@
+-- Rings at the cells that one agent moves out of: words for the ledger's own steps (this project's choice).
+use Rattle.std.specs.Prelude.{◌≡◌, ◌≢◌, ℕ, ◌+◌, Option, Some, List}
+use Rattle.grid_cells.specs.Cell.{Point}
+use Rattle.plan_table.specs.Route.{Route, Fleet}
+use Rattle.conflict_ledger.specs.Cycles.{IsRingAt}
+use Rattle.conflict_ledger.specs.Sight.{own_place}
+use Rattle.conflict_ledger.specs.declared.entries.Conflict.{Conflict}
+use Rattle.conflict_ledger.specs.declared.entries.Conflict.TheVariants.{Vertex, Parked, Edge, Following, Swapping, Cycle}
+
+-- the route moves in the step, and the ring of the fleet has a member that moves out of the cell that it leaves
+pub record IsLeftAt (fleet : Fleet) (route : Option Route) (time : ℕ) (ring : List ℕ) : Type 0 where
+  pub cell : Point
+  pub to : Point
+  pub from : own_place route time ≡ Some cell
+  pub arrives : own_place route (time + 1) ≡ Some to
+  pub moves : to ≢ cell
+  pub round : IsRingAt fleet time cell ring
+
+-- the entry is such a ring
+abbrev pub IsLeft : Fleet → Option Route → Conflict → Type 0
+IsLeft fleet route (Vertex time first second cell) = ⊥
+IsLeft fleet route (Parked time first second cell) = ⊥
+IsLeft fleet route (Edge time first second cell next) = ⊥
+IsLeft fleet route (Following time follower leader cell) = ⊥
+IsLeft fleet route (Swapping time first second cell other) = ⊥
+IsLeft fleet route (Cycle time ring) = IsLeftAt fleet route time ring

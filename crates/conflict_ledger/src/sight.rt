@@ -1,0 +1,193 @@
+ghost use Rattle.std.specs.Prelude.{◌≡◌, ◌≢◌, ◌⊎◌, ◌↔◌, ℕ, ◌+◌, ◌<◌, ◌≤◌, Some, IsSome, IsTrue};
+ghost use Rattle.std.specs.Option.{option_map, option_and_then};
+ghost use Rattle.grid_cells.specs.Cell.{Point};
+ghost use Rattle.plan_table.specs.Route.{Fleet, position, position_of, last_of, leaves_of, Leaves, route_of};
+ghost use Rattle.conflict_ledger.specs.Entries.{both_end_by, IsVertex, IsParked, IsEdge, IsFollowing, IsSwapping};
+ghost use Rattle.conflict_ledger.specs.Sight.{Shows, own_place};
+
+use grid_cells::{Agent, Cell, Step};
+use plan_table::{MOST_LAST_INDEX, Track};
+use where_index::WhereIndex;
+
+// What an index shows of the other agents, beside the track of one agent, if it is shown at all.
+#[derive(Clone, Copy)]
+pub(crate) struct Sight<'a> {
+    pub index: &'a WhereIndex,
+    pub agent: Agent,
+    pub shown: Option<Track<'a>>,
+}
+
+// The position on the track at the time, if there is one.
+fn position_on(track: &Track<'_>, time: u32) -> Option<Cell>
+    ensures { result ≡ position (route_of track.now) time }
+{
+    if track.leaves && time > track.plan.last() {
+        None
+    } else {
+        Some(track.plan.at(Step::new(time)))
+    }
+}
+
+impl Sight<'_> {
+    // Where the agent itself is at the time.
+    pub fn own(&self, time: u32) -> Option<Cell>
+        ensures { result ≡ option_and_then (λ route. position route time) (option_map route_of self.now.shown) }
+    {
+        match &self.shown {
+            Some(track) => position_on(track, time),
+            None => None,
+        }
+    }
+
+    // The cell to which the agent itself moves out of that one in the step, if it does.
+    pub fn own_move(&self, time: u32, cell: Cell) -> Option<Cell>
+        requires { time < u32.MAX }
+        ensures { (to : Point) → (result ≡ Some to) ↔ ((own_place (option_map route_of self.now.shown) time ≡ Some cell) × (own_place (option_map route_of self.now.shown) (time + 1) ≡ Some to) × (to ≢ cell)) }
+    {
+        let from = self.own(time)?;
+        let to = self.own(time + 1)?;
+        if from == cell && to != cell {
+            Some(to)
+        } else {
+            None
+        }
+    }
+
+    // The last index of the agent's own path.
+    pub fn own_last(&self) -> u32
+        ensures is { (fleet : Fleet) → Shows self.now.index.now self.now.agent (option_map route_of self.now.shown) fleet → result ≡ last_of fleet self.now.agent }
+        ensures bound { result ≤ MOST_LAST_INDEX }
+    {
+        match &self.shown {
+            Some(track) => track.plan.last(),
+            None => 0,
+        }
+    }
+
+    // Whether the agent's position at the time is the cell.
+    pub fn is_at(&self, agent: Agent, time: u32, cell: Cell) -> bool
+        ensures { (fleet : Fleet) → Shows self.now.index.now self.now.agent (option_map route_of self.now.shown) fleet → IsTrue result ↔ (position_of fleet agent time ≡ Some cell) }
+    {
+        if agent == self.agent {
+            self.own(time) == Some(cell)
+        } else {
+            self.index.is_at(agent, Step::new(time), cell)
+        }
+    }
+
+    // Whether the agent has a position at the time.
+    pub fn has_position(&self, agent: Agent, time: u32) -> bool
+        ensures { (fleet : Fleet) → Shows self.now.index.now self.now.agent (option_map route_of self.now.shown) fleet → IsTrue result ↔ IsSome (position_of fleet agent time) }
+    {
+        if agent == self.agent {
+            self.own(time).is_some()
+        } else {
+            self.index.has_position(agent, Step::new(time))
+        }
+    }
+
+    // The last index of the agent's path.
+    pub fn last(&self, agent: Agent) -> u32
+        ensures { (fleet : Fleet) → Shows self.now.index.now self.now.agent (option_map route_of self.now.shown) fleet → result ≡ last_of fleet agent }
+    {
+        if agent == self.agent {
+            match &self.shown {
+                Some(track) => track.plan.last(),
+                None => 0,
+            }
+        } else {
+            match self.index.end(agent) {
+                Some(end) => end.0,
+                None => 0,
+            }
+        }
+    }
+
+    // Whether the agent leaves after the last index of its path.
+    pub fn leaves(&self, agent: Agent) -> bool
+        ensures { (fleet : Fleet) → Shows self.now.index.now self.now.agent (option_map route_of self.now.shown) fleet → result ≡ leaves_of fleet agent }
+    {
+        if agent == self.agent {
+            match &self.shown {
+                Some(track) => track.leaves,
+                None => false,
+            }
+        } else {
+            self.index.leaves(agent).unwrap_or(false)
+        }
+    }
+
+    // The greater of the two agents' last indices.
+    fn both_end(&self, first: Agent, second: Agent) -> u32
+        ensures { (fleet : Fleet) → Shows self.now.index.now self.now.agent (option_map route_of self.now.shown) fleet → result ≡ both_end_by fleet first second }
+    {
+        self.last(first).max(self.last(second))
+    }
+
+    // Whether one of the two agents still moves at the time, or is to leave.
+    fn passes(&self, time: u32, first: Agent, second: Agent) -> bool
+        ensures { (fleet : Fleet) → Shows self.now.index.now self.now.agent (option_map route_of self.now.shown) fleet → IsTrue result ↔ ((time < both_end_by fleet first second) ⊎ (Leaves fleet first ⊎ Leaves fleet second)) }
+    {
+        time < self.both_end(first, second) || self.leaves(first) || self.leaves(second)
+    }
+
+    // Whether a Vertex entry of the two agents stands at the time.
+    pub fn vertex(&self, time: u32, first: Agent, second: Agent, cell: Cell) -> bool
+        ensures { (fleet : Fleet) → Shows self.now.index.now self.now.agent (option_map route_of self.now.shown) fleet → IsTrue result ↔ IsVertex fleet time first second cell }
+    {
+        first < second
+            && self.is_at(first, time, cell)
+            && self.is_at(second, time, cell)
+            && self.passes(time, first, second)
+    }
+
+    // Whether a Parked entry of the two agents stands at the time.
+    pub fn parked(&self, time: u32, first: Agent, second: Agent, cell: Cell) -> bool
+        ensures { (fleet : Fleet) → Shows self.now.index.now self.now.agent (option_map route_of self.now.shown) fleet → IsTrue result ↔ IsParked fleet time first second cell }
+    {
+        first < second
+            && self.is_at(first, time, cell)
+            && self.is_at(second, time, cell)
+            && time == self.both_end(first, second)
+            && !self.leaves(first)
+            && !self.leaves(second)
+    }
+
+    // Whether an Edge entry of the two agents stands at the time.
+    pub fn edge(&self, time: u32, first: Agent, second: Agent, cell: Cell, next: Cell) -> bool
+        requires { time < u32.MAX }
+        ensures { (fleet : Fleet) → Shows self.now.index.now self.now.agent (option_map route_of self.now.shown) fleet → IsTrue result ↔ IsEdge fleet time first second cell next }
+    {
+        first < second
+            && cell != next
+            && self.is_at(first, time, cell)
+            && self.is_at(second, time, cell)
+            && self.is_at(first, time + 1, next)
+            && self.is_at(second, time + 1, next)
+    }
+
+    // Whether a Following entry of the two agents stands at the time.
+    pub fn following(&self, time: u32, follower: Agent, leader: Agent, cell: Cell) -> bool
+        requires { time < u32.MAX }
+        ensures { (fleet : Fleet) → Shows self.now.index.now self.now.agent (option_map route_of self.now.shown) fleet → IsTrue result ↔ IsFollowing fleet time follower leader cell }
+    {
+        follower != leader
+            && self.is_at(leader, time, cell)
+            && self.has_position(leader, time + 1)
+            && self.is_at(follower, time + 1, cell)
+            && !self.is_at(follower, time, cell)
+    }
+
+    // Whether a Swapping entry of the two agents stands at the time.
+    pub fn swapping(&self, time: u32, first: Agent, second: Agent, cell: Cell, other: Cell) -> bool
+        requires { time < u32.MAX }
+        ensures { (fleet : Fleet) → Shows self.now.index.now self.now.agent (option_map route_of self.now.shown) fleet → IsTrue result ↔ IsSwapping fleet time first second cell other }
+    {
+        first < second
+            && cell != other
+            && self.is_at(first, time, cell)
+            && self.is_at(second, time, other)
+            && self.is_at(first, time + 1, other)
+            && self.is_at(second, time + 1, cell)
+    }
+}
