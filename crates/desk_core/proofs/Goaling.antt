@@ -1,15 +1,14 @@
 -- Fields of the goals of a scene's agents: made agent by agent, and kept where plans alone change.
-use Rattle.std.proofs.Common.{◌≡◌, ℕ, ◌+◌, ◌<◌, ◌≤◌, ◌⊎◌, inl, inr, eqb, true, List, [], ◌∷◌, ◌++◌, length, take, Option, Some, None, if◌then◌else◌, refl, sym, ap, subst, ◌∙◌, arith}
-use Rattle.std.specs.Prelude.{◌↔◌, ◌==◌, All, Contains}
+use Rattle.std.proofs.Common.{◌≡◌, ℕ, ◌+◌, ◌<◌, inl, inr, List, [], ◌∷◌, ◌++◌, length, take, Option, Some, None, refl, sym, ap, subst, ◌∙◌}
+use Rattle.std.specs.Prelude.{◌↔◌, All}
 use Rattle.std.specs.List.{Any, slice_get}
 use Rattle.std.specs.Option.{option_map_or}
-use Rattle.std.proofs.lemmas.Bool.Decides.{nat_tests, eqb_tells}
+use Rattle.std.proofs.lemmas.Bool.Decides.{eqb_tells}
 use Rattle.std.proofs.lemmas.List.{take_more}
 use Rattle.std.proofs.lemmas.List.Elements.{All-head, All-tail}
 use Rattle.std.proofs.lemmas.List.Quantifiers.{Any-push}
 use Rattle.std.proofs.lemmas.Option.{none-some, same_Some, slice_get_within, slice_get_read, get_or_from_slice_get}
 use Rattle.grid_cells.specs.Cell.{Point}
-use Rattle.grid_cells.specs.Grid.{Chart}
 use Rattle.goal_fields.proofs.Neighbours.{cases_cell}
 use Rattle.goal_fields.specs.Target.{Standing}
 use Rattle.goal_fields.specs.Held.{HasGoal, StandFor, SameButGoal}
@@ -24,7 +23,7 @@ use Rattle.scene_edits.specs.declared.edits.Edit.{Edit}
 use Rattle.scene_edits.specs.declared.edits.Edit.TheVariants.{Add, Drop, Goal, Path, Tail, Open, Close}
 use Rattle.scene_edits.proofs.RowEdits.{row_of-with_row}
 use Rattle.desk_core.specs.Goals.{IsGoal, AreFieldsOf, MovesAlone}
-use Rattle.desk_core.proofs.Anywhere.{Any-nil, Any-here, Any-there, Any-last, Any-append}
+use Rattle.desk_core.proofs.Anywhere.{Any-here, Any-there, Any-last, Any-append}
 
 -- one of the rows has the goal
 abbrev pub Aims : List (ℕ × Row) → Point → Type 0

@@ -1,12 +1,11 @@
 -- Legal journals replay.
-use Rattle.std.proofs.Common.{◌≡◌, ◌≢◌, ℕ, zero, suc, ◌-◌, ◌≤◌, ◌⊎◌, List, [], ◌∷◌, take, Some, Result, Ok, Err, inl, inr, refl, sym, ap, subst, ◌∙◌, arith}
+use Rattle.std.proofs.Common.{◌≡◌, ℕ, zero, suc, ◌-◌, ◌≤◌, ◌⊎◌, List, [], ◌∷◌, take, Some, Result, Ok, Err, inl, inr, refl, ap, subst, arith}
 use Rattle.std.specs.List.{slice_get}
 use Rattle.std.proofs.lemmas.Option.{same_Some, none-some}
-use Rattle.scene_edits.specs.Scene.{SceneState}
 use Rattle.desk_core.specs.Entries.{Entry}
 use Rattle.desk_core.specs.State.{DeskState, opening, grown, after}
-use Rattle.desk_core.specs.Commits.{Accepts, IsCurrent, IsInOrder}
-use Rattle.desk_core.specs.Replays.{IsLegal, Recommits, IsReplay}
+use Rattle.desk_core.specs.Commits.{Accepts}
+use Rattle.desk_core.specs.Replays.{IsLegal, Recommits}
 use Rattle.desk_core.specs.Laws.{LegalJournalsReplay}
 use Rattle.desk_core.specs.declared.journals.ReplayFault.{ReplayFault}
 use Rattle.desk_core.specs.declared.journals.ReplayFault.TheVariants.{ModeDiffers, Refused, OutOfMemory}

@@ -1,15 +1,14 @@
 -- To a commit there is one answer at most besides want of memory.
-use Rattle.std.proofs.Common.{◌≡◌, ◌≢◌, ℕ, ◌<◌, List, Some, Ok, Err, inl, inr, refl, sym, ap, subst, ◌∙◌, arith}
+use Rattle.std.proofs.Common.{◌≡◌, ◌≢◌, ℕ, List, Some, Ok, Err, inl, inr, refl, sym, ap, subst, ◌∙◌, arith}
 use Rattle.std.specs.List.{slice_get}
 use Rattle.std.proofs.lemmas.Bool.{cases_order}
 use Rattle.std.proofs.lemmas.Option.{same_Some}
-use Rattle.scene_edits.specs.InOrder.{IsFirstFault}
 use Rattle.scene_edits.specs.declared.changes.Thing.{Thing}
 use Rattle.scene_edits.specs.declared.edits.EditsFault.{EditsFault}
 use Rattle.scene_edits.specs.declared.edits.EditsFault.TheVariants as some_edit
 use Rattle.scene_edits.proofs.OneAnswers.{not_both, one_first_fault}
 use Rattle.desk_core.specs.Entries.{Entry, things_of}
-use Rattle.desk_core.specs.State.{DeskState, grown}
+use Rattle.desk_core.specs.State.{DeskState}
 use Rattle.desk_core.specs.Stale.{IsFreshSince, IsLastNaming, IsStaleBy, IsFresh}
 use Rattle.desk_core.specs.Commits.{Accepts, Refuses}
 use Rattle.desk_core.specs.Laws.{OneAnswerToACommit}

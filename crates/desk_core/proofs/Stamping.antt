@@ -1,5 +1,5 @@
 -- Stamps after one more entry.
-use Rattle.std.proofs.Common.{◌≡◌, ◌≢◌, ℕ, zero, suc, Bool, true, false, ◌+◌, ◌-◌, ◌*◌, ◌<◌, ◌≤◌, ◌⊎◌, inl, inr, List, [], ◌∷◌, ◌++◌, length, Option, Some, Bor, refl, sym, ap, subst, ◌∙◌, arith, slice_index, replicate, nat_lt, if◌then◌else◌, get_or-set_same, get_or-set_other}
+use Rattle.std.proofs.Common.{◌≡◌, ◌≢◌, ℕ, zero, suc, Bool, true, false, ◌+◌, ◌-◌, ◌<◌, ◌≤◌, ◌⊎◌, inl, inr, List, [], ◌∷◌, ◌++◌, length, Option, Some, Bor, refl, sym, ap, subst, ◌∙◌, arith, slice_index, replicate, nat_lt, if◌then◌else◌, get_or-set_same, get_or-set_other}
 use Rattle.std.specs.Prelude.{◌&&◌}
 use Rattle.std.specs.List.{Any, slice_get}
 use Rattle.std.specs.Option.{ForSome, option_copied}
@@ -26,7 +26,7 @@ use Rattle.scene_edits.specs.declared.changes.Thing.{Thing}
 use Rattle.scene_edits.specs.declared.changes.Thing.TheVariants as things
 use Rattle.scene_edits.specs.declared.edits.Edit.{Edit}
 use Rattle.scene_edits.specs.declared.edits.Edit.TheVariants.{Add, Drop, Goal, Path, Tail, Open, Close}
-use Rattle.desk_core.specs.Entries.{Entry, thing_of, ChangesMap, NamesThing, Names}
+use Rattle.desk_core.specs.Entries.{Entry, thing_of, NamesThing, Names}
 use Rattle.desk_core.specs.Stale.{IsNamedAt, IsFreshSince, IsLastNaming}
 use Rattle.desk_core.specs.Stamps.{IsStamp, stamp_of, HasPlaces, AreStamps, IsOn, NameOnMap, AreOnMap, AreMarked, WhereTheyStand}
 use Rattle.desk_core.specs.declared.stamps.Stamps.{Stamps}

@@ -1,8 +1,6 @@
-use Rattle.std.proofs.Common.{◌≡◌, ◌≤◌, ℕ, List, Some, length, take, ap, ◌∙◌, arith}
+use Rattle.std.proofs.Common.{◌≡◌, Some, length, take, ap, arith}
 use Rattle.std.specs.List.{slice_get}
 use Rattle.std.proofs.lemmas.List.{take_all}
-use Rattle.goal_fields.specs.Held.{StandFor}
-use Rattle.plan_table.specs.declared.plans.Row.{Row}
 use Rattle.scene_edits.specs.Scene.{IsRowOn}
 use Rattle.desk_core.proofs.OnMap.{row_on}
 use Rattle.desk_core.proofs.Goaling.{held_more, fields_whole}

@@ -1,4 +1,4 @@
-use Rattle.std.proofs.Common.{◌≡◌, ◌+◌, ◌++◌, ◌∷◌, [], length, refl, sym, subst}
+use Rattle.std.proofs.Common.{◌+◌, ◌++◌, ◌∷◌, [], length, subst}
 use Rattle.std.proofs.lemmas.Option.{same_Some}
 use Rattle.desk_core.specs.Stamps.{AreStamps, AreMarked}
 use Rattle.desk_core.proofs.Stamping.{stamps_push}

@@ -1,4 +1,4 @@
-use Rattle.std.proofs.Common.{◌≡◌, ◌+◌, ◌≤◌, List, ◌∷◌, ◌++◌, [], length, sym, ap, subst, ◌∙◌, arith}
+use Rattle.std.proofs.Common.{◌≡◌, List, ◌∷◌, ◌++◌, [], length, sym, ap, ◌∙◌, arith}
 use Rattle.std.proofs.lemmas.List.{length_push}
 use Rattle.grid_cells.specs.Grid.{Chart}
 use Rattle.scene_edits.specs.Scene.{SceneState}
@@ -6,7 +6,7 @@ use Rattle.scene_edits.specs.InOrder.{AreAllowed, edited_all}
 use Rattle.desk_core.specs.Entries.{Entry}
 use Rattle.desk_core.specs.State.{DeskState}
 use Rattle.desk_core.specs.Goals.{WhereFieldsStand}
-use Rattle.desk_core.specs.Stamps.{AreOnMap, NameOnMap, AreStamps, WhereTheyStand}
+use Rattle.desk_core.specs.Stamps.{AreOnMap, WhereTheyStand}
 use Rattle.desk_core.proofs.Stamping.{all_on, same_size_all, on_map_push}
 use Rattle.desk_core.proofs.desks.Desk.accept.Goals as goal
 

@@ -1,8 +1,8 @@
-use Rattle.std.proofs.Common.{◌≡◌, ◌+◌, ◌++◌, ◌∷◌, [], Some, length, take, refl, sym, ap, subst, ◌∙◌, arith}
+use Rattle.std.proofs.Common.{◌≡◌, ◌+◌, ◌++◌, ◌∷◌, [], Some, length, take, refl, sym, ap, ◌∙◌, arith}
 use Rattle.std.specs.List.{slice_get}
 use Rattle.std.proofs.lemmas.List.{take_more, length-take-le}
 use Rattle.std.proofs.lemmas.Option.{slice_get_read}
-use Rattle.desk_core.specs.Stamps.{AreStamps, AreMarked, NameOnMap}
+use Rattle.desk_core.specs.Stamps.{AreMarked}
 use Rattle.desk_core.proofs.Stamping.{stamps_push, entry_on}
 use Rattle.desk_core.proofs.stamps.Stamps.of.Goals as goal
 
