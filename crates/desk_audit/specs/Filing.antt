@@ -1,5 +1,5 @@
 -- Sightings in buckets: words for the index's own steps (this project's choice).
-use Rattle.std.specs.Prelude.{◌≡◌, ◌≢◌, ℕ, ◌+◌, ◌*◌, ◌/◌, ◌%◌, ◌<◌, ◌≤◌, Option, Some, None, List, length, slice_index_or, Contains}
+use Rattle.std.specs.Prelude.{◌≡◌, ◌≢◌, ℕ, ◌+◌, ◌*◌, ◌%◌, ◌<◌, ◌≤◌, Option, Some, None, List, length, slice_index_or, Contains}
 use Rattle.grid_cells.specs.Cell.{Point}
 use Rattle.desk_audit.specs.declared.tables.Pass.{Pass}
 use Rattle.desk_audit.specs.declared.tables.Slot.{Slot}
@@ -7,7 +7,7 @@ use Rattle.desk_audit.specs.declared.tables.Table.{Table}
 
 -- the bucket of a cell and a number, of that many
 unfoldable pub bucket_of : ℕ → Point → ℕ → ℕ
-bucket_of many cell number = ((cell.y * 2048 + cell.x) * 2654435761 + number * 2246822519) / 65536 % many
+bucket_of many cell number = (cell.y * 77777 + cell.x * 67 + number) % many
 
 -- the bucket of a slot
 abbrev pub slot_bucket : ℕ → Slot → ℕ

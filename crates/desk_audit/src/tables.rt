@@ -45,9 +45,8 @@ pub fn bucket(many: usize, cell: Cell, number: u32) -> usize
     ensures is { result ≡ bucket_of many cell number }
     ensures bound { result < many }
 {
-    let place = u64::from(cell.y()) * 2_048 + u64::from(cell.x());
-    let mixed = place * 2_654_435_761 + u64::from(number) * 2_246_822_519;
-    (mixed / 65_536 % many as u64) as usize
+    let place = u64::from(cell.y()) * 77_777 + u64::from(cell.x()) * 67;
+    ((place + u64::from(number)) % many as u64) as usize
 }
 
 impl Table {
