@@ -1,11 +1,27 @@
 //! Refusals that leave a desk as it was, and commits in a row of calls.
-use super::build::{agent, cell, commit, desk, goal, one, path, scene};
-use crate::{Answer, Call, Commit, Desk, EditFault, Refusal, Thing, drive};
+use super::build::{agent, cell, commit, desk, goal, one, path};
+use crate::{Answer, Call, Commit, Desk, EditFault, Refusal, Scene, Thing, drive};
+use plan_table::Mode;
+use std::process::Abort;
 
 fn refusal(desk: &mut Desk, commit: Commit) -> Option<Refusal> {
     match desk.commit(commit) {
         Ok(_) => None,
         Err((why, _back)) => Some(why),
+    }
+}
+
+// The scene is the one that the desks are opened on: three open cells, and one agent at its start.
+fn is_opening(rt: &impl Abort, scene: &Scene, number: u32) {
+    assert!(rt; scene.mode() == Mode::Stay && scene.plans().count() == 1);
+    let row = scene.plans().row(agent(rt, number)).expect(rt, "a row");
+    assert!(rt; row.goal == cell(rt, 2, 0) && row.plan.last() == 0);
+    let grid = scene.grid();
+    assert!(rt; grid.size().width() == 3 && grid.size().height() == 1);
+    for x in 0..3 {
+        let at = cell(rt, x, 0);
+        assert!(rt; grid.size().holds(at));
+        assert!(rt; grid.is_open(at));
     }
 }
 
@@ -21,7 +37,7 @@ fn all_or_none_without_a_cell_edit(rt: HostRuntime) {
         why: EditFault::NotAStep { at: 1 },
     };
     assert!(rt; refusal(&mut desk, faulty) == Some(wanted));
-    assert!(rt; *desk.scene() == scene(&rt, alloc, &[0]));
+    is_opening(&rt, desk.scene(), 0);
     let ahead = one(&rt, alloc, 0, 1, goal(&rt, 0, 1));
     assert!(rt; refusal(&mut desk, ahead) == Some(Refusal::Ahead { now: 0 }));
     let nothing = commit(&rt, 0, 0, Vec::new(alloc), Vec::new(alloc));
@@ -38,9 +54,8 @@ fn edits_in_a_row(rt: HostRuntime) {
     let alloc = rt.alloc();
     let desk = desk(&rt, alloc, &[3], 10);
     let copy = desk.snapshot().expect(&rt, "memory");
-    assert!(rt; copy.version == 0 && copy.scene == scene(&rt, alloc, &[3]));
-    let row = copy.scene.plans().row(agent(&rt, 3)).expect(&rt, "a row");
-    assert!(rt; row.goal == cell(&rt, 2, 0) && row.plan.last() == 0);
+    assert!(rt; copy.version == 0);
+    is_opening(&rt, &copy.scene, 3);
 }
 
 // The commits of watch_makes_stale by a list of calls.
