@@ -85,8 +85,11 @@ fn put_audit<W: Sink>(writer: &mut W, desk: &Desk, report: &Report) -> Result<()
     ensures { OnOk result (Appends (W.held writer.old) (W.held writer.new) (audit_text desk.now report.now)) }
 {
     match put_line(writer, b"version", &[Word::Number(desk.version())]) {
-        Ok(()) => write_report(report, writer),
         Err(failed) => Err(failed),
+        Ok(()) => match write_report(report, writer) {
+            Ok(()) => Ok(()),
+            Err(failed) => Err(failed),
+        },
     }
 }
 
@@ -102,9 +105,18 @@ pub fn audit_files<'a, R: Files + AllocGlobal + Print + Threads + Wait>(
     if words.agents > 0 && words.scen.is_none() {
         return Err(Fault::AgentsWithoutScen);
     }
-    let map = file_bytes(rt, words.map)?;
-    let scen = named_bytes(rt, words.scen)?;
-    let journal = named_bytes(rt, words.journal)?;
+    let map = match file_bytes(rt, words.map) {
+        Ok(map) => map,
+        Err(fault) => return Err(fault),
+    };
+    let scen = match named_bytes(rt, words.scen) {
+        Ok(scen) => scen,
+        Err(fault) => return Err(fault),
+    };
+    let journal = match named_bytes(rt, words.journal) {
+        Ok(journal) => journal,
+        Err(fault) => return Err(fault),
+    };
     let alloc = rt.alloc();
     let Ok(buffered) = BufWriter::new(alloc, io::writer(rt)) else {
         return Err(Fault::Run(RunFault::OutOfMemory));
