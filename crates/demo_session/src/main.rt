@@ -5,8 +5,7 @@ use bench_reader::read_map;
 use desk_core::{Desk, Limit, Scene};
 use desk_report::{Spout, Tap};
 use desk_session::{Bounds, serve};
-use std::fs;
-use std::io;
+use std::{fs, io};
 
 fn main(rt: HostRuntime) -> anyhow::Result<()> {
     let alloc = rt.alloc();
