@@ -4,7 +4,7 @@ use Rattle.std.specs.Prelude.{slice_index}
 use Rattle.std.specs.Map.{lookup}
 use mathlib.Core.Logic.{◌↔◌}
 use Rattle.std.specs.Cmp.{IsTotalOrder}
-use Rattle.std.specs.Ordering.{nat_cmp, ordering_then, is_eq}
+use Rattle.std.specs.Ordering.{ordering_then, is_eq}
 use Rattle.std.specs.declared.cmp.Ordering.{Ordering}
 use Rattle.std.specs.declared.cmp.Ordering.TheVariants.{Less, Equal, Greater}
 use Rattle.std.proofs.lemmas.Cmp.{nat_cmp_total, on_total, then_total, tied_itself}
@@ -14,6 +14,7 @@ use Rattle.std.proofs.lemmas.List.Elements.{Contains-get_or}
 use Rattle.std.proofs.lemmas.Map.Lookups.{CmpEqualImpliesEq, exact_unsigned}
 use Rattle.grid_cells.specs.Cell.{Point}
 use Rattle.conflict_ledger.specs.Kept.{Kept, GainsEntry, LosesEntry, KeepsRingsOf, meeting, passage, ring_place, ring_place_cmp}
+use Rattle.conflict_ledger.specs.Listing.{point_cmp, meeting_cmp, passage_cmp}
 use Rattle.plan_table.specs.Route.{Fleet}
 use Rattle.conflict_ledger.specs.Cycles.{IsRing}
 use Rattle.conflict_ledger.proofs.Change.{rings_meet}
@@ -25,15 +26,6 @@ use Rattle.conflict_ledger.specs.declared.entries.Conflict.{Conflict}
 use Rattle.conflict_ledger.specs.declared.entries.Conflict.TheVariants.{Vertex, Parked, Edge, Following, Swapping, Cycle}
 
 -- ---- the orders of what is kept
-abbrev pub point_cmp : Point → Point → Ordering
-point_cmp a b = ordering_then (nat_cmp a.y b.y) (nat_cmp a.x b.x)
-
-abbrev pub meeting_cmp : Meeting → Meeting → Ordering
-meeting_cmp a b = ordering_then (nat_cmp a.time b.time) (ordering_then (nat_cmp a.first b.first) (ordering_then (nat_cmp a.second b.second) (point_cmp a.cell b.cell)))
-
-abbrev pub passage_cmp : Passage → Passage → Ordering
-passage_cmp a b = ordering_then (nat_cmp a.time b.time) (ordering_then (nat_cmp a.first b.first) (ordering_then (nat_cmp a.second b.second) (ordering_then (point_cmp a.cell b.cell) (point_cmp a.next b.next))))
-
 pub meeting_total : IsTotalOrder meeting_cmp
 meeting_total = then_total (on_total (λ (m : Meeting). m.time) nat_cmp_total) (then_total (on_total (λ (m : Meeting). m.first) nat_cmp_total) (then_total (on_total (λ (m : Meeting). m.second) nat_cmp_total)
     (then_total (on_total (λ (m : Meeting). m.cell.y) nat_cmp_total) (on_total (λ (m : Meeting). m.cell.x) nat_cmp_total))))

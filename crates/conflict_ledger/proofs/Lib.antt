@@ -14,5 +14,7 @@ pub mod Late
 pub mod Walks
 pub mod MoverIn
 pub mod KeptLoops
+pub mod InPlace
+pub mod KeptList
 pub mod LeftRings
 pub mod Turning

@@ -10,3 +10,4 @@ pub mod Turns
 pub mod Laws
 pub mod RingWalk
 pub mod Finding
+pub mod Listing

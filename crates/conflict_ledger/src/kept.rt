@@ -3,8 +3,12 @@ ghost use Rattle.conflict_ledger.specs.declared.entries.Conflict.{Conflict};
 ghost use Rattle.plan_table.specs.Route.{Fleet};
 ghost use Rattle.conflict_ledger.specs.Cycles.{IsRing};
 ghost use Rattle.conflict_ledger.specs.Kept.{GainsEntry, LosesEntry, GainsAll, LosesAll, KeepsRingsOf, IsRingOf, AreRingsOf, many_kept, nothing_kept};
+ghost use Rattle.conflict_ledger.specs.Listing.{IsInOrder, entries_in};
 
 use crate::entries::{Conflict, Kind, Ring};
+use crate::listing::{
+    list_edges, list_followings, list_parkings, list_rings, list_swaps, list_vertices,
+};
 use grid_cells::{Agent, Cell, List, OutOfMemory, Step};
 use std::alloc::Global;
 use std::collections::{BTreeMap, BTreeSet};
@@ -49,10 +53,13 @@ pub struct KeptEntries {
 
 impl Model for KeptEntries {
     ghost use Rattle.conflict_ledger.specs.Kept.{Kept};
+    ghost use Rattle.conflict_ledger.specs.Listing.{AreInPlace};
 
     ghost Value = { Kept };
 
     ghost view = { λ k. record { vertices = k.vertices.keys; parkings = k.parkings.keys; edges = k.edges.keys; followings = k.followings.keys; swaps = k.swaps.keys; rings = k.rings.entries } };
+
+    ghost invariant = { λ k. AreInPlace k.rings.entries };
 }
 
 impl KeptEntries {
@@ -162,6 +169,24 @@ impl KeptEntries {
             Kind::Cycle => self.rings.len(),
         };
         many as u64
+    }
+
+    /// The entries, in their order.
+    ///
+    /// # Errors
+    ///
+    /// Want of memory.
+    pub fn listed(&self, alloc: Global) -> Result<List<Conflict>, OutOfMemory>
+        ensures { IfOk result (λ entries. (entries ≡ entries_in self.now) × IsInOrder self.now) }
+    {
+        let mut entries = Vec::new(alloc);
+        list_vertices(&mut entries, &self.vertices)?;
+        list_parkings(&mut entries, &self.parkings)?;
+        list_edges(&mut entries, &self.edges)?;
+        list_followings(&mut entries, &self.followings)?;
+        list_swaps(&mut entries, &self.swaps)?;
+        list_rings(alloc, &mut entries, &self.rings)?;
+        Ok(List::new(entries))
     }
 
     // Puts in a ring. It has an agent.

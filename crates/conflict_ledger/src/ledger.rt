@@ -2,18 +2,19 @@ ghost use Rattle.std.specs.Prelude.{◌≡◌, ◌↔◌, ℕ, List, Some, None,
 ghost use Rattle.plan_table.specs.Route.{Fleet, route_of};
 ghost use Rattle.where_index.specs.Index.{StandsFor, with_route};
 ghost use Rattle.conflict_ledger.specs.Change.{SameBut};
+ghost use Rattle.conflict_ledger.specs.ConflictList.{AreConflicts};
 ghost use Rattle.conflict_ledger.specs.Cycles.{IsRingAt};
 ghost use Rattle.conflict_ledger.specs.Kept.{HasEntries, many_kept};
 ghost use Rattle.conflict_ledger.specs.Sight.{Shows};
 
-use crate::entries::{Kind, Ring};
+use crate::entries::{Conflict, Kind, Ring};
 use crate::gather::gather;
 use crate::kept::{KeptEntries, lose_all, put_all};
 use crate::movers::Whole;
 use crate::rings::ring_out_of;
 use crate::sight::Sight;
 use crate::turns::rings_left;
-use grid_cells::{Agent, Cell, OutOfMemory, Step};
+use grid_cells::{Agent, Cell, List, OutOfMemory, Step};
 use plan_table::Track;
 use std::alloc::Global;
 use std::marker::Model;
@@ -99,6 +100,17 @@ impl ConflictLedger {
     {
         let others = self.leave(agent, old, index)?;
         others.enter(agent, new, index)
+    }
+
+    /// The entries, in their order: by kind, time, agents and cells.
+    ///
+    /// # Errors
+    ///
+    /// Want of memory.
+    pub fn listed(&self) -> Result<List<Conflict>, OutOfMemory>
+        ensures { IfOk result (λ entries. (fleet : Fleet) → HasEntries self.now fleet → AreConflicts fleet entries) }
+    {
+        self.kept.listed(self.alloc)
     }
 
     /// The ring at that step with a member that moves out of that cell, in the fleet of the index.

@@ -6,6 +6,7 @@ mod gather;
 mod kept;
 mod laws;
 mod ledger;
+mod listing;
 mod movers;
 mod pairs;
 mod plain;
