@@ -5,11 +5,12 @@ ghost use Rattle.scene_edits.specs.Since.{IsSince};
 use grid_cells::{Cell, Step};
 use plan_table::Track;
 
-// The least time at which the positions differ, if they ever do. Both rest, or are gone, one step
-// after the later of their last indices.
-pub(crate) fn first_difference(before: Track, after: Track) -> Option<u32>
+/// The least time at which the positions on the two tracks differ, no position and a cell being
+/// different, if they ever do.
+pub fn first_difference(before: Track, after: Track) -> Option<u32>
     ensures { IsSince (route_of before.entry) (route_of after.entry) result }
 {
+    // Both rest, or are gone, one step after the later of their last indices.
     let end = before.plan.last().max(after.plan.last()) + 2;
     for time in 0..end {
         if position_at(before, time) != position_at(after, time) {

@@ -18,6 +18,7 @@ mod tests;
 mod undoing;
 
 pub use changes::{Change, Thing};
+pub use differences::first_difference;
 pub use edits::{ApplyFault, Edit, EditFault, EditsFault};
 pub use laws::{
     edits_keep_scenes, one_answer, one_answer_to_all, one_change, one_fault_or_none, one_path,
