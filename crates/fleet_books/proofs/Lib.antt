@@ -1,0 +1,2 @@
+pub mod RouteChanges
+pub mod SameRoutes

@@ -1,0 +1,73 @@
+-- Two routes with the same position at each time are one route.
+use Rattle.std.proofs.Common.{◌≡◌, ◌≢◌, ℕ, ◌+◌, ◌<◌, min, Bool, true, false, Option, Some, None, List, length, inl, inr, refl, sym, ◌∙◌, arith}
+use Rattle.std.specs.Prelude.{IfNone}
+use Rattle.std.proofs.lemmas.Bool.{cases_order}
+use Rattle.std.proofs.lemmas.Option.{slice_get-get_or}
+use Rattle.grid_cells.specs.Cell.{Point, point}
+use Rattle.plan_table.specs.Path.{last_index, place, IsPath}
+use Rattle.plan_table.specs.Route.{Route, position}
+use Rattle.plan_table.proofs.Fleets.{position_staying, position_gone, position_on_path}
+use Rattle.scene_edits.specs.Since.{IsSince}
+use Rattle.scene_edits.proofs.PathsOf.{paths-equal}
+
+-- a path is somewhere at each time
+place_some : (path : List Point) (time : ℕ) → 0 < length path → place path time ≢ None
+place_some path time some none =
+    let within : min time (last_index path) < length path = omega arith in
+    let there = slice_get-get_or path (min time (last_index path)) (point 0 0) within in
+    cc
+
+-- the one leaves only where the other does
+leaves_too : (one two : Route) → 0 < length two.path → ((time : ℕ) → position one time ≡ position two time) → one.leaves ≡ true → two.leaves ≡ false → ⊥
+leaves_too one two some same leaves stays =
+    let late : ℕ = last_index one.path + 1 in
+    place_some two.path late some (sym (position_staying two (λ l. cc) late) ∙ (sym (same late) ∙ position_gone one leaves late (omega arith)))
+
+-- one that leaves is no shorter than the other
+no_shorter : (one two : Route) → 0 < length two.path → ((time : ℕ) → position one time ≡ position two time) → one.leaves ≡ true → last_index one.path < last_index two.path → ⊥
+no_shorter one two some same leaves less =
+    let end : ℕ = last_index two.path in
+    place_some two.path end some (sym (position_on_path two end (omega arith)) ∙ (sym (same end) ∙ position_gone one leaves end less))
+
+-- the same places, where both leave
+same_leaving : (one two : Route) → 0 < length one.path → 0 < length two.path → ((time : ℕ) → position one time ≡ position two time) → one.leaves ≡ true → two.leaves ≡ true → (time : ℕ) → place one.path time ≡ place two.path time
+same_leaving one two some_one some_two same leaves_one leaves_two time =
+    elim (cases_order (last_index one.path) (last_index two.path)) [
+      | inl equal ↦
+          let now : ℕ = min time (last_index one.path) in
+          let here : min time (last_index one.path) ≡ min now (last_index one.path) = omega arith in
+          let there : min time (last_index two.path) ≡ min now (last_index two.path) = omega arith in
+          rw (here, there) (sym (position_on_path one now (omega arith)) ∙ (same now ∙ position_on_path two now (omega arith)))
+      | inr (inl less) ↦ absurd (no_shorter one two some_two same leaves_one less)
+      | inr (inr more) ↦ absurd (no_shorter two one some_one (λ t. sym (same t)) leaves_two more)
+    ]
+
+-- the same places, where both stay
+same_staying : (one two : Route) → ((time : ℕ) → position one time ≡ position two time) → one.leaves ≡ false → two.leaves ≡ false → (time : ℕ) → place one.path time ≡ place two.path time
+same_staying one two same stays_one stays_two time = sym (position_staying one (λ l. cc) time) ∙ (same time ∙ position_staying two (λ l. cc) time)
+
+-- routes on paths with the same position at each time are one route
+pub same_route : (one two : Route) → IsPath one.path → IsPath two.path → ((time : ℕ) → position one time ≡ position two time) → one ≡ two
+same_route one two path_one path_two same = by_flags one.leaves two.leaves refl refl
+  where
+    some_one : 0 < length one.path
+    some_one = path_one.walkable.some_cell
+
+    some_two : 0 < length two.path
+    some_two = path_two.walkable.some_cell
+
+    together : one.leaves ≡ two.leaves → ((time : ℕ) → place one.path time ≡ place two.path time) → one ≡ two
+    together leaves places =
+        let paths : one.path ≡ two.path = paths-equal one.path two.path path_one path_two places in
+        λ i. record { path = paths i; leaves = leaves i }
+
+    by_flags : (a b : Bool) → one.leaves ≡ a → two.leaves ≡ b → one ≡ two
+    by_flags true true a b = together (a ∙ sym b) (same_leaving one two some_one some_two same a b)
+    by_flags false false a b = together (a ∙ sym b) (same_staying one two same a b)
+    by_flags true false a b = absurd (leaves_too one two some_two same a b)
+    by_flags false true a b = absurd (leaves_too two one some_one (λ t. sym (same t)) b a)
+
+-- routes on paths that never differ are one route
+pub never_apart : (one two : Route) → IsPath one.path → IsPath two.path → (since : Option ℕ) → IsSince one two since → IfNone since (one ≡ two)
+never_apart one two path_one path_two None same = same_route one two path_one path_two same
+never_apart one two path_one path_two (Some time) differ = tt
