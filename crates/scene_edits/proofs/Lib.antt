@@ -11,3 +11,4 @@ pub mod ManyBack
 pub mod EditsInOrder
 pub mod RowEnds
 pub mod OneAnswers
+pub mod Returning

@@ -7,6 +7,8 @@ use Rattle.scene_edits.specs.Paths.{path_of}
 use Rattle.scene_edits.specs.Edited.{edited}
 use Rattle.scene_edits.specs.Faults.{FaultOf, IsAllowed}
 use Rattle.scene_edits.specs.Changes.{IsChange}
+use Rattle.scene_edits.specs.InOrder.{edited_all, AreAllowed, AreChanges}
+use Rattle.scene_edits.specs.Undone.{undone_all, AreUndoable}
 use Rattle.scene_edits.specs.Answers.{Applied, AllApplied}
 use Rattle.scene_edits.specs.declared.edits.ApplyFault.{ApplyFault}
 use Rattle.scene_edits.specs.declared.edits.ApplyFault.TheVariants.{OutOfMemory}
@@ -31,6 +33,18 @@ OneChange = (scene : SceneState) (edit : Edit) (change other : Change) → IsCha
 -- an edit that is allowed makes a scene of a scene
 abbrev pub EditsKeepScenes : Type 0
 EditsKeepScenes = (scene : SceneState) (edit : Edit) → IsScene scene → IsAllowed scene edit → IsScene (edited scene edit)
+
+-- edits in order that are allowed make a scene of a scene
+abbrev pub AllEditsKeepScenes : Type 0
+AllEditsKeepScenes = (scene : SceneState) (edits : List Edit) → IsScene scene → AreAllowed scene edits → IsScene (edited_all scene edits)
+
+-- edits keep the size of the map, and the mode
+abbrev pub EditsKeepSize : Type 0
+EditsKeepSize = (scene : SceneState) (edits : List Edit) → ((edited_all scene edits).grid.size ≡ scene.grid.size) × ((edited_all scene edits).mode ≡ scene.mode)
+
+-- the changes of edits can be taken back, the last one first, and that gives the scene before the edits
+abbrev pub ChangesGoBack : Type 0
+ChangesGoBack = (scene : SceneState) (edits : List Edit) (changes : List Change) → IsScene scene → AreAllowed scene edits → AreChanges scene edits changes → AreUndoable (edited_all scene edits) changes × (undone_all (edited_all scene edits) changes ≡ scene)
 
 -- besides want of memory an edit has one answer at most, and so has the scene that it leaves
 abbrev pub OneAnswer : Type 0

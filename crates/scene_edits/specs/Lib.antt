@@ -10,3 +10,4 @@ pub mod Board
 pub mod Undone
 pub mod Tasks
 pub mod Laws
+pub mod Following

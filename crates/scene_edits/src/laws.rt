@@ -1,4 +1,4 @@
-ghost use Rattle.scene_edits.specs.Laws.{OnePath, OneFaultOrNone, OneChange, EditsKeepScenes, OneAnswer, OneAnswerToAll};
+ghost use Rattle.scene_edits.specs.Laws.{OnePath, OneFaultOrNone, OneChange, EditsKeepScenes, AllEditsKeepScenes, EditsKeepSize, ChangesGoBack, OneAnswer, OneAnswerToAll};
 
 /// The cells that an agent can follow have one path: those cells without the waits at their end.
 pub fn one_path()
@@ -18,6 +18,22 @@ pub fn one_change()
 /// An edit that is allowed makes a scene of a scene.
 pub fn edits_keep_scenes()
     ensures { EditsKeepScenes }
+{}
+
+/// Edits in order that are allowed make a scene of a scene.
+pub fn all_edits_keep_scenes()
+    ensures { AllEditsKeepScenes }
+{}
+
+/// Edits keep the size of the map, and the mode.
+pub fn edits_keep_size()
+    ensures { EditsKeepSize }
+{}
+
+/// The changes of edits can be taken back, the last one first, and that gives the scene before
+/// the edits.
+pub fn changes_go_back()
+    ensures { ChangesGoBack }
 {}
 
 /// Besides want of memory an edit has one answer at most.

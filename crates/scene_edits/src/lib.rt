@@ -7,6 +7,9 @@ mod cell_edits;
 mod changes;
 mod differences;
 mod edits;
+#[cfg(test)]
+mod follower_tests;
+mod followers;
 mod in_order;
 mod laws;
 mod path_edits;
@@ -20,8 +23,10 @@ mod undoing;
 pub use changes::{Change, Thing};
 pub use differences::first_difference;
 pub use edits::{ApplyFault, Edit, EditFault, EditsFault};
+pub use followers::Follower;
 pub use laws::{
-    edits_keep_scenes, one_answer, one_answer_to_all, one_change, one_fault_or_none, one_path,
+    all_edits_keep_scenes, changes_go_back, edits_keep_scenes, edits_keep_size, one_answer,
+    one_answer_to_all, one_change, one_fault_or_none, one_path,
 };
 pub use scenes::{MOST_AGENTS, Scene};
 pub use tasks::TaskFault;

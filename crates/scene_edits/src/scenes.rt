@@ -18,7 +18,7 @@ pub const MOST_AGENTS: u32 = 8_192;
 /// A map, the goals and plans of the agents on it, and what an agent does at the end of its path.
 #[derive(Debug, Drop)]
 pub struct Scene {
-    board: Board,
+    pub(crate) board: Board,
 }
 
 impl Model for Scene {
