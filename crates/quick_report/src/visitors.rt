@@ -1,0 +1,30 @@
+ghost use Rattle.std.specs.Prelude.{◌≡◌, ◌↔◌, ℕ, ◌<◌, ◌≤◌, IsTrue, Some, length, slice_get};
+ghost use Rattle.std.specs.List.{slice_index_or};
+ghost use Rattle.cost_ledger.specs.declared.visits.Visit.{Visit};
+
+use cost_ledger::Visit;
+use grid_cells::Agent;
+
+/// The first place, from that one on, whose visit is of the agent or of one after it; the end of
+/// the list, if there is none.
+pub fn first_from(visits: &[Visit], from: usize, agent: Agent) -> usize
+    requires { from ≤ length visits.now }
+    ensures from { from ≤ result }
+    ensures within { result ≤ length visits.now }
+    ensures before { (k : ℕ) (d : Visit) → from ≤ k → k < result → (slice_index_or visits.now k d).agent < agent }
+    ensures there { (d : Visit) → result < length visits.now → agent ≤ (slice_index_or visits.now result d).agent }
+{
+    for place in from..visits.len() {
+        if visits[place].agent.number() >= agent.number() {
+            return place;
+        }
+    }
+    visits.len()
+}
+
+/// Whether the list has a visit at that place, and it is of that agent.
+pub fn is_of(visits: &[Visit], place: usize, agent: Agent) -> bool
+    ensures { IsTrue result ↔ ((visit : Visit) × (slice_get visits.now place ≡ Some visit) × (visit.agent ≡ agent)) }
+{
+    place < visits.len() && visits[place].agent == agent
+}
