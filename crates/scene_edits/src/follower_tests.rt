@@ -6,8 +6,8 @@ use grid_cells::{Agent, Cell, Grid, List, OutOfMemory, Size};
 use std::alloc::Global;
 use std::process::Abort;
 
-// Keeps how many changes it was told of last, and how many agents the scene had then. One that is
-// full finds no memory.
+// Keeps how many agents the scene has, and how many changes it was told of last. One that is full
+// finds no memory.
 #[derive(Drop)]
 struct Tally {
     changes: usize,
@@ -16,14 +16,17 @@ struct Tally {
 }
 
 impl Follower for Tally {
-    ghost use Rattle.std.specs.Prelude.{◌≡◌, length, true};
+    ghost use Rattle.std.specs.Prelude.{◌≡◌, length};
 
-    ghost following = { record { follows = λ old changes scene new. (new.changes ≡ length changes) × (new.agents ≡ length scene.rows); refuses = λ old new. new.full ≡ true } };
+    ghost stands = { λ scene tally. tally.agents ≡ length scene.rows };
 
     fn follow(&mut self, changes: &[Change], scene: &Scene) -> Result<(), OutOfMemory> {
         self.changes = changes.len();
+        if self.full {
+            return Err(OutOfMemory);
+        }
         self.agents = scene.plans().count();
-        if self.full { Err(OutOfMemory) } else { Ok(()) }
+        Ok(())
     }
 }
 
@@ -67,11 +70,13 @@ fn first_is_open(rt: &impl Abort, scene: &Scene) -> bool {
     scene.grid().size().holds(first) && scene.grid().is_open(first)
 }
 
+// Applies the edits to the scene, of which the tally first counts the agents.
 fn followed(
     scene: &mut Scene,
     edits: &[Edit],
     tally: &mut Tally,
 ) -> Result<List<Change>, EditsFault> {
+    tally.agents = scene.plans().count();
     scene.apply_all_with(edits, tally)
 }
 
@@ -106,7 +111,7 @@ fn taken_back_where_the_follower_is_full(rt: HostRuntime) {
         Err(fault) => assert_eq!(rt; fault, EditsFault::OutOfMemory),
         Ok(_) => panic!(rt; "not refused"),
     }
-    assert_eq!(rt; (tally.changes, tally.agents), (2, 1));
+    assert_eq!(rt; (tally.changes, tally.agents), (2, 0));
     assert_eq!(rt; scene.plans().count(), 0);
     assert!(rt; first_is_open(&rt, &scene));
 }

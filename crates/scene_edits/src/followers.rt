@@ -1,33 +1,35 @@
-ghost use Rattle.std.specs.Prelude.{IfOk, IfErr, OnOk, OnErr};
+ghost use Rattle.std.specs.Prelude.{◌≡◌, ◌≢◌, IfErr, OnOk, OnErr};
+ghost use Rattle.scene_edits.specs.Scene.{SceneState};
 ghost use Rattle.scene_edits.specs.Answers.{AllApplied};
-ghost use Rattle.scene_edits.specs.Following.{StaysOrRefuses};
+ghost use Rattle.scene_edits.specs.Following.{ChangedBy};
 
 use crate::changes::Change;
 use crate::edits::{Edit, EditsFault};
 use crate::scenes::Scene;
 use grid_cells::{List, OutOfMemory};
 
-/// Goes along with the edits of a scene: it is told what they changed before the edited scene is
-/// kept.
+/// Goes along with the edits of a scene: it keeps something of the scene, and is told what edits
+/// changed before the edited scene is kept.
 pub trait Follower {
-    ghost use Rattle.scene_edits.specs.Following.{Following};
+    ghost use Rattle.scene_edits.specs.Scene.{SceneState};
 
-    /// What it may be after it was told, and after it found no memory.
-    ghost following: { Following Self };
+    /// Of which scenes it keeps what it should.
+    ghost stands: { SceneState → Self → Type 0 };
 
     /// Takes in what the edits changed; `scene` is the edited scene.
     ///
     /// # Errors
     ///
-    /// Want of memory. The edits are then taken back.
+    /// Want of memory. The edits are then taken back, and it stands for the scene before.
     fn follow(&mut self, changes: &[Change], scene: &Scene) -> Result<(), OutOfMemory>
-        ensures followed { OnOk result (following.follows self.old changes.now scene.now self.new) }
-        ensures refused { OnErr result (following.refuses self.old self.new) };
+        requires { (before : SceneState) × ChangedBy before changes.now scene.now × stands before self.old }
+        ensures followed { OnOk result (stands scene.now self.new) }
+        ensures refused { OnErr result ((before : SceneState) → ChangedBy before changes.now scene.now → stands before self.old → stands before self.new) };
 }
 
 impl Scene {
     /// Applies the edits in order, all or none, and lets the follower go along. After any refusal
-    /// the scene is what it was, and the follower too where it didn't refuse itself.
+    /// the scene is what it was, and after a fault of an edit the follower too.
     ///
     /// # Errors
     ///
@@ -38,9 +40,10 @@ impl Scene {
         edits: &[Edit],
         follower: &mut F,
     ) -> Result<List<Change>, EditsFault>
+        requires { F.stands self.old follower.old }
         ensures applied { AllApplied self.old edits.now result self.new }
-        ensures followed { IfOk result (λ changes. F.following.follows follower.old changes self.new follower.new) }
-        ensures kept { IfErr result (λ fault. StaysOrRefuses F.following follower.old fault follower.new) }
+        ensures followed { F.stands self.new follower.new }
+        ensures kept { IfErr result (λ fault. fault ≢ EditsFault.OutOfMemory → follower.new ≡ follower.old) }
     {
         let changes = match self.board.apply_all(edits) {
             Ok(changes) => changes,
