@@ -1,2 +1,3 @@
 pub mod RouteChanges
 pub mod SameRoutes
+pub mod NoneApart

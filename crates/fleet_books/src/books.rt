@@ -1,5 +1,6 @@
-ghost use Rattle.std.specs.Prelude.{◌≡◌, Some, None, IfOk, IfNone};
+ghost use Rattle.std.specs.Prelude.{◌≡◌, ◌+◌, min, Some, None, IfOk, IfNone};
 ghost use Rattle.plan_table.specs.Route.{Fleet, route_of};
+ghost use Rattle.where_index.specs.Records.{nothing, records_apart};
 ghost use Rattle.where_index.specs.Index.{with_route};
 ghost use Rattle.scene_edits.specs.Since.{IsSince};
 ghost use Rattle.fleet_books.specs.Fleet.{AreOf};
@@ -31,7 +32,8 @@ impl Model for FleetBooks {
 impl FleetBooks {
     /// The books of no agents.
     pub fn new(alloc: Global) -> FleetBooks
-        ensures { AreOf (λ _. None) result }
+        ensures books { AreOf (λ _. None) result }
+        ensures touched { result.index.touched ≡ 0 }
     {
         FleetBooks {
             index: WhereIndex::new(alloc),
@@ -45,7 +47,8 @@ impl FleetBooks {
     ///
     /// Want of memory: the books are gone then.
     pub fn admit(self, agent: Agent, track: Track<'_>) -> Result<FleetBooks, OutOfMemory>
-        ensures { IfOk result (λ books. (fleet : Fleet) → AreOf fleet self → fleet agent ≡ None → AreOf (with_route fleet agent (Some (route_of track.entry))) books) }
+        ensures books { IfOk result (λ books. (fleet : Fleet) → AreOf fleet self → fleet agent ≡ None → AreOf (with_route fleet agent (Some (route_of track.entry))) books) }
+        ensures touched { IfOk result (λ books. books.index.touched ≡ min (self.index.touched + records_apart nothing (route_of track.entry)) u64.MAX) }
     {
         let FleetBooks { index, conflicts } = self;
         let index = index.put(agent, track)?;
@@ -59,7 +62,8 @@ impl FleetBooks {
     ///
     /// Want of memory, since a removal can make a ring: the books are gone then.
     pub fn retract(self, agent: Agent, track: Track<'_>) -> Result<FleetBooks, OutOfMemory>
-        ensures { IfOk result (λ books. (fleet : Fleet) → AreOf fleet self → fleet agent ≡ Some (route_of track.entry) → AreOf (with_route fleet agent None) books) }
+        ensures books { IfOk result (λ books. (fleet : Fleet) → AreOf fleet self → fleet agent ≡ Some (route_of track.entry) → AreOf (with_route fleet agent None) books) }
+        ensures touched { IfOk result (λ books. books.index.touched ≡ min (self.index.touched + records_apart (route_of track.entry) nothing) u64.MAX) }
     {
         let FleetBooks { index, conflicts } = self;
         let index = index.take(agent, track);
@@ -79,8 +83,10 @@ impl FleetBooks {
         old: Track<'_>,
         new: Track<'_>,
     ) -> Result<FleetBooks, OutOfMemory>
-        ensures { IfOk result (λ books. (fleet : Fleet) → AreOf fleet self → fleet agent ≡ Some (route_of old.entry) → AreOf (with_route fleet agent (Some (route_of new.entry))) books) }
+        ensures books { IfOk result (λ books. (fleet : Fleet) → AreOf fleet self → fleet agent ≡ Some (route_of old.entry) → AreOf (with_route fleet agent (Some (route_of new.entry))) books) }
+        ensures touched { IfOk result (λ books. books.index.touched ≡ min (self.index.touched + records_apart (route_of old.entry) (route_of new.entry)) u64.MAX) }
     {
+        let _touched = self.touched();
         let Some(since) = since_of(old, new) else {
             return Ok(self);
         };

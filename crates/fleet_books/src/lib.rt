@@ -6,3 +6,6 @@ mod laws;
 
 pub use books::FleetBooks;
 pub use laws::routes_fix_books;
+
+#[cfg(test)]
+mod tests;

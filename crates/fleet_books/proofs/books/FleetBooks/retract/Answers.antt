@@ -4,8 +4,8 @@ use Rattle.where_index.specs.Index.{with_route}
 use Rattle.fleet_books.proofs.RouteChanges.{with_own, entries_back}
 use Rattle.fleet_books.proofs.books.FleetBooks.retract.Goals as goal
 
-pub returns : goal.returns
-returns c = λ fleet are own.
+pub returns-clause-books : goal.returns-clause-books
+returns-clause-books c = λ fleet are own.
     let was = rw (← c.self.view_is) at are in
     let stands = c.take-index.ensures.stands fleet was.index own in
     record {
