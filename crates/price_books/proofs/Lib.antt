@@ -1,0 +1,3 @@
+pub mod AimOrder
+pub mod Aiming
+pub mod Fleets

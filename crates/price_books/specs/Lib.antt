@@ -1,0 +1,4 @@
+pub mod Aims
+pub mod Goals
+pub mod Prices
+pub mod Laws
