@@ -1,10 +1,16 @@
-ghost use Rattle.std.specs.Prelude.{◌≡◌, None};
+ghost use Rattle.std.specs.Prelude.{◌≡◌, None, Some, IfOk};
+ghost use Rattle.grid_cells.specs.Size.{Holds};
 ghost use Rattle.grid_cells.specs.Grid.{Chart};
-ghost use Rattle.price_books.specs.Prices.{AreOf};
+ghost use Rattle.plan_table.specs.Plans.{row_of};
+ghost use Rattle.plan_table.specs.declared.plans.Row.{Row};
+ghost use Rattle.goal_fields.specs.Held.{StandFor};
+ghost use Rattle.price_books.specs.Prices.{Rows, with_row, AimsAt, AreOf};
 
 use crate::goals::Goals;
 use cost_ledger::CostLedger;
 use goal_fields::Fields;
+use grid_cells::{Agent, Cell, Grid, OutOfMemory};
+use plan_table::Plan;
 use std::alloc::Global;
 use std::marker::Model;
 
@@ -47,5 +53,84 @@ impl PriceBooks {
         ensures { result.now ≡ self.now.fields }
     {
         self.goals.fields()
+    }
+
+    /// Puts in the row of an agent that has none. The grid is the one that the books are for.
+    ///
+    /// # Errors
+    ///
+    /// Want of memory. The books are gone then.
+    pub fn put(
+        self,
+        agent: Agent,
+        goal: Cell,
+        plan: &Plan,
+        grid: &Grid,
+    ) -> Result<PriceBooks, OutOfMemory>
+        requires absent { row_of self.costs.rows agent ≡ None }
+        requires inside { Holds grid.now.size goal }
+        requires stand { StandFor grid.now self.fields }
+        ensures { IfOk result (λ books. (fleet : Rows) → AreOf grid.now fleet self → AreOf grid.now (with_row fleet agent (Some (record { goal = goal; plan = plan.now }))) books) }
+    {
+        let PriceBooks { costs, goals } = self;
+        let costs = costs.put(agent, goal, plan, grid)?;
+        let goals = goals.add(agent, goal, grid)?;
+        Ok(PriceBooks { costs, goals })
+    }
+
+    /// Takes the agent's row out. The goal is that of the row.
+    pub fn take(&mut self, agent: Agent, goal: Cell)
+        ensures { (grid : Chart) (fleet : Rows) → AreOf grid fleet self.old → AimsAt fleet agent goal → AreOf grid (with_row fleet agent None) self.new }
+    {
+        self.costs.take(agent);
+        self.goals.lose(agent, goal);
+    }
+
+    /// Gives the agent's row another goal in place of the one before. The grid is the one that the
+    /// books are for.
+    ///
+    /// # Errors
+    ///
+    /// Want of memory. The books are gone then.
+    pub fn aim(
+        self,
+        agent: Agent,
+        before: Cell,
+        goal: Cell,
+        grid: &Grid,
+    ) -> Result<PriceBooks, OutOfMemory>
+        requires inside { Holds grid.now.size goal }
+        requires stand { StandFor grid.now self.fields }
+        ensures { IfOk result (λ books. (fleet : Rows) (row : Row) → AreOf grid.now fleet self → fleet agent ≡ Some row → row.goal ≡ before → AreOf grid.now (with_row fleet agent (Some (record row { goal = goal }))) books) }
+    {
+        if before == goal {
+            return Ok(self);
+        }
+        let PriceBooks { mut costs, goals } = self;
+        costs.aim(agent, goal);
+        let mut goals = goals.add(agent, goal, grid)?;
+        goals.lose(agent, before);
+        Ok(PriceBooks { costs, goals })
+    }
+
+    /// Gives the agent's row another plan. The goal is that of the row, and the grid is the one that
+    /// the books are for.
+    ///
+    /// # Errors
+    ///
+    /// Want of memory. The books are gone then.
+    pub fn set_plan(
+        self,
+        agent: Agent,
+        goal: Cell,
+        plan: &Plan,
+        grid: &Grid,
+    ) -> Result<PriceBooks, OutOfMemory>
+        ensures { IfOk result (λ books. (fleet : Rows) → AreOf grid.now fleet self → AimsAt fleet agent goal → AreOf grid.now (with_row fleet agent (Some (record { goal = goal; plan = plan.now }))) books) }
+    {
+        let PriceBooks { mut costs, goals } = self;
+        costs.take(agent);
+        let costs = costs.put(agent, goal, plan, grid)?;
+        Ok(PriceBooks { costs, goals })
     }
 }

@@ -1,0 +1,7 @@
+use Rattle.price_books.proofs.Fleets.{books_take}
+use Rattle.price_books.proofs.books.PriceBooks.take.Goals as goal
+
+pub returns : goal.returns
+returns c = λ grid fleet are at.
+    books_take grid fleet _ c.args.agent c.args.goal c.take.new.self c.lose.new.self.aims c.lose.new.self.fields
+    (rw (← c.self.view_is) at are) at c.take.ensures.row c.take.ensures.by_agent (c.take.ensures.stands grid) c.lose.ensures.aims (c.lose.ensures.stand grid) c.lose.ensures.held
