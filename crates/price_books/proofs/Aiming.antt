@@ -1,5 +1,5 @@
 -- Goals that agents aim at, and their fields: one agent more, one less, and repairs.
-use Rattle.std.proofs.Common.{◌≡◌, ◌<◌, inl, inr, List, length, get_or, Contains, sym, ap, ◌∙◌, subst, ℕ, arith}
+use Rattle.std.proofs.Common.{◌≡◌, ◌<◌, inl, inr, List, length, get_or, sym, ap, ◌∙◌, subst, ℕ, arith}
 use mathlib.Core.Logic.{◌↔◌}
 use Rattle.std.specs.List.{AllZip}
 use Rattle.std.proofs.lemmas.List.Elements.{All-contains, Contains-get_or, length_all_zip, AllZip-get_or}

@@ -1,6 +1,5 @@
 -- Books of the rows of a fleet: the same rows, and one row changed.
-use Rattle.std.proofs.Common.{◌≡◌, ◌≢◌, ◌⊎◌, ℕ, eqb, inl, inr, List, [], Contains, Option, Some, None, refl, sym, ap, ◌∙◌, subst, arith}
-use mathlib.Core.Logic.{◌↔◌}
+use Rattle.std.proofs.Common.{◌≡◌, ◌≢◌, ℕ, inl, inr, List, [], Contains, Option, Some, None, sym, ap, ◌∙◌, subst, arith}
 use Rattle.std.proofs.lemmas.Bool.Decides.{eqb_tells}
 use Rattle.std.proofs.lemmas.Option.{none-some, MatchOption-at_some}
 use Rattle.std.specs.Prelude.{IfSome, ⊤}
@@ -116,3 +115,20 @@ books_stay grid fleet books agent row goal are live same =
       | inr apart ↦ sym (row_elsewhere fleet agent (Some now) other apart.0)
     ])
     are
+
+-- the map has changed
+pub books_flipped : (old new : Chart) (fleet : Rows) (books : Prices) (costs : Ledger) (aims : List Aim) (fields : List Standing) → AreOf old fleet books → costs.rows ≡ books.costs.rows → StandsFor costs new → aims ≡ books.aims → StandFor new fields → HoldAimed aims fields → AreOf new fleet (record { costs = costs; aims = aims; fields = fields })
+books_flipped old new fleet books costs aims fields are rows stands same stand held = record {
+  by_agent = subst IsByAgent (sym rows) are.by_agent;
+  rows = λ agent. ap (λ (r : List (ℕ × Row)). row_of r agent) rows ∙ are.rows agent;
+  costs = stands;
+  aims = are_aims;
+  fields = stand;
+  goals = λ goal. (
+    (λ h. let one = (held goal).0 h in (one.0, (are_aims (aim goal one.0)).0 one.1)),
+    (λ one. (held goal).1 (one.0, (are_aims (aim goal one.0)).1 one.1)),
+  );
+}
+  where
+    are_aims : AreAims fleet aims
+    are_aims = subst (AreAims fleet) (sym same) are.aims

@@ -1,5 +1,5 @@
 -- Who aims at which goal, after one row of a fleet has changed.
-use Rattle.std.proofs.Common.{◌≡◌, ◌≢◌, ◌⊎◌, ℕ, cond, eqb, true, false, inl, inr, List, Contains, Option, Some, None, sym, ap, ◌∙◌, subst}
+use Rattle.std.proofs.Common.{◌≡◌, ◌≢◌, ℕ, cond, eqb, true, false, inl, inr, List, Contains, Option, Some, None, sym, ap, ◌∙◌, subst}
 use mathlib.Core.Logic.{◌↔◌}
 use Rattle.std.proofs.lemmas.Bool.Decides.{eqb_tells}
 use Rattle.std.proofs.lemmas.Option.{none-some, same_Some}

@@ -1,11 +1,13 @@
-ghost use Rattle.std.specs.Prelude.{◌≡◌, None, Some, IfOk};
+ghost use Rattle.std.specs.Prelude.{◌≡◌, None, Some, All, IfOk};
 ghost use Rattle.grid_cells.specs.Size.{Holds};
 ghost use Rattle.grid_cells.specs.Grid.{Chart};
 ghost use Rattle.plan_table.specs.Plans.{row_of};
 ghost use Rattle.plan_table.specs.declared.plans.Row.{Row};
+ghost use Rattle.goal_fields.specs.Target.{Covers};
 ghost use Rattle.goal_fields.specs.Held.{StandFor};
 ghost use Rattle.price_books.specs.Prices.{Rows, with_row, AimsAt, AreOf};
 
+use crate::flips::flip_all;
 use crate::goals::Goals;
 use cost_ledger::CostLedger;
 use goal_fields::Fields;
@@ -131,6 +133,23 @@ impl PriceBooks {
         let PriceBooks { mut costs, goals } = self;
         costs.take(agent);
         let costs = costs.put(agent, goal, plan, grid)?;
+        Ok(PriceBooks { costs, goals })
+    }
+
+    /// Goes over to another grid of the same size, whose state differs at most at the cells from
+    /// that of the one that the books are for.
+    ///
+    /// # Errors
+    ///
+    /// Want of memory. The books are gone then.
+    pub fn flip(self, cells: &[Cell], grid: &Grid) -> Result<PriceBooks, OutOfMemory>
+        requires same_size { All (λ field. grid.now.size ≡ field.grid.size) self.fields }
+        requires covered { All (λ field. Covers cells.now field.grid grid.now) self.fields }
+        ensures { IfOk result (λ books. (old : Chart) (fleet : Rows) → AreOf old fleet self → old.size ≡ grid.now.size → Covers cells.now old grid.now → AreOf grid.now fleet books) }
+    {
+        let PriceBooks { costs, mut goals } = self;
+        let costs = flip_all(costs, cells, grid)?;
+        goals.repair(grid, cells);
         Ok(PriceBooks { costs, goals })
     }
 }

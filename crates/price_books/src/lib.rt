@@ -3,6 +3,7 @@
 
 mod aims;
 mod books;
+mod flips;
 mod goals;
 mod laws;
 

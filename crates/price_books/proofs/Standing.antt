@@ -1,0 +1,22 @@
+-- Ledgers of costs that stand for maps which are closed in the same cells.
+use Rattle.std.proofs.Common.{ℕ, List}
+use mathlib.Core.Logic.{◌↔◌}
+use Rattle.grid_cells.specs.Cell.{Point}
+use Rattle.grid_cells.specs.Grid.{Chart, IsClosed}
+use Rattle.plan_table.specs.declared.plans.Row.{Row}
+use Rattle.cost_ledger.specs.Ledger.{Ledger, StandsFor}
+use Rattle.cost_ledger.specs.Visits.{IsVisit}
+use Rattle.cost_ledger.specs.declared.visits.Visit.{Visit}
+
+visit_there : (one other : Chart) (rows : List (ℕ × Row)) (visit : Visit) → ((cell : Point) → IsClosed one cell → IsClosed other cell) → IsVisit one rows visit → IsVisit other rows visit
+visit_there one other rows visit same is =
+    record { row = is.row; live = is.live; blocked = record { on_path = is.blocked.on_path; there = is.blocked.there; closed = same visit.cell is.blocked.closed } }
+
+pub stands_there : (ledger : Ledger) (one other : Chart) → ((cell : Point) → IsClosed one cell ↔ IsClosed other cell) → StandsFor ledger one → StandsFor ledger other
+stands_there ledger one other same stands = record {
+  ascending = stands.ascending;
+  exact = λ visit. (
+    (λ h. visit_there one other ledger.rows visit (λ cell. (same cell).0) ((stands.exact visit).0 h)),
+    (λ is. (stands.exact visit).1 (visit_there other one ledger.rows visit (λ cell. (same cell).1) is)),
+  );
+}
