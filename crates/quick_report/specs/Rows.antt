@@ -12,5 +12,5 @@ abbrev pub HaveFields : List (ℕ × Row) → List Standing → Type 0
 HaveFields rows fields = (agent : ℕ) (row : Row) → row_of rows agent ≡ Some row → HasGoal fields row.goal
 
 -- each row's path is a path on the map
-abbrev pub AreOnMap : Chart → List (ℕ × Row) → Type 0
-AreOnMap grid rows = (agent : ℕ) (row : Row) → row_of rows agent ≡ Some row → IsPathOn grid row.plan
+abbrev pub HavePathsOn : Chart → List (ℕ × Row) → Type 0
+HavePathsOn grid rows = (agent : ℕ) (row : Row) → row_of rows agent ≡ Some row → IsPathOn grid row.plan

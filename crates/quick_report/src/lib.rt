@@ -9,3 +9,6 @@ mod totals;
 mod visitors;
 
 pub use reports::quick_report;
+
+#[cfg(test)]
+mod tests;

@@ -3,7 +3,7 @@ ghost use Rattle.grid_cells.specs.Grid.{Chart};
 ghost use Rattle.goal_fields.specs.Held.{StandFor};
 ghost use Rattle.cost_ledger.specs.Visits.{AreVisits, IsUnblocked};
 ghost use Rattle.desk_report.specs.Report.{IsBound, IsLine, AreLines};
-ghost use Rattle.quick_report.specs.Rows.{HaveFields, AreOnMap};
+ghost use Rattle.quick_report.specs.Rows.{HaveFields, HavePathsOn};
 
 use crate::bounds::bound;
 use crate::visitors::{first_from, is_of};
@@ -44,7 +44,7 @@ pub fn lines(
     visits: &[Visit],
 ) -> Result<Vec<AgentLine>, OutOfMemory>
     requires { HaveFields plans.now.rows fields.now }
-    ensures lines { IfOk result (λ lines. (grid : Chart) → StandFor grid fields.now → AreOnMap grid plans.now.rows → AreVisits grid plans.now.rows visits.now → AreLines grid plans.now.rows lines.items) }
+    ensures lines { IfOk result (λ lines. (grid : Chart) → StandFor grid fields.now → HavePathsOn grid plans.now.rows → AreVisits grid plans.now.rows visits.now → AreLines grid plans.now.rows lines.items) }
     ensures few { IfOk result (λ lines. length lines.items ≤ MOST_AGENT + 1) }
 {
     let mut lines = Vec::with_capacity(alloc, plans.count() as usize)?;

@@ -4,7 +4,7 @@ ghost use Rattle.conflict_ledger.specs.ConflictList.{AreConflicts};
 ghost use Rattle.cost_ledger.specs.Ledger.{StandsFor};
 ghost use Rattle.goal_fields.specs.Held.{StandFor};
 ghost use Rattle.desk_report.specs.Report.{IsReportOf};
-ghost use Rattle.quick_report.specs.Rows.{HaveFields, AreOnMap};
+ghost use Rattle.quick_report.specs.Rows.{HaveFields, HavePathsOn};
 
 use crate::lines::lines;
 use crate::totals::{sum_of_bounds, sum_of_gaps};
@@ -36,7 +36,7 @@ pub fn quick_report(
         costs.now.rows ≡ plans.now.rows
         → StandsFor costs.now grid.now
         → StandFor grid.now fields.now
-        → AreOnMap grid.now plans.now.rows
+        → HavePathsOn grid.now plans.now.rows
         → AreConflicts (tracks_of mode plans.now.rows) conflicts
         → IsReportOf grid.now mode plans.now.rows report) }
 {

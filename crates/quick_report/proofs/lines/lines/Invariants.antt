@@ -3,13 +3,13 @@ use Rattle.grid_cells.specs.Grid.{Chart}
 use Rattle.goal_fields.specs.Held.{StandFor}
 use Rattle.cost_ledger.specs.Visits.{AreVisits}
 use Rattle.desk_report.specs.Report.{AreLines}
-use Rattle.quick_report.specs.Rows.{AreOnMap}
+use Rattle.quick_report.specs.Rows.{HavePathsOn}
 use Rattle.quick_report.proofs.Blocking.{Passed}
 use Rattle.quick_report.proofs.lines.lines.Given as goal
 
 abbrev pub invariant-loop-rank : goal.invariant-loop-rank
 invariant-loop-rank l = record {
-  lines : (grid : Chart) → StandFor grid l.fields → AreOnMap grid l.plans.rows → AreVisits grid l.plans.rows l.visits → AreLines grid (take l.rank l.plans.rows) l.lines.items;
+  lines : (grid : Chart) → StandFor grid l.fields → HavePathsOn grid l.plans.rows → AreVisits grid l.plans.rows l.visits → AreLines grid (take l.rank l.plans.rows) l.lines.items;
   many : length l.lines.items ≡ l.rank;
   within : l.next ≤ length l.visits;
   passed : Passed l.plans.rows l.visits l.next l.rank;
