@@ -14,8 +14,8 @@ use grid_cells::{Agent, MOST_AGENT, OutOfMemory};
 use plan_table::{Plans, Row};
 use std::alloc::Global;
 
-// What is said of the agent with that row and that lower bound, where it is known whether no visit
-// of it is blocked.
+// What is said of the agent with that row and that lower bound, which has a gap only if no cell of
+// its path is closed.
 fn line(agent: Agent, row: &Row, bound: Option<u32>, unblocked: bool) -> AgentLine
     ensures { (grid : Chart) → IsBound grid row.now bound → (IsTrue unblocked ↔ IsUnblocked grid row.now.plan) → IsLine grid (agent, row.now) result }
 {
@@ -36,7 +36,7 @@ fn line(agent: Agent, row: &Row, bound: Option<u32>, unblocked: bool) -> AgentLi
     }
 }
 
-/// The lines of the agents, in their order, where the visits are the blocked ones.
+/// The lines of the agents, in their order, where the visits are the blocked ones of the plans.
 pub fn lines(
     alloc: Global,
     plans: &Plans,

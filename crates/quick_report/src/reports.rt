@@ -16,8 +16,9 @@ use grid_cells::{Grid, List, OutOfMemory};
 use plan_table::{Mode, Plans};
 use std::alloc::Global;
 
-/// The report of the map, the mode and the plans, whose conflict list, costs and fields are handed
-/// in. Its cost follows the agents, the entries and the visits, not the steps of the plans.
+/// The report of the map, the mode and the plans, where the conflicts are theirs, the ledger has
+/// the rows of the plans and stands for the map, and the fields stand for the map. Its cost follows
+/// the agents, the entries and the visits, not the steps of the plans.
 ///
 /// # Errors
 ///
