@@ -1,1 +1,3 @@
 pub mod FlippedCells
+pub mod RowsBefore
+pub mod KeptRows

@@ -1,6 +1,11 @@
 //! What a list of changes did to a scene: agent by agent, and cell by cell.
 #![tactic(auto)]
 
+mod agents;
 mod flips;
+mod taking_back;
+#[cfg(test)]
+mod tests;
 
+pub use agents::{Former, FormerRow, formers};
 pub use flips::flipped;
