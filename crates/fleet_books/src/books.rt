@@ -2,11 +2,12 @@ ghost use Rattle.std.specs.Prelude.{◌≡◌, ◌+◌, min, Some, None, IfOk, I
 ghost use Rattle.plan_table.specs.Route.{Fleet, route_of};
 ghost use Rattle.where_index.specs.Records.{nothing, records_apart};
 ghost use Rattle.where_index.specs.Index.{with_route};
+ghost use Rattle.conflict_ledger.specs.ConflictList.{AreConflicts};
 ghost use Rattle.scene_edits.specs.Since.{IsSince};
 ghost use Rattle.fleet_books.specs.Fleet.{AreOf};
 
-use conflict_ledger::ConflictLedger;
-use grid_cells::{Agent, OutOfMemory};
+use conflict_ledger::{Conflict, ConflictLedger};
+use grid_cells::{Agent, List, OutOfMemory};
 use plan_table::Track;
 use scene_edits::first_difference;
 use std::alloc::Global;
@@ -94,6 +95,18 @@ impl FleetBooks {
         let index = index.swap(agent, old, new, since)?;
         let conflicts = conflicts.revise(agent, old, new, since, &index)?;
         Ok(FleetBooks { index, conflicts })
+    }
+
+    /// The conflict list of the fleet: each entry that stands, and no other, by kind, time, agents and
+    /// cells.
+    ///
+    /// # Errors
+    ///
+    /// Want of memory.
+    pub fn conflicts(&self) -> Result<List<Conflict>, OutOfMemory>
+        ensures { IfOk result (λ entries. (fleet : Fleet) → AreOf fleet self.now → AreConflicts fleet entries) }
+    {
+        self.conflicts.listed()
     }
 
     /// How many records of tracks were put in or taken out since the books were made, held at the
