@@ -72,7 +72,8 @@ impl PriceBooks {
         requires absent { row_of self.costs.rows agent ≡ None }
         requires inside { Holds grid.now.size goal }
         requires stand { StandFor grid.now self.fields }
-        ensures { IfOk result (λ books. (fleet : Rows) → AreOf grid.now fleet self → AreOf grid.now (with_row fleet agent (Some (record { goal = goal; plan = plan.now }))) books) }
+        ensures kept { IfOk result (λ books. (fleet : Rows) → AreOf grid.now fleet self → AreOf grid.now (with_row fleet agent (Some (record { goal = goal; plan = plan.now }))) books) }
+        ensures stand { IfOk result (λ books. StandFor grid.now books.fields) }
     {
         let PriceBooks { costs, goals } = self;
         let costs = costs.put(agent, goal, plan, grid)?;
@@ -82,7 +83,8 @@ impl PriceBooks {
 
     /// Takes the agent's row out. The goal is that of the row.
     pub fn take(&mut self, agent: Agent, goal: Cell)
-        ensures { (grid : Chart) (fleet : Rows) → AreOf grid fleet self.old → AimsAt fleet agent goal → AreOf grid (with_row fleet agent None) self.new }
+        ensures kept { (grid : Chart) (fleet : Rows) → AreOf grid fleet self.old → AimsAt fleet agent goal → AreOf grid (with_row fleet agent None) self.new }
+        ensures stand { (grid : Chart) → StandFor grid self.old.fields → StandFor grid self.new.fields }
     {
         self.costs.take(agent);
         self.goals.lose(agent, goal);
@@ -103,7 +105,8 @@ impl PriceBooks {
     ) -> Result<PriceBooks, OutOfMemory>
         requires inside { Holds grid.now.size goal }
         requires stand { StandFor grid.now self.fields }
-        ensures { IfOk result (λ books. (fleet : Rows) (row : Row) → AreOf grid.now fleet self → fleet agent ≡ Some row → row.goal ≡ before → AreOf grid.now (with_row fleet agent (Some (record row { goal = goal }))) books) }
+        ensures kept { IfOk result (λ books. (fleet : Rows) (row : Row) → AreOf grid.now fleet self → fleet agent ≡ Some row → row.goal ≡ before → AreOf grid.now (with_row fleet agent (Some (record row { goal = goal }))) books) }
+        ensures stand { IfOk result (λ books. StandFor grid.now books.fields) }
     {
         if before == goal {
             return Ok(self);
@@ -128,7 +131,8 @@ impl PriceBooks {
         plan: &Plan,
         grid: &Grid,
     ) -> Result<PriceBooks, OutOfMemory>
-        ensures { IfOk result (λ books. (fleet : Rows) → AreOf grid.now fleet self → AimsAt fleet agent goal → AreOf grid.now (with_row fleet agent (Some (record { goal = goal; plan = plan.now }))) books) }
+        ensures kept { IfOk result (λ books. (fleet : Rows) → AreOf grid.now fleet self → AimsAt fleet agent goal → AreOf grid.now (with_row fleet agent (Some (record { goal = goal; plan = plan.now }))) books) }
+        ensures fields { IfOk result (λ books. books.fields ≡ self.fields) }
     {
         let PriceBooks { mut costs, goals } = self;
         costs.take(agent);
@@ -145,7 +149,8 @@ impl PriceBooks {
     pub fn flip(self, cells: &[Cell], grid: &Grid) -> Result<PriceBooks, OutOfMemory>
         requires same_size { All (λ field. grid.now.size ≡ field.grid.size) self.fields }
         requires covered { All (λ field. Covers cells.now field.grid grid.now) self.fields }
-        ensures { IfOk result (λ books. (old : Chart) (fleet : Rows) → AreOf old fleet self → old.size ≡ grid.now.size → Covers cells.now old grid.now → AreOf grid.now fleet books) }
+        ensures kept { IfOk result (λ books. (old : Chart) (fleet : Rows) → AreOf old fleet self → old.size ≡ grid.now.size → Covers cells.now old grid.now → AreOf grid.now fleet books) }
+        ensures stand { IfOk result (λ books. StandFor grid.now books.fields) }
     {
         let PriceBooks { costs, mut goals } = self;
         let costs = flip_all(costs, cells, grid)?;

@@ -9,3 +9,6 @@ mod laws;
 
 pub use books::PriceBooks;
 pub use laws::same_rows_same_books;
+
+#[cfg(test)]
+mod tests;

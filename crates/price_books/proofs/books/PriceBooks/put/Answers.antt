@@ -1,8 +1,8 @@
 use Rattle.price_books.proofs.Fleets.{books_put}
 use Rattle.price_books.proofs.books.PriceBooks.put.Goals as goal
 
-pub returns : goal.returns
-returns c = λ fleet are.
+pub returns-clause-kept : goal.returns-clause-kept
+returns-clause-kept c = λ fleet are.
     let costs = c.in_ok-costs.ensures in
     let goals = c.in_ok-goals.ensures in
     books_put c.args.grid.now fleet _ c.args.agent (record { goal = c.args.goal; plan = c.args.plan.now }) c.in_ok-costs.costs c.in_ok-goals.goals.aims c.in_ok-goals.goals.fields
