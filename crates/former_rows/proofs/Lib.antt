@@ -1,3 +1,4 @@
 pub mod FlippedCells
 pub mod RowsBefore
 pub mod KeptRows
+pub mod NamedAgents

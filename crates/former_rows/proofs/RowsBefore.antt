@@ -1,6 +1,7 @@
 -- The rows of a table before changes, agent by agent.
-use Rattle.std.proofs.Common.{◌≡◌, ℕ, eqb, if◌then◌else◌, List, [], ◌∷◌, Some, None, inl, inr, refl, sym, ap, ◌∙◌}
+use Rattle.std.proofs.Common.{◌≡◌, ℕ, suc, ◌+◌, ◌<◌, eqb, if◌then◌else◌, List, [], ◌∷◌, drop, get_or, length, Some, None, inl, inr, refl, sym, ap, ◌∙◌, arith}
 use Rattle.std.specs.Option.{option_map}
+use Rattle.std.proofs.Math.Seq.{drop-cons}
 use Rattle.std.proofs.lemmas.Bool.Decides.{eqb_tells}
 use Rattle.plan_table.specs.Plans.{row_of}
 use Rattle.plan_table.specs.declared.plans.Row.{Row}
@@ -45,3 +46,9 @@ row_of-undone scene (Same cell) agent = refl
 pub row_of-undone_all : (scene : SceneState) (changes : List Change) (agent : ℕ) → row_of (undone_all scene changes).rows agent ≡ before_changes changes agent (row_of scene.rows agent)
 row_of-undone_all scene [] agent = refl
 row_of-undone_all scene (change ∷ later) agent = row_of-undone (undone_all scene later) change agent ∙ ap (before_change change agent) (row_of-undone_all scene later agent)
+
+-- one change more at the front
+pub drop_one : {X : Type 0} (xs : List X) (at left : ℕ) (x : X) → at < length xs → at + 1 ≡ left → x ≡ get_or xs at x → drop at xs ≡ x ∷ drop left xs
+drop_one {X = X} xs at left x within next is =
+    let more : suc at ≡ left = omega arith in
+    drop-cons xs at x within ∙ ap (λ (y : X). y ∷ drop (suc at) xs) (sym is) ∙ ap (λ n. x ∷ drop n xs) more

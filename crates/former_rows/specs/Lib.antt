@@ -1,3 +1,4 @@
 pub mod Flips
 pub mod Formers
 pub mod Kept
+pub mod Named

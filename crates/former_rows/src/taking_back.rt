@@ -1,7 +1,9 @@
-ghost use Rattle.std.specs.Prelude.{◌≡◌, ℕ, List, OnOk, ◌==◌, if◌then◌else◌};
+ghost use Rattle.std.specs.Prelude.{◌≡◌, ◌⊎◌, ℕ, List, OnOk, All, Contains, ◌==◌, if◌then◌else◌};
 ghost use Rattle.std.specs.Option.{option_map};
+ghost use Rattle.std.specs.BTreeMap.{keys};
 ghost use Rattle.plan_table.specs.declared.plans.Row.{Row};
 ghost use Rattle.former_rows.specs.Formers.{as_row};
+ghost use Rattle.former_rows.specs.Named.{JoinBy};
 ghost use Rattle.former_rows.specs.Kept.{row_with, row_known, before_change};
 
 use crate::agents::FormerRow;
@@ -24,7 +26,8 @@ pub(crate) fn take_back<'a>(
     change: &'a Change,
     plans: &'a Plans,
 ) -> Result<(), OutOfMemory>
-    ensures { OnOk result ((agent : ℕ) → row_known rows.new plans.now.rows agent ≡ before_change change.now agent (row_known rows.old plans.now.rows agent)) }
+    ensures rows { OnOk result ((agent : ℕ) → row_known rows.new plans.now.rows agent ≡ before_change change.now agent (row_known rows.old plans.now.rows agent)) }
+    ensures named { OnOk result (JoinBy change.now (keys rows.old) (keys rows.new)) }
 {
     match change {
         Change::Added { agent } => keep(rows, *agent, Cell::default(), None),
@@ -52,7 +55,8 @@ fn keep<'a>(
     goal: Cell,
     plan: Option<&'a Plan>,
 ) -> Result<(), OutOfMemory>
-    ensures { OnOk result ((table : List (ℕ × Row)) (other : ℕ) → row_known rows.new table other ≡ (if agent == other then row_with goal plan.entry else row_known rows.old table other)) }
+    ensures rows { OnOk result ((table : List (ℕ × Row)) (other : ℕ) → row_known rows.new table other ≡ (if agent == other then row_with goal plan.entry else row_known rows.old table other)) }
+    ensures named { OnOk result (All (λ key. Contains (keys rows.old) key ⊎ (agent ≡ key)) (keys rows.new)) }
 {
     match rows.insert(agent, Kept { goal, plan }) {
         Ok(_) => Ok(()),

@@ -101,6 +101,17 @@ fn had(rt: &impl Abort, former: &Former, number: u32, goal: u32, many: u32) -> b
     }
 }
 
+// How many of the agents had a row.
+fn many_with_rows(formers: &[Former]) -> usize {
+    let mut many = 0usize;
+    for former in formers {
+        if let Some(_row) = former.row() {
+            many = many.saturating_add(1);
+        }
+    }
+    many
+}
+
 #[test]
 fn agents_with_their_former_rows(rt: HostRuntime) {
     let alloc = rt.alloc();
@@ -120,6 +131,7 @@ fn agents_with_their_former_rows(rt: HostRuntime) {
     let rows = formers(alloc, changes.items(), scene.plans())
         .map_err(|_| "memory")
         .expect(&rt, "formers");
+    assert_eq!(rt; many_with_rows(&rows), 2);
     match rows.as_slice() {
         [first, second, third] => {
             assert_eq!(rt; first.agent, agent(&rt, 1));
