@@ -1,9 +1,9 @@
 pub mod Freshness
 pub mod Anywhere
 pub mod Stamping
-pub mod Goaling
 pub mod OnMap
 pub mod RunsOn
 pub mod Replaying
 pub mod OneAnswer
 pub mod LegalJournals
+pub mod Refusing

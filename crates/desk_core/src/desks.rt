@@ -2,16 +2,16 @@ ghost use Rattle.std.specs.Prelude.{◌≡◌, ◌≤◌, IfOk, IfSome, IfNone};
 ghost use Rattle.desk_core.specs.State.{opening, version_of};
 ghost use Rattle.desk_core.specs.Commits.{IsCurrent, Refuses, Committed};
 ghost use Rattle.desk_core.specs.Questions.{Shows, Tells, Copies};
-ghost use Rattle.desk_core.specs.Goals.{AreFieldsOf};
+ghost use Rattle.desk_books.specs.Books.{AreOf};
 
 use crate::answers::{AskFault, Reading, Refusal, Snapshot};
 use crate::commits::Commit;
-use crate::goals::{distance_to, fields_after, fields_of};
 use crate::limits::Limit;
 use crate::questions::{goal_asked, report};
+use crate::shelves::Shelf;
 use crate::stale::stale;
 use crate::stamps::{Stamps, with_entry};
-use goal_fields::Fields;
+use desk_books::Books;
 use grid_cells::{Agent, Cell, OutOfMemory};
 use scene_edits::{EditsFault, Scene};
 use std::alloc::Global;
@@ -26,7 +26,8 @@ pub struct Desk {
     journal: Vec<Commit>,
     limit: Limit,
     stamps: Option<Stamps>,
-    fields: Option<Fields>,
+    books: Option<Books>,
+    rebuilds: u64,
 }
 
 impl Model for Desk {
@@ -38,7 +39,7 @@ impl Model for Desk {
 
     ghost view = { λ d. record { scene = d.scene; journal = d.journal.items; limit = d.limit } };
 
-    ghost invariant = { λ d. IsKept d.scene d.journal.items d.limit d.stamps d.fields };
+    ghost invariant = { λ d. IsKept d.scene d.journal.items d.limit d.stamps d.books };
 }
 
 impl Debug for Desk {
@@ -62,7 +63,8 @@ impl Desk {
             journal: Vec::new(alloc),
             limit,
             stamps: None,
-            fields: None,
+            books: None,
+            rebuilds: 0,
         }
     }
 
@@ -117,9 +119,9 @@ impl Desk {
         ensures shown { IfOk result (Shows self.old) }
     {
         let version = self.version();
-        let fields = self.take_fields()?;
-        let report = report(self.alloc, &fields, &self.scene);
-        self.fields = Some(fields);
+        let books = self.take_books()?;
+        let report = report(&books, &self.scene);
+        self.books = Some(books);
         match report {
             Ok(report) => Ok(Reading { version, report }),
             Err(refused) => Err(refused),
@@ -136,9 +138,9 @@ impl Desk {
         ensures told { Tells self.old.scene agent cell result }
     {
         let goal = goal_asked(&self.scene, agent, cell)?;
-        let fields = self.take_fields()?;
-        let distance = distance_to(&fields, cell, goal);
-        self.fields = Some(fields);
+        let books = self.take_books()?;
+        let distance = books.distance(cell, goal);
+        self.books = Some(books);
         Ok(distance)
     }
 
@@ -174,15 +176,24 @@ impl Desk {
         }
     }
 
-    // The fields of the agents' goals: those that stand, and else new ones. None stand until they are
-    // put back.
-    fn take_fields(&mut self) -> Result<Fields, OutOfMemory>
+    /// How often the books of the scene were made whole, the first time counted, held at the greatest
+    /// u64. A commit changes them by what it changes, so they are made anew only after want of memory.
+    pub fn rebuilds(&self) -> u64 {
+        self.rebuilds
+    }
+
+    // The books of the scene: those that stand, and else new ones. None stand until they are put back.
+    fn take_books(&mut self) -> Result<Books, OutOfMemory>
         ensures same { self.new ≡ self.old }
-        ensures fields { IfOk result (AreFieldsOf self.old.scene) }
+        ensures books { IfOk result (AreOf self.old.scene) }
     {
-        match self.fields.take() {
-            Some(fields) => Ok(fields),
-            None => fields_of(self.alloc, &self.scene),
+        match self.books.take() {
+            Some(books) => Ok(books),
+            None => {
+                let books = Books::of(self.alloc, &self.scene)?;
+                self.rebuilds = self.rebuilds.saturating_add(1);
+                Ok(books)
+            }
         }
     }
 
@@ -208,7 +219,12 @@ impl Desk {
         if self.journal.reserve(1).is_err() {
             return Err((Refusal::OutOfMemory, commit));
         }
-        match self.scene.apply_all(commit.edits()) {
+        let mut shelf = Shelf {
+            books: self.books.take(),
+        };
+        let applied = self.scene.apply_all_with(commit.edits(), &mut shelf);
+        self.books = shelf.books;
+        match applied {
             Ok(_) => {}
             Err(EditsFault::Faulty { index, why }) => {
                 return Err((Refusal::Faulty { index, why }, commit));
@@ -219,8 +235,6 @@ impl Desk {
         let size = self.scene.grid().size();
         let stamps = self.stamps.take();
         self.stamps = with_entry(size, stamps, &self.journal, &commit);
-        let fields = self.fields.take();
-        self.fields = fields_after(fields, commit.edits());
         match self.journal.push(commit) {
             Ok(()) => Ok(self.journal.len() as u64),
             Err(_) => unreachable!(),

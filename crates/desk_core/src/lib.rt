@@ -5,11 +5,11 @@ mod answers;
 mod commits;
 mod desks;
 mod driving;
-mod goals;
 mod journals;
 mod laws;
 mod limits;
 mod questions;
+mod shelves;
 mod stale;
 mod stamps;
 
@@ -23,6 +23,3 @@ pub use journals::{Journal, ReplayFault, replay};
 pub use laws::{legal_journals_replay, one_answer_to_a_commit};
 pub use limits::{Limit, MOST_ENTRIES};
 pub use scene_edits::{ApplyFault, Change, Edit, EditFault, EditsFault, Scene, Thing};
-
-#[cfg(test)]
-mod tests;

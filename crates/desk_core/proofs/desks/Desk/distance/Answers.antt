@@ -1,14 +1,17 @@
-use Rattle.std.proofs.Common.{◌≡◌, ap, subst}
-use Rattle.goal_fields.specs.Held.{HasGoal}
+use Rattle.std.proofs.Common.{◌≡◌, sym, ap, subst}
+use Rattle.grid_cells.specs.Cell.{Point}
+use Rattle.grid_cells.specs.Walks.{IsDistance}
 use Rattle.scene_edits.specs.Scene.{SceneState}
+use Rattle.desk_books.specs.Books.{AreOf}
 use Rattle.desk_core.specs.State.{DeskState}
-use Rattle.desk_core.specs.Goals.{IsAsked, AreFieldsOf}
-use Rattle.desk_core.proofs.Goaling.{goal_held}
+use Rattle.desk_core.specs.Goals.{IsAsked}
 use Rattle.desk_core.proofs.desks.Desk.distance.Goals as goal
 
-pub distance_to-distance-requires : goal.distance_to-distance-requires
-distance_to-distance-requires c =
-    let same : c.self.inside.scene ≡ c.args.self.now.scene = ap (λ (d : DeskState). d.scene) c.self.view_is in
-    let asked : IsAsked c.args.self.now.scene c.args.agent c.args.cell c.in_ok-goal.goal = subst (λ (s : SceneState). IsAsked s c.args.agent c.args.cell c.in_ok-goal.goal) same c.in_ok-goal.ensures.asked in
-    let are : AreFieldsOf c.args.self.now.scene c.in_ok-fields.fields = c.in_ok-fields.ensures.fields in
-    subst (HasGoal c.in_ok-fields.fields) asked.aims (goal_held c.args.self.now.scene c.in_ok-fields.fields c.args.agent asked.row are asked.live)
+pub returns-clause-told : goal.returns-clause-told
+returns-clause-told c =
+    let scene = c.args.self.now.scene in
+    let same : c.self.inside.scene ≡ scene = ap (λ (d : DeskState). d.scene) c.self.view_is in
+    let asked : IsAsked scene c.args.agent c.args.cell c.in_ok-goal.goal = subst (λ (s : SceneState). IsAsked s c.args.agent c.args.cell c.in_ok-goal.goal) same c.in_ok-goal.ensures.asked in
+    let are : AreOf scene c.in_ok-books.books = c.in_ok-books.ensures.books in
+    let told = c.distance-distance.ensures scene c.args.agent asked.row are asked.live asked.aims asked.inside in
+    (asked.row, asked.live, asked.inside, subst (λ (g : Point). IsDistance scene.grid c.args.cell g c.distance-distance.result) (sym asked.aims) told)

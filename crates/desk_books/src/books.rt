@@ -1,0 +1,108 @@
+ghost use Rattle.std.specs.Prelude.{◌≡◌, IfOk, ℕ};
+ghost use Rattle.grid_cells.specs.Size.{Holds};
+ghost use Rattle.grid_cells.specs.Walks.{IsDistance};
+ghost use Rattle.plan_table.specs.Plans.{row_of};
+ghost use Rattle.plan_table.specs.declared.plans.Row.{Row};
+ghost use Rattle.desk_report.specs.Report.{IsReportOf};
+ghost use Rattle.scene_edits.specs.Scene.{SceneState};
+ghost use Rattle.desk_books.specs.Books.{AreOf};
+ghost use Rattle.desk_books.specs.Following.{AreBehind};
+
+use desk_report::Report;
+use fleet_books::FleetBooks;
+use former_rows::{flipped, formers};
+use grid_cells::{Cell, OutOfMemory};
+use price_books::PriceBooks;
+use quick_report::quick_report;
+use scene_edits::{Change, Scene};
+use std::alloc::Global;
+use std::marker::Model;
+
+/// What is kept of a scene: where its agents stand and move, their conflict entries, costs and
+/// blocked visits, and the distances to their goals.
+#[derive(Drop)]
+pub struct Books {
+    pub(crate) alloc: Global,
+    pub(crate) fleet: FleetBooks,
+    pub(crate) prices: PriceBooks,
+}
+
+impl Model for Books {
+    ghost use Rattle.desk_books.specs.Books.{BooksState};
+
+    ghost Value = { BooksState };
+
+    ghost view = { λ b. record { fleet = b.fleet; prices = b.prices } };
+}
+
+impl Books {
+    /// The books of the scene, made anew.
+    ///
+    /// # Errors
+    ///
+    /// Want of memory.
+    pub fn of(alloc: Global, scene: &Scene) -> Result<Books, OutOfMemory>
+        ensures { IfOk result (AreOf scene.now) }
+    {
+        let mut books = Books {
+            alloc,
+            fleet: FleetBooks::new(alloc),
+            prices: PriceBooks::new(alloc),
+        };
+        let plans = scene.plans();
+        for rank in 0..plans.count() {
+            let (agent, row) = plans.entry_at(rank);
+            match books.enter(agent, row, scene) {
+                Ok(more) => books = more,
+                Err(refused) => return Err(refused),
+            }
+        }
+        Ok(books)
+    }
+
+    /// Takes in what edits changed; `scene` is the edited scene. The cost follows the changes.
+    ///
+    /// # Errors
+    ///
+    /// Want of memory: the books are gone then.
+    pub fn follow(self, changes: &[Change], scene: &Scene) -> Result<Books, OutOfMemory>
+        requires { AreBehind changes.now scene.now self }
+        ensures { IfOk result (AreOf scene.now) }
+    {
+        let cells = flipped(self.alloc, changes)?;
+        let formers = formers(self.alloc, changes, scene.plans())?;
+        let books = self.flip(&cells, scene)?;
+        books.catch_up(&formers, scene)
+    }
+
+    /// The report of the scene. The cost follows the agents, the entries and the visits.
+    ///
+    /// # Errors
+    ///
+    /// Want of memory.
+    pub fn report(&self, scene: &Scene) -> Result<Report, OutOfMemory>
+        requires { AreOf scene.now self.now }
+        ensures { IfOk result (IsReportOf scene.now.grid scene.now.mode scene.now.rows) }
+    {
+        let conflicts = self.fleet.conflicts()?;
+        quick_report(
+            self.alloc,
+            scene.grid(),
+            scene.mode(),
+            scene.plans(),
+            conflicts,
+            self.prices.costs(),
+            self.prices.fields(),
+        )
+    }
+
+    /// The distance in steps of the cell to the goal of an agent of the scene, if there is one.
+    pub fn distance(&self, from: Cell, goal: Cell) -> Option<u32>
+        ensures { (scene : SceneState) (agent : ℕ) (row : Row) → AreOf scene self.now → row_of scene.rows agent ≡ Some row → row.goal ≡ goal → Holds scene.grid.size from → IsDistance scene.grid from goal result }
+    {
+        match self.prices.fields().field(goal) {
+            Some(field) => field.distance(from),
+            None => None,
+        }
+    }
+}

@@ -1,0 +1,9 @@
+//! The books of a desk: what is kept beside a scene, so that a commit and a reading cost what changed.
+#![tactic(auto)]
+
+mod books;
+mod changing;
+mod following;
+mod former;
+
+pub use books::Books;
