@@ -1,0 +1,11 @@
+//! Worked examples: commits of several planners, on small maps and on a large one.
+mod build;
+mod chance;
+mod commits;
+mod indexes;
+mod large;
+mod readings;
+mod rings;
+mod rows;
+mod runs;
+mod stamps;
