@@ -1,1 +1,4 @@
 pub mod Running
+pub mod ScriptSessions
+pub mod Numbering
+pub mod SameReports

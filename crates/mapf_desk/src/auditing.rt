@@ -1,14 +1,15 @@
 ghost use Rattle.std.specs.Prelude.{◌≤◌, IfOk, OnOk, option_map};
-ghost use Rattle.std.specs.Io.KnownBytes.{Appends};
-ghost use Rattle.mapf_desk.specs.Audits.{Audits, Replays, audit_text};
+ghost use Rattle.desk_report.specs.Report.{IsReportOf};
+ghost use Rattle.mapf_desk.specs.Audits.{Audits, Replays};
 
 use crate::faults::{Fault, RunFault};
 use crate::files::{file_bytes, named_bytes};
+use crate::reporting::put_report;
 use crate::scenes::scene_of;
 use crate::words::AuditWords;
 use desk_audit::{AuditFault, NoGate, audit};
 use desk_core::{Desk, Limit, MOST_ENTRIES, replay};
-use desk_report::{Report, Sink, Spout, Word, WriteFailed, put_line, write_report};
+use desk_report::{Report, Sink, Spout, WriteFailed};
 use desk_session::read_journal;
 use plan_table::Mode;
 use scene_edits::Scene;
@@ -49,14 +50,34 @@ pub fn run_audit<T: Threads + Wait, W: Sink>(
         Ok(desk) => desk,
         Err(fault) => return Err(fault),
     };
-    let report = match audit(rt, alloc, desk.scene(), workers, &NoGate) {
+    let report = match report_of(rt, alloc, &desk, workers) {
         Ok(report) => report,
-        Err(AuditFault::BadWorkers) => unreachable!(),
-        Err(AuditFault::OutOfMemory) => return Err(RunFault::OutOfMemory),
+        Err(fault) => return Err(fault),
     };
-    match put_audit(writer, &desk, &report) {
+    match put_report(writer, desk.version(), &report) {
         Ok(()) => Ok(()),
         Err(WriteFailed) => Err(RunFault::WriteFailed),
+    }
+}
+
+/// The report of the desk's scene, made from scratch by so many threads.
+///
+/// # Errors
+///
+/// Want of memory, or the start of a thread was refused.
+pub fn report_of<T: Threads + Wait>(
+    rt: &T,
+    alloc: Global,
+    desk: &Desk,
+    workers: u32,
+) -> Result<Report, RunFault>
+    requires workers { (1 ≤ workers) × (workers ≤ 64) }
+    ensures { IfOk result (IsReportOf desk.now.scene.grid desk.now.scene.mode desk.now.scene.rows) }
+{
+    match audit(rt, alloc, desk.scene(), workers, &NoGate) {
+        Ok(report) => Ok(report),
+        Err(AuditFault::BadWorkers) => unreachable!(),
+        Err(AuditFault::OutOfMemory) => Err(RunFault::OutOfMemory),
     }
 }
 
@@ -77,19 +98,6 @@ fn replayed(alloc: Global, scene: Scene, journal: Option<&[u8]>) -> Result<Desk,
     match replay(alloc, scene, limit, journal) {
         Ok(desk) => Ok(desk),
         Err(fault) => Err(RunFault::from(fault)),
-    }
-}
-
-// Writes the desk's version and the report.
-fn put_audit<W: Sink>(writer: &mut W, desk: &Desk, report: &Report) -> Result<(), WriteFailed>
-    ensures { OnOk result (Appends (W.held writer.old) (W.held writer.new) (audit_text desk.now report.now)) }
-{
-    match put_line(writer, b"version", &[Word::Number(desk.version())]) {
-        Err(failed) => Err(failed),
-        Ok(()) => match write_report(report, writer) {
-            Ok(()) => Ok(()),
-            Err(failed) => Err(failed),
-        },
     }
 }
 

@@ -31,6 +31,12 @@ pub enum RunFault {
     /// A report could not be written.
     #[error("write failed")]
     WriteFailed,
+    /// A shared desk did not come back at its end.
+    #[error("pass lost")]
+    PassLost,
+    /// A drill has more scripts than it may.
+    #[error("too many scripts")]
+    TooManyScripts,
     #[error("out of memory")]
     OutOfMemory,
 }

@@ -1,10 +1,14 @@
-//! The program: a desk that serves a planner's session over files and standard streams, and audits.
+//! The program: a desk that serves a planner's session over files and standard streams, audits, and
+//! drills planners that share it.
 #![tactic(auto)]
 
 mod auditing;
+mod drilling;
 mod faults;
 mod files;
+mod reporting;
 mod scenes;
+mod scripts;
 mod serving;
 mod streams;
 #[cfg(test)]
@@ -12,6 +16,7 @@ mod tests;
 mod words;
 
 use auditing::audit_files;
+use drilling::drill_files;
 use faults::{Fault, RunFault};
 use serving::serve_streams;
 use std::process::ExitCode;
@@ -22,7 +27,7 @@ use std::{env, io};
 use words::{Asked, Words, read_words};
 
 // Does what the words ask for.
-fn obey<'a, R: Files + AllocGlobal + Print + Input + Threads + Wait>(
+fn obey<'a, R: Files + AllocGlobal + Print + Input + Threads + Wait + Sync>(
     rt: &R,
     words: &Words<'a>,
 ) -> Result<ExitCode, Fault<'a>> {
@@ -33,6 +38,11 @@ fn obey<'a, R: Files + AllocGlobal + Print + Input + Threads + Wait>(
         },
         Words::Audit(audit) => match audit_files(rt, audit) {
             Ok(()) => Ok(ExitCode::SUCCESS),
+            Err(fault) => Err(fault),
+        },
+        Words::Drill(drill) => match drill_files(rt, drill) {
+            Ok(true) => Ok(ExitCode::SUCCESS),
+            Ok(false) => Ok(ExitCode::from(1)),
             Err(fault) => Err(fault),
         },
     }

@@ -19,7 +19,8 @@ use std::rt::Files;
 /// The most lines that a session may have.
 const MOST_LINES: u32 = 1_000_000;
 
-const BOUNDS: Bounds = Bounds {
+/// The bounds of a session.
+pub const BOUNDS: Bounds = Bounds {
     lines: MOST_LINES,
     bytes: MOST_BYTES,
 };

@@ -9,6 +9,7 @@ use std::alloc::{AllocError, Global};
 pub enum Words<'a> {
     Serve(ServeWords<'a>),
     Audit(AuditWords<'a>),
+    Drill(DrillWords<'a>),
 }
 
 /// The words of `serve`.
@@ -30,6 +31,17 @@ pub struct AuditWords<'a> {
     pub mode: Mode,
     pub journal: Option<&'a str>,
     pub workers: u32,
+}
+
+/// The words of `drill`.
+#[derive(Drop)]
+pub struct DrillWords<'a> {
+    pub map: &'a str,
+    pub scen: Option<&'a str>,
+    pub agents: u32,
+    pub mode: Mode,
+    pub workers: u32,
+    pub scripts: Vec<&'a str>,
 }
 
 /// What the words come to.
@@ -69,6 +81,15 @@ own and tells its share of the agents.
 
 Example:
   mapf_desk audit --map demo/warehouse.map --scen demo/warehouse.scen --agents 10 --workers 4";
+
+const DRILL_EXAMPLE: &str = "\
+Each script is a session, as `serve` takes it, and is served as a planner of its own: the first is
+planner 1. The scripts run at once and their answers aren't kept. At the end the version and the
+report are printed, and `audit same` where a report made from scratch is the same, with status 0;
+or `audit differs`, with status 1.
+
+Example:
+  mapf_desk drill --map demo/corridor.map demo/east.script demo/west.script";
 
 fn map_argument<'a>(alloc: Global) -> Arg<'a> {
     Arg::new(alloc, "map").long("map").value_name("F")
@@ -155,12 +176,36 @@ fn audit_command<'a>(alloc: Global) -> Result<Command<'a>, AllocError> {
         .arg(workers_argument(alloc))
 }
 
+fn scripts_argument<'a>(alloc: Global) -> Arg<'a> {
+    Arg::new(alloc, "script")
+        .value_name("SCRIPT")
+        .num_args(1..)
+        .required(true)
+        .help("A planner's session, one file for each planner, from 1 to 255 of them")
+}
+
+fn drill_command<'a>(alloc: Global) -> Result<Command<'a>, AllocError> {
+    let map = map_argument(alloc)
+        .required(true)
+        .help("The map, a MovingAI .map file");
+    Command::new(alloc, "drill")
+        .about("Serves planners' scripts at once over one shared desk, and audits what they leave")
+        .after_help(DRILL_EXAMPLE)
+        .arg(map)?
+        .arg(scen_argument(alloc))?
+        .arg(agents_argument(alloc))?
+        .arg(mode_argument(alloc))?
+        .arg(workers_argument(alloc))?
+        .arg(scripts_argument(alloc))
+}
+
 fn command<'a>(alloc: Global) -> Result<Command<'a>, AllocError> {
     Command::new(alloc, "mapf_desk")
         .about(ABOUT)
         .after_help(PROGRAM_EXAMPLE)
         .subcommand(serve_command(alloc)?)?
-        .subcommand(audit_command(alloc)?)
+        .subcommand(audit_command(alloc)?)?
+        .subcommand(drill_command(alloc)?)
 }
 
 fn mode_of(matches: &ArgMatches<'_>) -> Mode {
@@ -179,8 +224,24 @@ fn limit_of(matches: &ArgMatches<'_>) -> Limit {
     }
 }
 
-fn words_of<'a>(matches: &ArgMatches<'a>) -> Words<'a> {
-    match matches.subcommand() {
+// The scripts that are named, in their order.
+fn scripts_of<'a>(alloc: Global, matches: &ArgMatches<'a>) -> Result<Vec<&'a str>, AllocError> {
+    match matches.get_strs("script") {
+        Some(scripts) => scripts.to_vec(alloc),
+        None => Ok(Vec::new(alloc)),
+    }
+}
+
+fn words_of<'a>(alloc: Global, matches: &ArgMatches<'a>) -> Result<Words<'a>, AllocError> {
+    let words = match matches.subcommand() {
+        Some(("drill", inner)) => Words::Drill(DrillWords {
+            map: inner.get_str("map").unwrap_or(""),
+            scen: inner.get_str("scen"),
+            agents: inner.get_one::<u32>("agents").unwrap_or(0),
+            mode: mode_of(inner),
+            workers: inner.get_one::<u32>("workers").unwrap_or(4),
+            scripts: scripts_of(alloc, inner)?,
+        }),
         Some(("audit", inner)) => Words::Audit(AuditWords {
             map: inner.get_str("map").unwrap_or(""),
             scen: inner.get_str("scen"),
@@ -203,7 +264,8 @@ fn words_of<'a>(matches: &ArgMatches<'a>) -> Words<'a> {
             limit: limit_of(matches),
             mode: Mode::Stay,
         }),
-    }
+    };
+    Ok(words)
 }
 
 /// What the program's words, its name first, ask for.
@@ -212,7 +274,10 @@ pub fn read_words<'a>(alloc: Global, words: &'a [String]) -> Asked<'a> {
         return Asked::NoMemory;
     };
     match command.try_get_matches_from(words) {
-        Ok(matches) => Asked::For(words_of(&matches)),
+        Ok(matches) => match words_of(alloc, &matches) {
+            Ok(words) => Asked::For(words),
+            Err(_) => Asked::NoMemory,
+        },
         Err(error) => Asked::Refused(error),
     }
 }

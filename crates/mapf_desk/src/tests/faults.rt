@@ -138,6 +138,8 @@ fn texts_of_other_faults(rt: HostRuntime) {
             Fault::Run(RunFault::from(ServeFault::OutOfMemory)),
             "out of memory",
         ),
+        (Fault::Run(RunFault::PassLost), "pass lost"),
+        (Fault::Run(RunFault::TooManyScripts), "too many scripts"),
     ];
     for (fault, wanted) in &rows {
         let text = format!(in rt.alloc(); "{fault}").expect(&rt, "a text");
