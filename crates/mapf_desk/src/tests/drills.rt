@@ -1,8 +1,10 @@
+use super::load::CORRIDORS;
 use super::runs::{MAP, SCEN};
 use crate::drilling::run_drill;
 use crate::faults::RunFault;
 use desk_audit::{Gate, NoGate};
 use desk_report::Spout;
+use desk_session::ServeFault;
 use plan_table::Mode;
 use std::alloc::Global;
 use std::process::Abort;
@@ -82,6 +84,35 @@ blocked 0\nsum 2\nmakespan 2\nbounds 2\ngap 0\nend\naudit same\n";
     let (ended, written) = drilled(&rt, alloc, MAP, 1, scripts, &NoGate);
     assert!(rt; ended == Ok(true));
     assert!(rt; written.as_slice() == wanted.as_bytes());
+}
+
+// The demo's scripts, on the corridor's map: the report is that of its session after both plans.
+#[test]
+fn drill_in_the_corridor(rt: HostRuntime) {
+    let alloc = rt.alloc();
+    let east = "agent 0 0,0 6,0\ndistance 0 0,0\nbegin\n\
+path 0 0,0 1,0 1,0 1,0 2,0 3,0 4,0 5,0 6,0\ncommit\nreport\n";
+    let west = "agent 1 6,0 0,0\npath 1 6,0 5,0 4,0 3,0 3,1\n\
+tail 1 4 3,1 3,1 3,0 2,0 1,0 0,0\nsolves vertex swap\n";
+    let scripts = texts(&rt, alloc, &[east.as_bytes(), west.as_bytes()]);
+    let wanted = "version 5\nagents 2\nagent 0 settle 8 goal yes bound 6 gap 2\n\
+agent 1 settle 10 goal yes bound 6 gap 4\nconflicts 0\nblocked 0\nsum 18\nmakespan 10\nbounds 12\n\
+gap 6\nend\naudit same\n";
+    let (ended, written) = drilled(&rt, alloc, CORRIDORS, 0, scripts, &NoGate);
+    assert!(rt; ended == Ok(true));
+    assert!(rt; written.as_slice() == wanted.as_bytes());
+}
+
+// The second of three scripts has a line too many.
+#[test]
+fn fault_of_a_script(rt: HostRuntime) {
+    let alloc = rt.alloc();
+    let blank = vec![in alloc; b'\n'; 1_000_001].expect(&rt, "memory");
+    let edit = b"agent 0 0,0 0,0".as_slice();
+    let scripts = texts(&rt, alloc, &[edit, blank.as_slice(), edit]);
+    let (ended, written) = drilled(&rt, alloc, MAP, 0, scripts, &NoGate);
+    assert!(rt; ended == Err(RunFault::Serve(ServeFault::TooManyLines)));
+    assert!(rt; written.is_empty());
 }
 
 // Scripts that are one too many are refused before the map is read.

@@ -5,7 +5,7 @@ use std::alloc::Global;
 use std::process::Abort;
 
 // The corridor's map: two corridors, and three bays between them.
-const CORRIDORS: &str = "type octile\nheight 3\nwidth 7\nmap\n.......\n.@@.@@.\n.......\n";
+pub const CORRIDORS: &str = "type octile\nheight 3\nwidth 7\nmap\n.......\n.@@.@@.\n.......\n";
 
 const PLANNERS: u32 = 8;
 
@@ -15,9 +15,9 @@ const DRILLS: u32 = 50;
 // Each agent waits a step next to its start and is back at time 3. Its start is its goal.
 const LAST_LINES: &str = "blocked 0\nsum 24\nmakespan 3\nbounds 0\ngap 24\nend\naudit same\n";
 
-// The script of a planner, which has an agent of its own: it comes, goes to and fro, has another
-// goal, is lengthened by a step, and at last goes. No other planner names the agent, so each of its
-// 200 edits is accepted.
+// The script of a planner, which adds an agent of its own and then, 66 times, gives it a path to and
+// fro, another goal and another tail. No other planner names the agent, so each of the 200 edits is
+// accepted.
 fn script(rt: &impl Abort, alloc: Global, agent: u32) -> Vec<u8> {
     let x = agent % 7;
     let y = if agent < 4 { 0 } else { 2 };

@@ -1,7 +1,4 @@
-use Rattle.std.proofs.Common.{◌≡◌, ◌∙◌, List, ℕ, ap, rules}
-use Rattle.desk_core.specs.State.{opening}
-use Rattle.desk_core.specs.declared.limits.TheConstants.{MOST_ENTRIES}
-use Rattle.mapf_desk.specs.Drills.{Drills, AreServed, texts_of}
+use Rattle.std.proofs.Common.{◌∙◌}
 use Rattle.mapf_desk.proofs.drilling.run_drill.Goals as goal
 
 pub returns-in-Ok-put_drill : goal.returns-in-Ok-put_drill

@@ -1,7 +1,7 @@
-use Rattle.std.proofs.Common.{◌≡◌, ◌<◌, ◌+◌, ℕ, length, arith, ap, ◌∙◌}
+use Rattle.std.proofs.Common.{◌≡◌, ◌<◌, ◌+◌, length, arith, ap, ◌∙◌}
 use Rattle.std.proofs.lemmas.Result.{on_ok_weaker}
-use Rattle.desk_shared.specs.Passes.{PassState, Held}
-use Rattle.mapf_desk.specs.Drills.{AreServed, texts_of}
+use Rattle.desk_shared.specs.Passes.{Held}
+use Rattle.mapf_desk.specs.Drills.{texts_of}
 use Rattle.mapf_desk.specs.declared.scripts.Script.{Script}
 use Rattle.mapf_desk.proofs.Numbering.{keeps_some, least_is_first, split_keeps}
 use Rattle.mapf_desk.proofs.ScriptSessions.{served, served_on}
