@@ -38,6 +38,6 @@ fn readings_are_the_plain_reports(rt: HostRuntime) {
             let reading = desk.reading().expect(&rt, "memory");
             assert!(rt; reading.report == plain_reading(&rt, alloc, desk.scene()));
         }
-        assert!(rt; desk.version() > 40);
+        assert!(rt; desk.version() > 40 && desk.rebuilds() == 1);
     }
 }

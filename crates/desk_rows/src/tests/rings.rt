@@ -6,15 +6,15 @@ use grid_cells::{Grid, List, Size};
 use std::alloc::Global;
 use std::process::Abort;
 
-type Move = ((u32, u32), (u32, u32));
+type Move = (u32, (u32, u32), (u32, u32));
 
-// The agents' moves in step 0.
+// The agents, and their moves in step 0.
 const MOVES: [Move; 5] = [
-    ((0, 0), (1, 0)),
-    ((1, 0), (1, 1)),
-    ((1, 1), (0, 1)),
-    ((0, 1), (0, 0)),
-    ((0, 0), (1, 0)),
+    (0, (0, 0), (1, 0)),
+    (1, (1, 0), (1, 1)),
+    (2, (1, 1), (0, 1)),
+    (3, (0, 1), (0, 0)),
+    (4, (0, 0), (1, 0)),
 ];
 
 /// A desk of 2 x 2 open cells on which agents 0 to 3 go round in step 0, and agent 4 goes along with
@@ -25,8 +25,7 @@ pub fn ring_with_second_mover(rt: &impl Abort, alloc: Global) -> Desk {
     let limit = Limit::new(10).expect(rt, "a limit");
     let mut desk = Desk::open(alloc, Scene::bare(alloc, grid), limit);
     let mut edits = Vec::new(alloc);
-    let mut number = 0;
-    for (from, to) in MOVES {
+    for (number, from, to) in MOVES {
         let here = cell(rt, from.0, from.1);
         let there = cell(rt, to.0, to.1);
         let add = Edit::Add {
@@ -41,7 +40,6 @@ pub fn ring_with_second_mover(rt: &impl Abort, alloc: Global) -> Desk {
         };
         edits.push(add).expect(rt, "memory");
         edits.push(path).expect(rt, "memory");
-        number += 1;
     }
     assert!(rt;
         desk.commit(commit(rt, 0, 0, Vec::new(alloc), edits))
