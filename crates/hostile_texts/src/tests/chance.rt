@@ -1,0 +1,84 @@
+//! Edits that look like chance.
+ghost use Rattle.std.specs.Prelude.{◌<◌};
+
+use super::plain::words::pieces;
+use std::alloc::Global;
+use std::process::Abort;
+
+// What is put in most often: the bytes that the grammars are made of.
+const LIKELY: &[u8] = b" \t\r\n,#-.@Gxey0123456789";
+
+/// A chain of numbers without pattern (Knuth's linear congruential generator).
+#[derive(Drop)]
+pub struct Chain {
+    pub state: u64,
+}
+
+impl Chain {
+    /// The next number, below `sides`.
+    pub fn roll(&mut self, sides: usize) -> usize
+        requires { 0 < sides }
+        ensures { result < sides }
+    {
+        self.state = self
+            .state
+            .wrapping_mul(6_364_136_223_846_793_005)
+            .wrapping_add(1_442_695_040_888_963_407);
+        (self.state >> 33) as usize % sides
+    }
+}
+
+fn some_byte(chain: &mut Chain) -> u8 {
+    if chain.roll(4) == 0 {
+        chain.roll(256) as u8
+    } else {
+        LIKELY[chain.roll(LIKELY.len())]
+    }
+}
+
+// The text with two of its lines exchanged.
+fn exchange(rt: &impl Abort, alloc: Global, chain: &mut Chain, text: &[u8]) -> Vec<u8> {
+    let mut lines = pieces(rt, alloc, text, b'\n');
+    let count = lines.len();
+    if count > 0 {
+        lines.swap(chain.roll(count), chain.roll(count));
+    }
+    let mut edited = Vec::new(alloc);
+    for (index, line) in lines.iter().enumerate() {
+        if index > 0 {
+            edited.push(b'\n').expect(rt, "memory");
+        }
+        edited.extend_from_slice(line).expect(rt, "memory");
+    }
+    edited
+}
+
+// The text with a byte changed, put in or taken out, with two lines exchanged, or cut off.
+fn edit(rt: &impl Abort, alloc: Global, chain: &mut Chain, mut text: Vec<u8>) -> Vec<u8> {
+    let len = text.len();
+    if len == 0 {
+        return text;
+    }
+    let at = chain.roll(len);
+    match chain.roll(16) {
+        0..=4 => {
+            let _ = text.remove(at);
+        }
+        5..=9 => text[at] = some_byte(chain),
+        10..=12 => text.insert(at, some_byte(chain)).expect(rt, "memory"),
+        13..=14 => return exchange(rt, alloc, chain, text.as_slice()),
+        _ => text.truncate(at),
+    }
+    text
+}
+
+/// One of the texts, after one to four edits.
+pub fn edited(rt: &impl Abort, alloc: Global, chain: &mut Chain, texts: &[&str]) -> Vec<u8> {
+    assert!(rt; !texts.is_empty());
+    let good = texts[chain.roll(texts.len())].as_bytes();
+    let mut text = Vec::from_slice(alloc, good).expect(rt, "memory");
+    for _ in 0..=chain.roll(4) {
+        text = edit(rt, alloc, chain, text);
+    }
+    text
+}

@@ -1,0 +1,5 @@
+mod chance;
+mod edited_journals;
+mod edited_maps;
+mod edited_scens;
+mod plain;

@@ -1,0 +1,7 @@
+//! Plain, slow readers of the grammars of docs/FORMATS.md. They use nothing of the readers that
+//! they are compared with but the names of faults.
+pub mod forms;
+pub mod journals;
+pub mod maps;
+pub mod scens;
+pub mod words;
