@@ -1,5 +1,12 @@
+mod bounds;
 mod chance;
 mod edited_journals;
 mod edited_maps;
 mod edited_scens;
+mod edited_sessions;
+mod fakes;
+mod long_commits;
 mod plain;
+mod scen_fronts;
+mod serving;
+mod session_fronts;

@@ -12,8 +12,8 @@ pub struct Chart {
     pub open: Vec<bool>,
 }
 
-// The number behind the label.
-fn labelled(words: &[&[u8]], label: &[u8]) -> Option<u32> {
+/// The number behind the label, where these two words are the line.
+pub fn labelled(words: &[&[u8]], label: &[u8]) -> Option<u32> {
     match words {
         [word, digits] if *word == label => number(digits),
         _ => None,
