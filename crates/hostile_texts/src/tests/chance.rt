@@ -36,6 +36,15 @@ fn some_byte(chain: &mut Chain) -> u8 {
     }
 }
 
+// A byte in place of that one or before it: by a digit, often a zero or another digit.
+fn byte_at(chain: &mut Chain, byte: u8) -> u8 {
+    match chain.roll(4) {
+        0 | 1 if byte.is_ascii_digit() => b'0',
+        2 if byte.is_ascii_digit() => b'0' + chain.roll(10) as u8,
+        _ => some_byte(chain),
+    }
+}
+
 // The text with two of its lines exchanged.
 fn exchange(rt: &impl Abort, alloc: Global, chain: &mut Chain, text: &[u8]) -> Vec<u8> {
     let mut lines = pieces(rt, alloc, text, b'\n');
@@ -61,23 +70,26 @@ fn edit(rt: &impl Abort, alloc: Global, chain: &mut Chain, mut text: Vec<u8>) ->
     }
     let at = chain.roll(len);
     match chain.roll(16) {
-        0..=4 => {
+        0..=2 => {
             let _ = text.remove(at);
         }
-        5..=9 => text[at] = some_byte(chain),
-        10..=12 => text.insert(at, some_byte(chain)).expect(rt, "memory"),
+        3..=8 => text[at] = byte_at(chain, text[at]),
+        9..=11 => text
+            .insert(at, byte_at(chain, text[at]))
+            .expect(rt, "memory"),
+        12 => text.push(some_byte(chain)).expect(rt, "memory"),
         13..=14 => return exchange(rt, alloc, chain, text.as_slice()),
         _ => text.truncate(at),
     }
     text
 }
 
-/// One of the texts, after one to four edits.
+/// One of the texts, after one to six edits.
 pub fn edited(rt: &impl Abort, alloc: Global, chain: &mut Chain, texts: &[&str]) -> Vec<u8> {
     assert!(rt; !texts.is_empty());
     let good = texts[chain.roll(texts.len())].as_bytes();
     let mut text = Vec::from_slice(alloc, good).expect(rt, "memory");
-    for _ in 0..=chain.roll(4) {
+    for _ in 0..=chain.roll(6).min(chain.roll(6)) {
         text = edit(rt, alloc, chain, text);
     }
     text

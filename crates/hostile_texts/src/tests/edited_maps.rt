@@ -7,6 +7,7 @@ use std::alloc::Global;
 use std::process::Abort;
 
 const GOOD: &[&str] = &[
+    "type octile\nheight 1\nwidth 1\nmap\n.\n",
     "type octile\r\nheight 1\r\nwidth 7\r\nmap\r\n.GS@OTW\r\n",
     "type octile\nheight 3\nwidth 4\nmap\n..@@\n.T.W\nOSG.\n",
     " type\toctile\nheight 0002\nwidth  10 \nmap\n.....@....\n..@.......  \n\n \n",

@@ -11,6 +11,7 @@ const WIDTH: u32 = 12;
 const HEIGHT: u32 = 3;
 
 const GOOD: &[&str] = &[
+    "version 1\n0 m 12 3 11 2 11 2 0\n",
     "version 1\n0\tm.map\t12\t3\t0\t0\t2\t1\t3.00000000\n7\tm.map\t12\t3\t11\t2\t10\t0\t3\n",
     "version 1.0\r\n\r\n 1 m 012 3 5 1 5 1 0 \r\n4294967295 m 12 3 00 2 11 0 x\r\n\t\r\n",
     "version 1\n0 m 12 3 0 0 0 0 0\n0 m 12 3 1 1 1 1 0\n0 m 12 3 2 2 2 2 0\n3 m 12 3 9 2 9 1 1",
@@ -44,8 +45,8 @@ fn place(fault: ScenFault) -> usize {
     }
 }
 
-// Compares two readings of a text, and tells the place of the answer.
-fn compare(rt: &impl Abort, alloc: Global, text: &[u8]) -> usize {
+/// Compares two readings of a text, and tells the place of the answer.
+pub fn compare(rt: &impl Abort, alloc: Global, text: &[u8]) -> usize {
     let size = Size::new(WIDTH, HEIGHT).expect(rt, "a size");
     match (
         read_scen(alloc, text, size),

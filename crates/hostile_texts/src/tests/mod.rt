@@ -8,5 +8,6 @@ mod fakes;
 mod long_commits;
 mod plain;
 mod scen_fronts;
+mod scen_lines;
 mod serving;
 mod session_fronts;
