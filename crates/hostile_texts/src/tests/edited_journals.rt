@@ -1,6 +1,7 @@
 //! Edited journals.
 use super::chance::{Chain, edited};
 use super::plain::journals::first_bad;
+use super::plain::words::shown;
 use desk_journal::{JournalFault, read_journal, upgrade_journal};
 use plan_table::Mode;
 use std::alloc::Global;
@@ -33,21 +34,22 @@ fn mode_of(text: &[u8]) -> Mode {
     }
 }
 
-// Compares two readings of a text, and tells the first bad line, 0 where there is none.
-fn compare(rt: &impl Abort, alloc: Global, text: &[u8]) -> usize {
+/// Compares two readings of a text, and tells the first bad line, 0 where there is none.
+pub fn compare(rt: &impl Abort, alloc: Global, text: &[u8]) -> usize {
+    let shown = shown(text);
     let fault = first_bad(rt, alloc, text).map(|line| JournalFault::BadLine { line });
     match (read_journal(alloc, text), upgrade_journal(alloc, text)) {
         (Ok(journal), Ok(upgraded)) => {
-            assert_eq!(rt; None, fault, "{text:?}");
-            assert!(rt; journal.mode() == mode_of(text), "{text:?}");
+            assert_eq!(rt; None, fault, "{shown:?}");
+            assert!(rt; journal.mode() == mode_of(text), "{shown:?}");
             let plain = second(rt, alloc, text);
-            assert_eq!(rt; upgraded.as_slice(), plain.as_slice(), "{text:?}");
+            assert!(rt; upgraded == plain, "{shown:?}");
         }
         (Err(read), Err(upgraded)) => {
-            assert_eq!(rt; Some(read), fault, "{text:?}");
-            assert_eq!(rt; Some(upgraded), fault, "{text:?}");
+            assert_eq!(rt; Some(read), fault, "{shown:?}");
+            assert_eq!(rt; Some(upgraded), fault, "{shown:?}");
         }
-        _ => panic!(rt; "one reads it and one doesn't: {text:?}"),
+        _ => panic!(rt; "one reads it and one doesn't: {shown:?}"),
     }
     match fault {
         Some(JournalFault::BadLine { line }) => line,

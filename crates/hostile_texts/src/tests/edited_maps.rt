@@ -1,6 +1,7 @@
 //! Edited maps.
 use super::chance::{Chain, edited};
 use super::plain::maps::{Chart, read};
+use super::plain::words::shown;
 use bench_reader::{MapFault, read_map};
 use grid_cells::Grid;
 use std::alloc::Global;
@@ -48,16 +49,17 @@ fn place(fault: MapFault) -> usize {
 
 // Compares two readings of a text, and tells the place of the answer.
 fn compare(rt: &impl Abort, alloc: Global, text: &[u8]) -> usize {
+    let shown = shown(text);
     match (read_map(alloc, text), read(rt, alloc, text)) {
         (Ok(grid), Ok(chart)) => {
-            assert!(rt; is_chart(rt, &grid, &chart), "{text:?}");
+            assert!(rt; is_chart(rt, &grid, &chart), "{shown:?}");
             0
         }
         (Err(fault), Err(plain)) => {
-            assert_eq!(rt; fault, plain, "{text:?}");
+            assert_eq!(rt; fault, plain, "{shown:?}");
             place(fault)
         }
-        _ => panic!(rt; "one reads it and one doesn't: {text:?}"),
+        _ => panic!(rt; "one reads it and one doesn't: {shown:?}"),
     }
 }
 

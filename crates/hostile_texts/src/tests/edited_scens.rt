@@ -1,6 +1,7 @@
 //! Edited scenarios.
 use super::chance::{Chain, edited};
 use super::plain::scens::{Errand, read};
+use super::plain::words::shown;
 use bench_reader::{ScenFault, Task, read_scen};
 use grid_cells::Size;
 use std::alloc::Global;
@@ -47,20 +48,21 @@ fn place(fault: ScenFault) -> usize {
 
 /// Compares two readings of a text, and tells the place of the answer.
 pub fn compare(rt: &impl Abort, alloc: Global, text: &[u8]) -> usize {
+    let shown = shown(text);
     let size = Size::new(WIDTH, HEIGHT).expect(rt, "a size");
     match (
         read_scen(alloc, text, size),
         read(rt, alloc, text, (WIDTH, HEIGHT)),
     ) {
         (Ok(tasks), Ok(errands)) => {
-            assert!(rt; are_errands(tasks.items(), errands.as_slice()), "{text:?}");
+            assert!(rt; are_errands(tasks.items(), errands.as_slice()), "{shown:?}");
             0
         }
         (Err(fault), Err(plain)) => {
-            assert_eq!(rt; fault, plain, "{text:?}");
+            assert_eq!(rt; fault, plain, "{shown:?}");
             place(fault)
         }
-        _ => panic!(rt; "one reads it and one doesn't: {text:?}"),
+        _ => panic!(rt; "one reads it and one doesn't: {shown:?}"),
     }
 }
 

@@ -3,6 +3,7 @@ use super::chance::{Chain, edited};
 use super::plain::hearing::hear_all;
 use super::plain::maps::read;
 use super::plain::starts::parted;
+use super::plain::words::shown;
 use super::serving::served;
 use desk_session::StartFault;
 use std::alloc::Global;
@@ -18,17 +19,18 @@ pub const GOOD: &[&str] = &[
 
 /// Asserts that a session over a map is answered as its lines say. Tells whether it began.
 pub fn compare(rt: &impl Abort, alloc: Global, text: &[u8]) -> bool {
+    let shown = shown(text);
     let (map, session) = parted(rt, alloc, text);
     let (ended, answers) = served(rt, alloc, text);
     match read(rt, alloc, map) {
         Ok(_chart) => {
             let count = hear_all(rt, alloc, session, answers.as_slice());
-            assert_eq!(rt; ended, Ok(count), "{text:?}");
+            assert_eq!(rt; ended, Ok(count), "{shown:?}");
             true
         }
         Err(fault) => {
-            assert_eq!(rt; ended, Err(StartFault::Map(fault)), "{text:?}");
-            assert!(rt; answers.is_empty(), "{text:?}");
+            assert_eq!(rt; ended, Err(StartFault::Map(fault)), "{shown:?}");
+            assert!(rt; answers.is_empty(), "{shown:?}");
             false
         }
     }

@@ -6,6 +6,7 @@ mod edited_scens;
 mod edited_sessions;
 mod fakes;
 mod long_commits;
+mod long_journals;
 mod plain;
 mod scen_fronts;
 mod scen_lines;

@@ -4,7 +4,10 @@ use super::words::pieces;
 use std::alloc::Global;
 use std::process::Abort;
 
+// The most watches of an entry, and the most edits.
 const MOST: u64 = 4_096;
+
+const MOST_ENTRIES: u64 = 1_000_000;
 
 // How many lines the heading has.
 fn heading(lines: &[&[u8]]) -> Result<usize, usize> {
@@ -91,7 +94,7 @@ fn skip(
 // How many lines the journal has with which the lines begin.
 fn body(rt: &impl Abort, alloc: Global, lines: &[&[u8]]) -> Result<usize, usize> {
     let mut index = heading(lines)?;
-    for entries in 0..1_000_001 {
+    for entries in 0..=MOST_ENTRIES {
         let Some(line) = lines.get(index) else {
             break;
         };
@@ -100,7 +103,7 @@ fn body(rt: &impl Abort, alloc: Global, lines: &[&[u8]]) -> Result<usize, usize>
         if is_end(words.as_slice(), entries) {
             return Ok(index);
         }
-        let Some(counts) = announced(words.as_slice()) else {
+        let Some(counts) = announced(words.as_slice()).filter(|_| entries < MOST_ENTRIES) else {
             return Err(index);
         };
         index = skip(rt, alloc, lines, index, counts)?;

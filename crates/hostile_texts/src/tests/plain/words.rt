@@ -20,6 +20,11 @@ pub fn lines<'a>(rt: &impl Abort, alloc: Global, text: &'a [u8]) -> Vec<&'a [u8]
     lines
 }
 
+/// As much of a text as a message shows.
+pub fn shown(text: &[u8]) -> &[u8] {
+    text.get(..1_000).unwrap_or(text)
+}
+
 fn is_blank(byte: u8) -> bool {
     byte == b' ' || byte == b'\t' || byte == b'\r'
 }
