@@ -1,5 +1,4 @@
-//! Worked rows of the desk: commits, readings and runs of calls on small maps, and how they go on a
-//! large one. It has tests alone.
+//! Worked rows of the desk: commits, readings and runs of calls on small maps. It has tests alone.
 #![tactic(auto)]
 
 #[cfg(test)]

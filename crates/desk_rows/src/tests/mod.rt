@@ -1,9 +1,8 @@
-//! Worked examples: commits of several planners, on small maps and on a large one.
+//! Worked examples: commits of several planners.
 mod build;
 mod chance;
 mod commits;
 mod indexes;
-mod large;
 mod readings;
 mod rings;
 mod rows;
