@@ -3,6 +3,7 @@ mod build;
 mod chance;
 mod commits;
 mod indexes;
+mod large;
 mod readings;
 mod rings;
 mod rows;
