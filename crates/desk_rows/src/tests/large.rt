@@ -86,7 +86,7 @@ fn tells(reading: &Reading, version: u64, settle: u32) -> bool {
         && first.settle == settle
 }
 
-// The reading of the desk.
+// Reads the desk, and checks what it is told.
 fn reads(rt: &impl Abort, desk: &mut Desk, version: u64, settle: u32) {
     let reading = desk.reading().expect(rt, "memory");
     assert!(rt; tells(&reading, version, settle));
