@@ -2,29 +2,30 @@
 //! it back step by step.
 #![tactic(auto)]
 
+mod droughts;
+
+pub use droughts::Drought;
 use std::alloc::Global;
 
-/// The greatest block that is asked for, in bytes.
+/// The greatest block that is asked for, in bytes. The next are half as great each, down to 16.
 const GREATEST: usize = 1 << 46;
 
-/// The least block that is asked for, in bytes.
-const LEAST: usize = 16;
-
-/// Takes blocks, each as great as can be had, until none of `LEAST` bytes can be had or the list
-/// has no more room. What is taken goes into the list, and comes back as the list is shortened.
+/// Takes blocks, each as great as can be had, until none of 16 bytes can be had or the list has no
+/// more room. What is taken goes into the list, and comes back as the list is shortened.
 pub fn take_all(alloc: Global, blocks: &mut Vec<Vec<u8>>) {
-    let mut size = GREATEST;
-    for _ in 0..10_000_000 {
-        if size < LEAST || blocks.len() >= blocks.capacity() {
+    for halvings in 0..43u32 {
+        take_size(alloc, blocks, GREATEST >> halvings);
+    }
+}
+
+// Takes the blocks of that size that can be had, as far as the list has room for them.
+fn take_size(alloc: Global, blocks: &mut Vec<Vec<u8>>, size: usize) {
+    for _ in blocks.len()..blocks.capacity() {
+        let Ok(block) = Vec::with_capacity(alloc, size) else {
             return;
-        }
-        match Vec::with_capacity(alloc, size) {
-            Err(_) => size /= 2,
-            Ok(block) => {
-                if blocks.push(block).is_err() {
-                    return;
-                }
-            }
+        };
+        if blocks.push(block).is_err() {
+            return;
         }
     }
 }

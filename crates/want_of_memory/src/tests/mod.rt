@@ -1,1 +1,2 @@
 mod desks;
+mod droughts;
