@@ -1,0 +1,17 @@
+mod build;
+mod edit_lists;
+mod edits;
+mod fields;
+mod grids;
+mod indexes;
+mod ledgers;
+mod maps;
+mod plain;
+mod prices;
+mod rings;
+mod scenarios;
+mod scenes;
+mod swaps;
+mod tasks;
+mod told;
+mod trials;

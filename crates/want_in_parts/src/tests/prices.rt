@@ -1,0 +1,151 @@
+//! Ledgers of costs.
+use super::build::{Place, agent, at, map, plan};
+use super::trials::{RUNS, Trial};
+use cost_ledger::CostLedger;
+use grid_cells::{Cell, Grid};
+use plan_table::Plan;
+use std::alloc::Global;
+use std::process::Abort;
+
+// Closes the cell, where the map has it.
+fn close(grid: &mut Grid, cell: Cell) {
+    if grid.size().holds(cell) {
+        grid.set(cell, false);
+    }
+}
+
+// Puts agent 0 in; none for want of memory.
+fn put(
+    rt: &impl Abort,
+    trial: &mut Trial,
+    mut ledger: CostLedger,
+    goal: Cell,
+    plan: &Plan,
+    grid: &Grid,
+) -> Option<CostLedger> {
+    let first = agent(rt, 0);
+    ledger.take(first);
+    trial.leave(rt);
+    let ledger = ledger.put(first, goal, plan, grid);
+    trial.met(rt, ledger)
+}
+
+// Whether the blocked visits are those of agent 0 at those times in the cell.
+fn visits(
+    rt: &impl Abort,
+    trial: &mut Trial,
+    ledger: &CostLedger,
+    times: &[u32],
+    cell: Cell,
+) -> bool {
+    trial.leave(rt);
+    let told = ledger.blocked_visits();
+    let told = match trial.met(rt, told) {
+        Some(told) => told,
+        None => ledger.blocked_visits().expect(rt, "memory"),
+    };
+    let first = agent(rt, 0);
+    told.items().len() == times.len()
+        && told.items().iter().zip(times).all(|(visit, time)| {
+            visit.agent == first && visit.time.number() == *time && visit.cell == cell
+        })
+}
+
+// Agent 0 ends at its goal (1,0) after 5 steps.
+fn is_at_its_goal(rt: &impl Abort, ledger: &CostLedger) -> bool {
+    let first = agent(rt, 0);
+    ledger.settle(first) == Some(5)
+        && ledger.finished(first)
+        && ledger.sum() == Some(5)
+        && ledger.makespan() == Some(5)
+        && ledger.unfinished() == 0
+}
+
+// It is to go on to (2,0), and loses no settle time.
+fn is_elsewhere(rt: &impl Abort, ledger: &CostLedger) -> bool {
+    let first = agent(rt, 0);
+    ledger.settle(first) == Some(5)
+        && !ledger.finished(first)
+        && ledger.sum().is_none()
+        && ledger.unfinished() == 1
+}
+
+fn is_empty(rt: &impl Abort, ledger: &CostLedger) -> bool {
+    let told = ledger.blocked_visits().expect(rt, "memory");
+    ledger.sum() == Some(0) && ledger.makespan() == Some(0) && told.items().is_empty()
+}
+
+const PATH: [Place; 6] = [(0, 0), (1, 0), (1, 0), (1, 0), (2, 0), (1, 0)];
+
+// Closes the cell (1,0), in the ledger too; none for want of memory.
+fn flipped(
+    rt: &impl Abort,
+    trial: &mut Trial,
+    ledger: CostLedger,
+    grid: &mut Grid,
+) -> Option<CostLedger> {
+    let middle = at(rt, 1, 0);
+    close(grid, middle);
+    trial.leave(rt);
+    let ledger = ledger.flip(middle, grid);
+    trial.met(rt, ledger)
+}
+
+fn aim_and_flip(rt: &impl Abort, alloc: Global, trial: &mut Trial) -> Option<CostLedger> {
+    let mut grid = map(rt, alloc, 3, 1);
+    let plan = plan(rt, alloc, &PATH);
+    let ledger = CostLedger::new(alloc);
+    let mut ledger = put(rt, trial, ledger, at(rt, 1, 0), &plan, &grid)?;
+    assert!(rt; is_at_its_goal(rt, &ledger));
+    trial.leave_none(rt);
+    ledger.aim(agent(rt, 0), at(rt, 2, 0));
+    trial.relieve();
+    assert!(rt; is_elsewhere(rt, &ledger));
+    let mut ledger = flipped(rt, trial, ledger, &mut grid)?;
+    assert!(rt; visits(rt, trial, &ledger, &[1, 2, 3, 5], at(rt, 1, 0)));
+    trial.leave_none(rt);
+    ledger.take(agent(rt, 0));
+    trial.relieve();
+    assert!(rt; is_empty(rt, &ledger));
+    Some(ledger)
+}
+
+#[test]
+fn costs_after_aim_and_flip(rt: HostRuntime) {
+    let alloc = rt.alloc();
+    let mut trial = Trial::begin(&rt, alloc);
+    for _ in 0..RUNS {
+        let _ = aim_and_flip(&rt, alloc, &mut trial);
+        if !trial.goes_on(&rt, 3) {
+            break;
+        }
+    }
+    let refused = trial.over(&rt, 3);
+    println!(rt; "costs_after_aim_and_flip: refused {refused:?}").expect(&rt, "print");
+}
+
+// Agent 0 goes into its goal (2,0), which is closed.
+fn into_the_closed(rt: &impl Abort, alloc: Global, trial: &mut Trial) -> Option<CostLedger> {
+    let mut grid = map(rt, alloc, 3, 1);
+    let goal = at(rt, 2, 0);
+    close(&mut grid, goal);
+    let plan = plan(rt, alloc, &[(0, 0), (1, 0), (2, 0)]);
+    let ledger = put(rt, trial, CostLedger::new(alloc), goal, &plan, &grid)?;
+    assert!(rt; visits(rt, trial, &ledger, &[2], goal));
+    assert!(rt; ledger.settle(agent(rt, 0)) == Some(2) && ledger.sum() == Some(2));
+    Some(ledger)
+}
+
+#[test]
+fn goal_cell_closed(rt: HostRuntime) {
+    let alloc = rt.alloc();
+    let mut trial = Trial::begin(&rt, alloc);
+    for _ in 0..RUNS {
+        let _ = into_the_closed(&rt, alloc, &mut trial);
+        if !trial.goes_on(&rt, 2) {
+            break;
+        }
+    }
+    let refused = trial.over(&rt, 2);
+    println!(rt; "goal_cell_closed: refused {refused:?}").expect(&rt, "print");
+}
