@@ -16,6 +16,9 @@ const MOST_CALLS: usize = 8;
 /// A script is run over and over. In each run one call, the tried one, finds so many bytes of memory
 /// and no more, and all others find enough. First that is no byte for the first call, then 16 bytes
 /// more each time, until it isn't refused; then the next call is the tried one.
+///
+/// So each growth of a call is the first refused one in some run, but for those that fit into what
+/// the call has given back: such a growth finds room wherever those before it did.
 #[derive(Drop)]
 pub struct Trial {
     drought: Drought,
