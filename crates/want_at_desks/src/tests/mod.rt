@@ -1,0 +1,12 @@
+//! Worked examples with too little memory for one of their calls. Answers are written by hand.
+mod audits;
+mod build;
+mod calls;
+mod desks;
+mod drives;
+mod journals;
+mod pieces;
+mod replays;
+mod reports;
+mod shared;
+mod wanted;
