@@ -117,32 +117,36 @@ fn refusals(
 
 // The calls that take memory are refused many times, and the others never. A commit takes some for
 // the journal, the changes and the books where they stand, a reading and the first distance for the
-// books, a snapshot for its copy.
-fn each_call_refused(rt: &impl Abort, alloc: Global, row: Row, takes: &[bool]) {
+// books, a snapshot for its copy. Tells how often each was refused.
+fn each_call_refused(rt: &impl Abort, alloc: Global, row: Row, takes: &[bool]) -> [usize; 8] {
     let mut drought = drought(rt, alloc);
-    let mut number = 0usize;
-    for takes in takes {
+    let mut counts = [0; 8];
+    for (number, takes) in takes.iter().enumerate().take(8) {
         for again in [false, true] {
             let count = refusals(rt, alloc, &mut drought, row, number, again);
             assert_eq!(rt; count > 0, *takes, "{row:?}, call {number}: {count}");
+            counts[number] = count;
         }
-        number = number.saturating_add(1);
     }
+    counts
 }
 
 #[test]
 fn stale_second_planner(rt: HostRuntime) {
-    each_call_refused(&rt, rt.alloc(), Row::StaleSecondPlanner, &[true, false]);
+    let counts = each_call_refused(&rt, rt.alloc(), Row::StaleSecondPlanner, &[true, false]);
+    println!(rt; "refused {counts:?}").expect(&rt, "print");
 }
 
 #[test]
 fn watch_makes_stale(rt: HostRuntime) {
     let takes = [true, false, true, true, true];
-    each_call_refused(&rt, rt.alloc(), Row::WatchMakesStale, &takes);
+    let counts = each_call_refused(&rt, rt.alloc(), Row::WatchMakesStale, &takes);
+    println!(rt; "refused {counts:?}").expect(&rt, "print");
 }
 
 #[test]
 fn watch_of_the_map(rt: HostRuntime) {
     let takes = [true, true, false, false, false, true, false];
-    each_call_refused(&rt, rt.alloc(), Row::WatchOfTheMap, &takes);
+    let counts = each_call_refused(&rt, rt.alloc(), Row::WatchOfTheMap, &takes);
+    println!(rt; "refused {counts:?}").expect(&rt, "print");
 }

@@ -100,8 +100,9 @@ fn refused(
     }
 }
 
-// Both the room for the answers and single calls are refused, until all calls are answered.
-fn drives(rt: &impl Abort, alloc: Global, row: Row) {
+// Both the room for the answers and single calls are refused, until all calls are answered. Tells how
+// often each was.
+fn drives(rt: &impl Abort, alloc: Global, row: Row) -> (usize, usize) {
     let mut drought = drought(rt, alloc);
     let mut without_room = 0usize;
     let mut with_refusals = 0usize;
@@ -110,7 +111,7 @@ fn drives(rt: &impl Abort, alloc: Global, row: Row) {
             None => without_room = without_room.saturating_add(1),
             Some(0) => {
                 assert!(rt; without_room > 0 && with_refusals > 0);
-                return;
+                return (without_room, with_refusals);
             }
             Some(_) => with_refusals = with_refusals.saturating_add(1),
         }
@@ -120,10 +121,12 @@ fn drives(rt: &impl Abort, alloc: Global, row: Row) {
 
 #[test]
 fn drive_with_watch_of_the_map(rt: HostRuntime) {
-    drives(&rt, rt.alloc(), Row::WatchOfTheMap);
+    let counts = drives(&rt, rt.alloc(), Row::WatchOfTheMap);
+    println!(rt; "refused {counts:?}").expect(&rt, "print");
 }
 
 #[test]
 fn drive_of_a_stale_commit(rt: HostRuntime) {
-    drives(&rt, rt.alloc(), Row::WatchMakesStale);
+    let counts = drives(&rt, rt.alloc(), Row::WatchMakesStale);
+    println!(rt; "refused {counts:?}").expect(&rt, "print");
 }

@@ -43,6 +43,7 @@ fn journal_of_one_entry(rt: HostRuntime) {
     let mut drought = drought(&rt, alloc);
     for step in 0..1_000 {
         if !is_refused(&rt, alloc, &mut drought, 16 * step) {
+            println!(rt; "refused {step}").expect(&rt, "print");
             assert!(rt; step > 10);
             return;
         }

@@ -92,6 +92,7 @@ fn refused_growth_keeps_the_report(rt: HostRuntime) {
             Some(2) => seen[2] = seen[2].saturating_add(1),
             Some(builds) => panic!(rt; "built {builds} times"),
             None => {
+                println!(rt; "refused, by builds {seen:?}").expect(&rt, "print");
                 assert!(rt; seen[1] > 0 && seen[2] > 0);
                 return;
             }

@@ -267,6 +267,7 @@ fn shared_by_one_and_shared_distance(rt: HostRuntime) {
     for goes_on in [true, false] {
         for number in 0..5 {
             let count = refusals(&rt, alloc, &mut drought, number, goes_on);
+            println!(rt; "call {number} refused {count}").expect(&rt, "print");
             assert!(rt; count > 0, "call {number}");
         }
     }
