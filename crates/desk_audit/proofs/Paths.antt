@@ -40,13 +40,14 @@ added_path moments moments' passes passes' agent path first_rest adds = record {
   passed = λ time cell early there late. adds.passed time cell (omega arith) there late;
 }
 
-pub index_is : (mode : Mode) (rows : List (ℕ × Row)) (index : Sightings) (first_rest : ℕ) → Rattle.desk_audit.specs.Filing.IsFiled index.rests → HasRests (tracks_of mode rows) index.rests → RestsFrom (tracks_of mode rows) first_rest → HasPaths index.moments index.passes rows first_rest → IsIndexOf (tracks_of mode rows) index
-index_is mode rows index first_rest filed rests from paths = record {
+pub index_is : (mode : Mode) (rows : List (ℕ × Row)) (index : Sightings) → Rattle.desk_audit.specs.Filing.IsFiled index.rests → HasRests (tracks_of mode rows) index.rests → RestsFrom (tracks_of mode rows) index.first_rest → HasPaths index.moments index.passes rows index.first_rest → IsIndexOf (tracks_of mode rows) index
+index_is mode rows index filed rests from paths = record {
   moments_filed = paths.moments_filed;
   rests_filed = filed;
   passes_filed = paths.passes_filed;
   moments = λ agent time cell is. let at = on_row mode rows agent time cell is in (paths.paths agent at.row at.live).seen time cell at.early at.there;
   rests = rests;
+  from = from;
   passes = λ agent other time cell is resting.
       let at = on_row mode rows agent time cell is in
       let begun = from other time cell resting in

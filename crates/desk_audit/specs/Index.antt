@@ -51,13 +51,14 @@ pub record HasPaths (moments passes : Table) (rows : List (ℕ × Row)) (first_r
   pub paths : (agent : ℕ) (row : Row) → row_of rows agent ≡ Some row → HasPath moments passes agent row.plan first_rest
 
 -- whoever is in a cell is filed there: on its path by cell and time, at rest by cell, and by cell alone, too,
--- where it comes to a cell in which another is at rest
+-- where it comes to a cell in which another is at rest; no rest begins before the first that is noted
 pub record IsIndexOf (fleet : Fleet) (index : Sightings) : Type 0 where
   pub moments_filed : IsFiled index.moments
   pub rests_filed : IsFiled index.rests
   pub passes_filed : IsFiled index.passes
   pub moments : (agent time : ℕ) (cell : Point) → IsOnPath fleet agent time cell → Files index.moments cell time (pass time agent)
   pub rests : HasRests fleet index.rests
+  pub from : RestsFrom fleet index.first_rest
   pub passes : (agent other time : ℕ) (cell : Point) → IsOnPath fleet agent time cell → IsAtRest fleet other time cell → Files index.passes cell 0 (pass time agent)
 
 -- the rows of a fleet's agents, and its mode

@@ -130,6 +130,9 @@ fn others_at(
 {
     let mut met = Vec::new(alloc);
     index.moments.add_others(&mut met, cell, time, agent)?;
+    if time <= index.first_rest {
+        return Ok(met);
+    }
     index.rests.add_others(&mut met, cell, 0, agent)?;
     Ok(met)
 }

@@ -21,6 +21,8 @@ pub struct Sightings {
     pub rests: Table,
     // Each agent in each cell of its path after the first of all rests has begun, by cell.
     pub passes: Table,
+    // A time before which no rest begins.
+    pub first_rest: u32,
 }
 
 impl Sightings {
@@ -40,6 +42,7 @@ impl Sightings {
             moments,
             rests,
             passes,
+            first_rest,
         })
     }
 }
