@@ -4,3 +4,4 @@ mod drills;
 mod faults;
 mod load;
 mod runs;
+mod want;
