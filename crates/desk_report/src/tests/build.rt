@@ -1,8 +1,7 @@
 //! Values for the tests: maps, plans and entries, written short.
 use crate::describe::plain_report;
 use crate::reports::{AgentLine, Report};
-use conflict_ledger::Conflict;
-use grid_cells::{Agent, Cell, Grid, List, Size, Step};
+use grid_cells::{Agent, Cell, Grid, List, Size};
 use plan_table::{Mode, Plan, Plans, Row};
 use std::alloc::Global;
 use std::test::Fail;
@@ -82,74 +81,4 @@ pub fn lines(
         })?;
     }
     Ok(List::new(lines))
-}
-
-pub fn vertex(time: u32, first: u32, second: u32, at: (u32, u32)) -> Result<Conflict, Fail> {
-    Ok(Conflict::Vertex {
-        time: Step::new(time),
-        first: agent(first)?,
-        second: agent(second)?,
-        cell: cell(at)?,
-    })
-}
-
-pub fn parked(time: u32, first: u32, second: u32, at: (u32, u32)) -> Result<Conflict, Fail> {
-    Ok(Conflict::Parked {
-        time: Step::new(time),
-        first: agent(first)?,
-        second: agent(second)?,
-        cell: cell(at)?,
-    })
-}
-
-pub fn edge(
-    time: u32,
-    first: u32,
-    second: u32,
-    at: (u32, u32),
-    next: (u32, u32),
-) -> Result<Conflict, Fail> {
-    Ok(Conflict::Edge {
-        time: Step::new(time),
-        first: agent(first)?,
-        second: agent(second)?,
-        cell: cell(at)?,
-        next: cell(next)?,
-    })
-}
-
-pub fn follow(time: u32, follower: u32, leader: u32, at: (u32, u32)) -> Result<Conflict, Fail> {
-    Ok(Conflict::Following {
-        time: Step::new(time),
-        follower: agent(follower)?,
-        leader: agent(leader)?,
-        cell: cell(at)?,
-    })
-}
-
-pub fn swap(
-    time: u32,
-    first: u32,
-    second: u32,
-    at: (u32, u32),
-    other: (u32, u32),
-) -> Result<Conflict, Fail> {
-    Ok(Conflict::Swapping {
-        time: Step::new(time),
-        first: agent(first)?,
-        second: agent(second)?,
-        cell: cell(at)?,
-        other: cell(other)?,
-    })
-}
-
-pub fn cycle(alloc: Global, time: u32, agents: &[u32]) -> Result<Conflict, Fail> {
-    let mut ring = Vec::new(alloc);
-    for number in agents {
-        ring.push(agent(*number)?)?;
-    }
-    Ok(Conflict::Cycle {
-        time: Step::new(time),
-        ring: List::new(ring),
-    })
 }

@@ -1,6 +1,6 @@
 //! Agents that leave, in mode Disappear.
-use super::build::{agent, cell, fleet, lines, parked, report, vertex};
-use grid_cells::List;
+use super::build::{agent, cell, fleet, lines, report};
+use super::entries::{Told, have_entries};
 use plan_table::Mode;
 use std::test::Fail;
 
@@ -50,22 +50,21 @@ fn two_enter_one_goal(rt: HostRuntime) -> Result<(), Fail> {
         alloc,
         &[(&[(0, 0), (1, 0)], (1, 0)), (&[(2, 0), (1, 0)], (1, 0))],
     )?;
-    let both_rest = List::new(vec![in alloc; parked(1, 0, 1, (1, 0))?]?);
-    let one_leaves = List::new(vec![in alloc; vertex(1, 0, 1, (1, 0))?]?);
-    let bounds = &[Some(1), Some(1)];
+    let both_rest = &[Told::Parked(1, 0, 1, (1, 0))];
+    let one_leaves = &[Told::Vertex(1, 0, 1, (1, 0))];
     let zero = agent(0)?;
     let one = agent(1)?;
-    assert!(rt; report(alloc, Mode::Stay, &plans, bounds)?.conflicts == both_rest);
-    assert!(rt; report(alloc, Mode::Disappear, &plans, bounds)?.conflicts == one_leaves);
+    assert!(rt; have_entries(alloc, Mode::Stay, &plans, both_rest)?);
+    assert!(rt; have_entries(alloc, Mode::Disappear, &plans, one_leaves)?);
     let right = cell((2, 0))?;
     if plans.row(one).is_some() {
         plans.set_goal(one, right);
     }
-    assert!(rt; report(alloc, Mode::Disappear, &plans, bounds)?.conflicts == one_leaves);
+    assert!(rt; have_entries(alloc, Mode::Disappear, &plans, one_leaves)?);
     let left = cell((0, 0))?;
     if plans.row(zero).is_some() {
         plans.set_goal(zero, left);
     }
-    assert!(rt; report(alloc, Mode::Disappear, &plans, bounds)?.conflicts == both_rest);
+    assert!(rt; have_entries(alloc, Mode::Disappear, &plans, both_rest)?);
     Ok(())
 }

@@ -1,6 +1,7 @@
 //! Meetings, swaps and rings, in mode Stay.
-use super::build::{agent, cycle, edge, fleet, follow, lines, parked, report, swap, vertex};
-use grid_cells::List;
+use super::build::{agent, fleet, lines, report};
+use super::entries::Told::{Cycle, Edge, Follow, Parked, Swap, Vertex};
+use super::entries::entries;
 use plan_table::Mode;
 use std::test::Fail;
 
@@ -12,8 +13,8 @@ fn meets_a_resting_agent(rt: HostRuntime) -> Result<(), Fail> {
         &[(&[(1, 0)], (1, 0)), (&[(0, 0), (1, 0), (2, 0)], (2, 0))],
     )?;
     let report = report(alloc, Mode::Stay, &plans, &[Some(0), Some(2)])?;
-    let wanted = vec![in alloc; vertex(1, 0, 1, (1, 0))?, follow(0, 1, 0, (1, 0))?]?;
-    assert!(rt; report.conflicts == List::new(wanted));
+    let wanted = entries(alloc, &[Vertex(1, 0, 1, (1, 0)), Follow(0, 1, 0, (1, 0))])?;
+    assert!(rt; report.conflicts == wanted);
     let wanted = lines(
         alloc,
         &[(0, true, Some(0), Some(0)), (2, true, Some(2), Some(0))],
@@ -36,13 +37,16 @@ fn same_goal_after_leaving_it(rt: HostRuntime) -> Result<(), Fail> {
         ],
     )?;
     let report = report(alloc, Mode::Stay, &plans, &[Some(2), Some(2)])?;
-    let wanted = vec![in alloc;
-        vertex(3, 0, 1, (1, 1))?,
-        parked(5, 0, 1, (1, 1))?,
-        follow(2, 1, 0, (1, 1))?,
-        follow(4, 1, 0, (1, 1))?,
-    ]?;
-    assert!(rt; report.conflicts == List::new(wanted));
+    let wanted = entries(
+        alloc,
+        &[
+            Vertex(3, 0, 1, (1, 1)),
+            Parked(5, 0, 1, (1, 1)),
+            Follow(2, 1, 0, (1, 1)),
+            Follow(4, 1, 0, (1, 1)),
+        ],
+    )?;
+    assert!(rt; report.conflicts == wanted);
     let wanted = lines(
         alloc,
         &[(2, true, Some(2), Some(0)), (5, true, Some(2), Some(3))],
@@ -61,12 +65,15 @@ fn swap_of_two(rt: HostRuntime) -> Result<(), Fail> {
         &[(&[(0, 0), (1, 0)], (1, 0)), (&[(1, 0), (0, 0)], (0, 0))],
     )?;
     let report = report(alloc, Mode::Stay, &plans, &[Some(1), Some(1)])?;
-    let wanted = vec![in alloc;
-        follow(0, 0, 1, (1, 0))?,
-        follow(0, 1, 0, (0, 0))?,
-        swap(0, 0, 1, (0, 0), (1, 0))?,
-    ]?;
-    assert!(rt; report.conflicts == List::new(wanted));
+    let wanted = entries(
+        alloc,
+        &[
+            Follow(0, 0, 1, (1, 0)),
+            Follow(0, 1, 0, (0, 0)),
+            Swap(0, 0, 1, (0, 0), (1, 0)),
+        ],
+    )?;
+    assert!(rt; report.conflicts == wanted);
     Ok(())
 }
 
@@ -83,14 +90,17 @@ fn ring_of_four(rt: HostRuntime) -> Result<(), Fail> {
         ],
     )?;
     let report = report(alloc, Mode::Stay, &plans, &[Some(1); 4])?;
-    let wanted = vec![in alloc;
-        follow(0, 0, 1, (1, 0))?,
-        follow(0, 1, 2, (1, 1))?,
-        follow(0, 2, 3, (0, 1))?,
-        follow(0, 3, 0, (0, 0))?,
-        cycle(alloc, 0, &[0, 1, 2, 3])?,
-    ]?;
-    assert!(rt; report.conflicts == List::new(wanted));
+    let wanted = entries(
+        alloc,
+        &[
+            Follow(0, 0, 1, (1, 0)),
+            Follow(0, 1, 2, (1, 1)),
+            Follow(0, 2, 3, (0, 1)),
+            Follow(0, 3, 0, (0, 0)),
+            Cycle(0, &[0, 1, 2, 3]),
+        ],
+    )?;
+    assert!(rt; report.conflicts == wanted);
     Ok(())
 }
 
@@ -108,27 +118,33 @@ fn ring_with_second_mover_and_again_after_a_drop(rt: HostRuntime) -> Result<(), 
         ],
     )?;
     let crowded = report(alloc, Mode::Stay, &plans, &[Some(1); 5])?;
-    let wanted = vec![in alloc;
-        vertex(0, 0, 4, (0, 0))?,
-        parked(1, 0, 4, (1, 0))?,
-        edge(0, 0, 4, (0, 0), (1, 0))?,
-        follow(0, 0, 1, (1, 0))?,
-        follow(0, 1, 2, (1, 1))?,
-        follow(0, 2, 3, (0, 1))?,
-        follow(0, 3, 0, (0, 0))?,
-        follow(0, 3, 4, (0, 0))?,
-        follow(0, 4, 1, (1, 0))?,
-    ]?;
-    assert!(rt; crowded.conflicts == List::new(wanted));
+    let wanted = entries(
+        alloc,
+        &[
+            Vertex(0, 0, 4, (0, 0)),
+            Parked(1, 0, 4, (1, 0)),
+            Edge(0, 0, 4, (0, 0), (1, 0)),
+            Follow(0, 0, 1, (1, 0)),
+            Follow(0, 1, 2, (1, 1)),
+            Follow(0, 2, 3, (0, 1)),
+            Follow(0, 3, 0, (0, 0)),
+            Follow(0, 3, 4, (0, 0)),
+            Follow(0, 4, 1, (1, 0)),
+        ],
+    )?;
+    assert!(rt; crowded.conflicts == wanted);
     assert!(rt; plans.remove(agent(4)?).is_some());
     let freed = report(alloc, Mode::Stay, &plans, &[Some(1); 4])?;
-    let wanted = vec![in alloc;
-        follow(0, 0, 1, (1, 0))?,
-        follow(0, 1, 2, (1, 1))?,
-        follow(0, 2, 3, (0, 1))?,
-        follow(0, 3, 0, (0, 0))?,
-        cycle(alloc, 0, &[0, 1, 2, 3])?,
-    ]?;
-    assert!(rt; freed.conflicts == List::new(wanted));
+    let wanted = entries(
+        alloc,
+        &[
+            Follow(0, 0, 1, (1, 0)),
+            Follow(0, 1, 2, (1, 1)),
+            Follow(0, 2, 3, (0, 1)),
+            Follow(0, 3, 0, (0, 0)),
+            Cycle(0, &[0, 1, 2, 3]),
+        ],
+    )?;
+    assert!(rt; freed.conflicts == wanted);
     Ok(())
 }
