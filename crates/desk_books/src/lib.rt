@@ -2,8 +2,10 @@
 #![tactic(auto)]
 
 mod books;
+mod builds;
 mod changing;
 mod following;
 mod former;
 
 pub use books::Books;
+pub use builds::BuildCount;

@@ -11,7 +11,7 @@ use crate::questions::{goal_asked, report};
 use crate::shelves::Shelf;
 use crate::stale::stale;
 use crate::stamps::{Stamps, with_entry};
-use desk_books::Books;
+use desk_books::{Books, BuildCount};
 use grid_cells::{Agent, Cell, OutOfMemory};
 use scene_edits::{EditsFault, Scene};
 use std::alloc::Global;
@@ -27,7 +27,7 @@ pub struct Desk {
     limit: Limit,
     stamps: Option<Stamps>,
     books: Option<Books>,
-    rebuilds: u64,
+    builds: BuildCount,
 }
 
 impl Model for Desk {
@@ -64,7 +64,7 @@ impl Desk {
             limit,
             stamps: None,
             books: None,
-            rebuilds: 0,
+            builds: BuildCount::new(),
         }
     }
 
@@ -179,7 +179,7 @@ impl Desk {
     /// How often the books of the scene were made whole, the first time counted, held at the greatest
     /// u64. A commit changes them by what it changes, so they are made anew only after want of memory.
     pub fn rebuilds(&self) -> u64 {
-        self.rebuilds
+        self.builds.number()
     }
 
     // The books of the scene: those that stand, and else new ones. None stand until they are put back.
@@ -191,7 +191,7 @@ impl Desk {
             Some(books) => Ok(books),
             None => {
                 let books = Books::of(self.alloc, &self.scene)?;
-                self.rebuilds = self.rebuilds.saturating_add(1);
+                self.builds.count_one();
                 Ok(books)
             }
         }
