@@ -23,6 +23,3 @@ pub use ledger::ConflictLedger;
 pub use pairs::{last, position};
 pub use plain::{conflicts, entries_of_pair, entries_of_two};
 pub use rings::{Movers, destination, moves_out, ring_from, ring_out_of, ring_through};
-
-#[cfg(test)]
-mod tests;

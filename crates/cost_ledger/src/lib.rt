@@ -20,6 +20,3 @@ pub use ledger::CostLedger;
 pub use search::{add_visits, blocked_visits, is_closed, is_unblocked};
 pub use totals::{costs, greatest_of, is_finished, makespan, settle_time, sum_of, sum_of_costs};
 pub use visits::Visit;
-
-#[cfg(test)]
-mod tests;

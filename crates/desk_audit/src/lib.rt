@@ -17,6 +17,3 @@ mod visits;
 pub use audits::audit;
 pub use faults::AuditFault;
 pub use gates::{Gate, NoGate};
-
-#[cfg(test)]
-mod tests;

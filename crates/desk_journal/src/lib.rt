@@ -18,6 +18,3 @@ pub use laws::{one_journal_answer, written_reads_back};
 pub use reading::read_journal;
 pub use upgrading::upgrade_journal;
 pub use writing::write_journal;
-
-#[cfg(test)]
-mod tests;

@@ -1,4 +1,4 @@
-//! Worked rows of the desk: commits, readings and runs of calls on small maps. It has tests alone.
+//! Worked rows of the desk, of journals and of shared desks, on small maps. It has tests alone.
 #![tactic(auto)]
 
 #[cfg(test)]

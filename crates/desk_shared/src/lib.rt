@@ -12,6 +12,3 @@ mod steps;
 pub use faults::{MOST_PLANNERS, PassLost, ShareFault, SplitFault};
 pub use passes::Pass;
 pub use sharing::SharedDesk;
-
-#[cfg(test)]
-mod tests;

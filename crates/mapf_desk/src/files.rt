@@ -1,10 +1,7 @@
-use crate::faults::{Fault, RunFault};
+use desk_runs::{Fault, MOST_BYTES, RunFault};
 use std::fs;
 use std::io::{ErrorKind, Read};
 use std::rt::Files;
-
-/// The most bytes that a file or a session may have.
-pub const MOST_BYTES: u64 = 1_073_741_824;
 
 /// The bytes of a file.
 ///

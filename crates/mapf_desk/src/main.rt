@@ -4,20 +4,14 @@
 
 mod auditing;
 mod drilling;
-mod faults;
 mod files;
-mod reporting;
-mod scenes;
-mod scripts;
 mod serving;
 mod streams;
-#[cfg(test)]
-mod tests;
 mod words;
 
 use auditing::audit_files;
+use desk_runs::{Fault, RunFault};
 use drilling::drill_files;
-use faults::{Fault, RunFault};
 use serving::serve_streams;
 use std::process::ExitCode;
 use std::rt::Files;

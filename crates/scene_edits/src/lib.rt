@@ -7,8 +7,6 @@ mod cell_edits;
 mod changes;
 mod differences;
 mod edits;
-#[cfg(test)]
-mod follower_tests;
 mod followers;
 mod in_order;
 mod laws;
@@ -16,8 +14,6 @@ mod path_edits;
 mod rows;
 mod scenes;
 mod tasks;
-#[cfg(test)]
-mod tests;
 mod undoing;
 
 pub use changes::{Change, Thing};

@@ -16,6 +16,3 @@ pub use index::WhereIndex;
 pub use laws::{one_fleet, records_are_counted};
 pub use moves::Move;
 pub use passings::Passing;
-
-#[cfg(test)]
-mod tests;

@@ -9,6 +9,7 @@ mod lines;
 mod pieces;
 mod replays;
 mod reports;
+mod rooms;
 mod sessions;
 mod shared;
 mod sources;

@@ -1,2 +1,1 @@
-mod desks;
 mod droughts;

@@ -1,0 +1,6 @@
+//! Planners who share a desk.
+mod build;
+mod memory;
+mod rows;
+mod speed;
+mod threads;

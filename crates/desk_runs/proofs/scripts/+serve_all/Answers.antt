@@ -1,0 +1,40 @@
+use Rattle.std.proofs.Common.{◌≡◌, ◌<◌, ◌+◌, length, arith, ap, ◌∙◌}
+use Rattle.std.proofs.lemmas.Result.{on_ok_weaker}
+use Rattle.desk_shared.specs.Passes.{Held}
+use Rattle.desk_runs.specs.Drills.{texts_of}
+use Rattle.desk_runs.specs.declared.scripts.Script.{Script}
+use Rattle.desk_runs.proofs.Numbering.{keeps_some, least_is_first, split_keeps}
+use Rattle.desk_runs.proofs.ScriptSessions.{served, served_on}
+use Rattle.desk_runs.proofs.scripts.+serve_all.Goals as goal
+
+pub unreachable-requires : goal.unreachable-requires
+unreachable-requires g t c =
+    let some : c.args.number + 1 < c.args.number + length c.args.scripts.now + 1 = omega (arith, c.in-Some.ensures.cases.1) in
+    keeps_some _ _ c.args.first.now.known c.requires.kept some c.in_default-split.ensures.fault.0
+
+pub serve_all-others-requires-clause-kept : goal.serve_all-others-requires-clause-kept
+serve_all-others-requires-clause-kept g t c κs within =
+    let planners : c.args.number + length c.args.scripts.now + 1 ≡ c.args.number + 1 + length c.in-Some.later.now + 1 = omega (arith, c.in-Some.ensures.cases.1) in
+    let some : c.args.number + 1 < c.args.number + length c.args.scripts.now + 1 = omega (arith, c.in-Some.ensures.cases.1) in
+    split_keeps _ _ _ c.args.first.now.known c.split.new.pass.known c.in-Ok.pass.known planners some c.requires.kept c.in-Ok.ensures.split
+
+pub returns-in-Ok-ended-clause-served : goal.returns-in-Ok-ended-clause-served
+returns-in-Ok-ended-clause-served g t c =
+    let some : c.args.number + 1 < c.args.number + length c.args.scripts.now + 1 = omega (arith, c.in-Some.ensures.cases.1) in
+    let split = c.in-Ok.ensures.split in
+    let joined = c.join.ensures.joined in
+    let promise = c.in-Ok-started.ensures.ok in
+    let start : c.split.new.pass.known.start ≡ c.args.first.now.known.start = λ i. (split.given i).start in
+    let before = ap (λ (p : Script). p.before.value.known) promise ∙ ap (λ (h : Held). h.known) c.of.ensures in
+    let whole = ap (λ (p : Script). p.text.now) promise ∙ c.as_slice-text.ensures.value in
+    let number : c.in-Ok.pass.known.planner ≡ c.args.number + 1 = least_is_first _ _ c.args.first.now.known _ c.requires.kept some split.number in
+    let here =
+    served c.args.first.now.known.start c.join.new.pass.known.made (c.args.number + 1) c.in-Ok-ended.field-0 c.in-Some.script.now.items c.in-Ok-started.child.promise.text.now c.in-Ok-started.child.promise.desk.now _ c.in-Ok.pass.known
+    c.join-pass.result.0.known c.join-pass.result.1 before split.start (split.made ∙ c.requires.nothing_seen) number whole c.in-Ok-ended.is c.join-pass.ensures.1 joined.others in
+    on_ok_weaker c.serve_all-others.result
+    (λ all. rw (ap texts_of c.in-Some.ensures.cases.0) (
+      here,
+      served_on c.args.first.now.known.start c.serve_all-others.new.first.known.made c.join.new.pass.known.made joined.seen (c.args.number + 1 + 1) (texts_of c.in-Some.later.now)
+          (rw start at all),
+    ))
+    c.serve_all-others.ensures.served

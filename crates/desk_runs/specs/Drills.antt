@@ -1,0 +1,92 @@
+-- A drill: the scripts of planners, served in threads of their own over one shared desk, and the last report (this project's choice).
+use Rattle.std.specs.Prelude.{◌≡◌, ◌↔◌, IsTrue, ℕ, ◌+◌, ◌<◌, ◌≤◌, Bool, true, false, List, [], ◌∷◌, ◌++◌, slice_index_or, Vec, Option, Some, None, Result, Ok, codes}
+use Rattle.std.specs.Global.{Global}
+use Rattle.std.specs.Io.KnownBytes.{Appends}
+use mathlib.Core.List.{IsPrefix}
+use Rattle.plan_table.specs.declared.tracks.Mode.{Mode}
+use Rattle.scene_edits.specs.Scene.{SceneState}
+use Rattle.desk_report.specs.LineText.{line_text}
+use Rattle.desk_report.specs.Report.{IsReportOf}
+use Rattle.desk_report.specs.declared.reports.Report.{Report}
+use Rattle.desk_core.specs.Entries.{Entry}
+use Rattle.desk_core.specs.State.{DeskState, opening, after}
+use Rattle.desk_core.specs.Replays.{IsLegal}
+use Rattle.desk_core.specs.Questions.{Shows}
+use Rattle.desk_core.specs.declared.answers.Reading.{Reading}
+use Rattle.desk_core.specs.declared.limits.TheConstants.{MOST_ENTRIES}
+use Rattle.desk_shared.specs.Passes.{PassState, Sharing, GoesOn}
+use Rattle.desk_session.specs.Answer.{answering}
+use Rattle.desk_session.specs.Session.{Serves}
+use Rattle.desk_session.specs.declared.bounds.ServeFault.{ServeFault}
+use Rattle.desk_session.specs.declared.drafts.Session.{Session}
+use Rattle.desk_session.specs.declared.drafts.Session.TheVariants.{Idle}
+use Rattle.desk_window.specs.Windows.{window_counting}
+use Rattle.desk_runs.specs.Opens.{Opens}
+use Rattle.desk_runs.specs.Reported.{reported_text}
+use Rattle.desk_runs.specs.Runs.{run_bounds}
+
+-- the pass may give away the numbers from the first up to the planners, and no others
+abbrev pub KeepsFrom : ℕ → ℕ → List Bool → Type 0
+KeepsFrom first planners unused = (number : ℕ) → (slice_index_or unused number false ≡ true → (first ≤ number) × (number < planners)) × (first ≤ number → number < planners → slice_index_or unused number false ≡ true)
+
+-- the bytes of each script
+abbrev pub texts_of : List (Vec ℕ Global) → List (List ℕ)
+texts_of [] = []
+texts_of (script ∷ later) = script.items ∷ texts_of later
+
+-- the session of a script through a pass: its answers are lawful for a window on the shared desk, from what the pass knew to what it knows then. They go out and aren't kept
+pub record IsSession (desk : Sharing) (old : PassState) (script : List ℕ) (new : PassState) (ended : Result ℕ ServeFault) : Type 0 where
+  pub left : Option (List ℕ)
+  pub last : Session
+  pub session : Serves (answering window_counting) run_bounds (Some script) left None None (Idle, record { desk = desk; pass = old }) (last, record { desk = desk; pass = new }) ended
+
+-- the script was served to its end for that planner, by a pass that began where the desk was shared. What the pass had seen at the end, all commits of the script among it, begins the entries
+pub record IsServed (start : DeskState) (entries : List Entry) (planner : ℕ) (script : List ℕ) : Type 0 where
+  pub desk : Sharing
+  pub old : PassState
+  pub new : PassState
+  pub lines : ℕ
+  pub shared : old.start ≡ start
+  pub nothing_seen : old.made ≡ []
+  pub number : old.planner ≡ planner
+  pub session : IsSession desk old script new (Ok lines)
+  pub seen : IsPrefix new.made entries
+
+-- each script was, for planners numbered from that one
+abbrev pub AreServed : DeskState → List Entry → ℕ → List (List ℕ) → Type 0
+AreServed start entries planner [] = Unit {0}
+AreServed start entries planner (script ∷ later) = IsServed start entries planner script × AreServed start entries (planner + 1) later
+
+-- whether the audit's report is the same
+abbrev pub same_line : Bool → List ℕ
+same_line true = line_text (codes "audit" ∷ codes "same" ∷ [])
+same_line false = line_text (codes "audit" ∷ codes "differs" ∷ [])
+
+-- the version, the report's text, and whether the audit's is the same
+abbrev pub drill_text : Reading → Bool → List ℕ
+drill_text reading same = reported_text reading.version reading.report ++ same_line same
+
+-- the last reading through a pass, and the desk at the end of its sharing: the reading is of a journal that goes on from what the pass had seen, and begins the desk's
+pub record IsEnd (pass : PassState) (reading : Reading) (desk : DeskState) : Type 0 where
+  pub entries : List Entry
+  pub goes_on : GoesOn pass entries
+  pub shown : Shows (after pass.start entries) reading
+  pub at_close : List Entry
+  pub seen : IsPrefix entries at_close
+  pub legal : IsLegal pass.start at_close
+  pub closed : desk ≡ after pass.start at_close
+
+-- a drill that comes to its end: every script was served on the desk of the scene, the first pass has then seen all their commits, the reading is through it, and the audit is of the desk as it was closed
+pub record Drills (map : List ℕ) (scen : Option (List ℕ)) (agents : ℕ) (mode : Mode) (scripts : List (List ℕ)) (held0 held1 : Option (List ℕ)) (same : Bool) : Type 0 where
+  pub scene : SceneState
+  pub opens : Opens map scen agents mode scene
+  pub first : PassState
+  pub shared : first.start ≡ opening scene MOST_ENTRIES
+  pub served : AreServed (opening scene MOST_ENTRIES) first.made 1 scripts
+  pub reading : Reading
+  pub desk : DeskState
+  pub ended : IsEnd first reading desk
+  pub audited : Report
+  pub told : IsReportOf desk.scene.grid desk.scene.mode desk.scene.rows audited
+  pub answer : IsTrue same ↔ (reading.report ≡ audited)
+  pub written : Appends held0 held1 (drill_text reading same)

@@ -1,0 +1,97 @@
+ghost use Rattle.std.specs.Prelude.{◌≤◌, IfOk, OnOk, option_map};
+ghost use Rattle.desk_report.specs.Report.{IsReportOf};
+ghost use Rattle.desk_runs.specs.Audits.{Audits, Replays};
+
+use crate::faults::RunFault;
+use crate::reporting::put_report;
+use crate::scenes::scene_of;
+use desk_audit::{AuditFault, NoGate, audit};
+use desk_core::{Desk, Limit, MOST_ENTRIES, replay};
+use desk_report::{Report, Sink, WriteFailed};
+use desk_session::read_journal;
+use plan_table::Mode;
+use scene_edits::Scene;
+use std::alloc::Global;
+use std::sync::Wait;
+use std::thread::Threads;
+
+/// Writes the version and the report of a desk that is opened on the scene of a map and the agents
+/// of the first tasks of a scenario, and commits a journal's entries. The report is made from
+/// scratch, by so many threads.
+///
+/// # Errors
+///
+/// The first fault of the map, the scenario, the tasks and the journal, want of memory, or a fault
+/// of the writer.
+pub fn run_audit<T: Threads + Wait, W: Sink>(
+    rt: &T,
+    alloc: Global,
+    map: &[u8],
+    scen: Option<&[u8]>,
+    agents: u32,
+    mode: Mode,
+    journal: Option<&[u8]>,
+    workers: u32,
+    writer: &mut W,
+) -> Result<(), RunFault>
+    requires workers { (1 ≤ workers) × (workers ≤ 64) }
+    ensures { OnOk result (Audits map.now (option_map (λ text. text.now) scen.entry) agents mode (option_map (λ text. text.now) journal.entry) (W.held writer.old) (W.held writer.new)) }
+{
+    let scene = match scene_of(alloc, map, scen, agents, mode) {
+        Ok(scene) => scene,
+        Err(fault) => return Err(fault),
+    };
+    let desk = match replayed(alloc, scene, journal) {
+        Ok(desk) => desk,
+        Err(fault) => return Err(fault),
+    };
+    let report = match report_of(rt, alloc, &desk, workers) {
+        Ok(report) => report,
+        Err(fault) => return Err(fault),
+    };
+    match put_report(writer, desk.version(), &report) {
+        Ok(()) => Ok(()),
+        Err(WriteFailed) => Err(RunFault::WriteFailed),
+    }
+}
+
+/// The report of the desk's scene, made from scratch by so many threads.
+///
+/// # Errors
+///
+/// Want of memory, or the start of a thread was refused.
+pub fn report_of<T: Threads + Wait>(
+    rt: &T,
+    alloc: Global,
+    desk: &Desk,
+    workers: u32,
+) -> Result<Report, RunFault>
+    requires workers { (1 ≤ workers) × (workers ≤ 64) }
+    ensures { IfOk result (IsReportOf desk.now.scene.grid desk.now.scene.mode desk.now.scene.rows) }
+{
+    match audit(rt, alloc, desk.scene(), workers, &NoGate) {
+        Ok(report) => Ok(report),
+        Err(AuditFault::BadWorkers) => unreachable!(),
+        Err(AuditFault::OutOfMemory) => Err(RunFault::OutOfMemory),
+    }
+}
+
+// The desk that is opened on the scene and commits the entries of a journal's text.
+fn replayed(alloc: Global, scene: Scene, journal: Option<&[u8]>) -> Result<Desk, RunFault>
+    ensures { IfOk result (Replays (option_map (λ text. text.now) journal.entry) scene) }
+{
+    let Some(limit) = Limit::new(MOST_ENTRIES) else {
+        unreachable!()
+    };
+    let Some(text) = journal else {
+        return Ok(Desk::open(alloc, scene, limit));
+    };
+    let journal = match read_journal(alloc, text) {
+        Ok(journal) => journal,
+        Err(fault) => return Err(RunFault::from(fault)),
+    };
+    match replay(alloc, scene, limit, journal) {
+        Ok(desk) => Ok(desk),
+        Err(fault) => Err(RunFault::from(fault)),
+    }
+}

@@ -1,0 +1,144 @@
+ghost use Rattle.std.specs.Prelude.{◌≡◌, ◌↔◌, ◌+◌, ◌≤◌, IfOk, IsTrue, OnOk, option_map};
+ghost use Rattle.std.specs.Io.KnownBytes.{Appends};
+ghost use Rattle.desk_core.specs.State.{opening};
+ghost use Rattle.desk_shared.specs.Calls.{IsFirst};
+ghost use Rattle.desk_shared.specs.Passes.{Owns};
+ghost use Rattle.desk_runs.specs.Drills.{Drills, IsEnd, drill_text, same_line, texts_of};
+
+use crate::auditing::report_of;
+use crate::faults::RunFault;
+use crate::reporting::put_report;
+use crate::scenes::scene_of;
+use crate::scripts::serve_scripts;
+use desk_audit::Gate;
+use desk_core::{Desk, Limit, MOST_ENTRIES, Reading};
+use desk_report::{Report, Sink, Word, WriteFailed, put_line};
+use desk_shared::{Pass, PassLost, ShareFault, SharedDesk};
+use grid_cells::OutOfMemory;
+use plan_table::Mode;
+use scene_edits::Scene;
+use std::alloc::Global;
+use std::sync::Wait;
+use std::thread::Threads;
+
+/// The most scripts of a drill.
+pub const MOST_SCRIPTS: usize = 255;
+
+/// Serves scripts of planners at once, each in a thread of its own, over one shared desk of the
+/// scene of a map and the agents of the first tasks of a scenario. Writes the version and the
+/// report of a last reading, and whether an audit of the closed desk, by so many threads, gives the
+/// same report, which it answers. The scripts' answers aren't kept. Each script's thread begins at
+/// the gate, with the script's number from 0.
+///
+/// # Errors
+///
+/// Too many scripts; the first fault of the map, the scenario and the tasks; the fault of the first
+/// script that has one; the desk is lost; want of memory; or a fault of the writer.
+pub fn run_drill<R: Threads + Wait + Sync, G: Gate, W: Sink>(
+    rt: &R,
+    alloc: Global,
+    map: &[u8],
+    scen: Option<&[u8]>,
+    agents: u32,
+    mode: Mode,
+    workers: u32,
+    scripts: Vec<Vec<u8>>,
+    gate: &G,
+    writer: &mut W,
+) -> Result<bool, RunFault>
+    requires workers { (1 ≤ workers) × (workers ≤ 64) }
+    ensures { IfOk result (Drills map.now (option_map (λ text. text.now) scen.entry) agents mode (texts_of scripts.items) (W.held writer.old) (W.held writer.new)) }
+{
+    if scripts.len() > MOST_SCRIPTS {
+        return Err(RunFault::TooManyScripts);
+    }
+    let scene = match scene_of(alloc, map, scen, agents, mode) {
+        Ok(scene) => scene,
+        Err(fault) => return Err(fault),
+    };
+    let (shared, first) = match share(alloc, scene, scripts.len() as u32 + 1) {
+        Ok(shared) => shared,
+        Err(fault) => return Err(fault),
+    };
+    let (first, ended) = serve_scripts(rt, alloc, &shared, first, scripts.as_slice(), gate);
+    match ended {
+        Ok(()) => {}
+        Err(fault) => return Err(fault),
+    }
+    let (reading, desk) = match end_sharing(rt, shared, first) {
+        Ok(ended) => ended,
+        Err(fault) => return Err(fault),
+    };
+    let audited = match report_of(rt, alloc, &desk, workers) {
+        Ok(report) => report,
+        Err(fault) => return Err(fault),
+    };
+    let same = is_same(&reading.report, &audited);
+    match put_drill(writer, &reading, same) {
+        Ok(()) => Ok(same),
+        Err(WriteFailed) => Err(RunFault::WriteFailed),
+    }
+}
+
+// The desk of the scene, shared by so many planners, and the first pass.
+fn share(alloc: Global, scene: Scene, planners: u32) -> Result<(SharedDesk, Pass), RunFault>
+    requires { (1 ≤ planners) × (planners ≤ 256) }
+    ensures owned { IfOk result (λ shared. Owns shared.0 shared.1) }
+    ensures first { IfOk result (λ shared. IsFirst (opening scene MOST_ENTRIES) planners shared.1.known) }
+{
+    let Some(limit) = Limit::new(MOST_ENTRIES) else {
+        unreachable!()
+    };
+    match SharedDesk::open(alloc, Desk::open(alloc, scene, limit), planners) {
+        Ok(shared) => Ok(shared),
+        Err((ShareFault::BadPlanners, _)) => unreachable!(),
+        Err((ShareFault::OutOfMemory, _)) => Err(RunFault::OutOfMemory),
+    }
+}
+
+// A last reading by the first pass, and the desk, which is shared no more.
+fn end_sharing<R: Wait>(
+    rt: &R,
+    shared: SharedDesk,
+    mut first: Pass,
+) -> Result<(Reading, Desk), RunFault>
+    requires { Owns shared first }
+    ensures { IfOk result (λ end. IsEnd first.known end.0 end.1) }
+{
+    let reading = match shared.reading(rt, &mut first) {
+        Ok(reading) => reading,
+        Err(OutOfMemory) => return Err(RunFault::OutOfMemory),
+    };
+    match shared.close(first) {
+        Ok(desk) => Ok((reading, desk)),
+        Err(PassLost) => Err(RunFault::PassLost),
+    }
+}
+
+// Whether the reports are equal.
+fn is_same(report: &Report, other: &Report) -> bool
+    ensures { IsTrue result ↔ (report.now ≡ other.now) }
+{
+    report == other
+}
+
+// Writes whether the audit's report is the same.
+fn put_same<W: Sink>(writer: &mut W, same: bool) -> Result<(), WriteFailed>
+    ensures { OnOk result (Appends (W.held writer.old) (W.held writer.new) (same_line same)) }
+{
+    if same {
+        put_line(writer, b"audit", &[Word::Text(b"same")])
+    } else {
+        put_line(writer, b"audit", &[Word::Text(b"differs")])
+    }
+}
+
+// Writes the reading, and whether the audit's report is the same.
+fn put_drill<W: Sink>(writer: &mut W, reading: &Reading, same: bool) -> Result<(), WriteFailed>
+    ensures { OnOk result (Appends (W.held writer.old) (W.held writer.new) (drill_text reading.now same)) }
+{
+    match put_report(writer, reading.version, &reading.report) {
+        Ok(()) => put_same(writer, same),
+        Err(failed) => Err(failed),
+    }
+}

@@ -1,0 +1,162 @@
+//! The scripts of a drill, each served in a thread of its own over the shared desk.
+ghost use Rattle.std.specs.Prelude.{◌≡◌, ◌≤◌, ◌<◌, ◌+◌, [], length, OnOk};
+ghost use Rattle.desk_shared.specs.Passes.{Owns};
+ghost use Rattle.desk_runs.specs.Drills.{AreServed, IsSession, KeepsFrom, texts_of};
+
+use crate::faults::RunFault;
+use crate::serving::BOUNDS;
+use desk_audit::Gate;
+use desk_report::{Sink, Tap, WriteFailed};
+use desk_session::{ServeFault, serve};
+use desk_shared::{Pass, SharedDesk};
+use desk_window::Window;
+use std::alloc::Global;
+use std::snapshot::Snapshot;
+use std::sync::Wait;
+use std::thread;
+use std::thread::{Promise, Scope, Threads};
+
+// A sink that takes all bytes and keeps none.
+#[derive(Drop)]
+struct Discard;
+
+impl Sink for Discard {
+    ghost use Rattle.std.specs.Prelude.{None, false};
+
+    ghost held = { λ _. None };
+
+    ghost broken = { λ _. false };
+
+    fn put(&mut self, bytes: &[u8]) -> Result<usize, WriteFailed> {
+        Ok(bytes.len())
+    }
+}
+
+// What the thread of a script gives back: the pass, and how the session ended.
+type Ended = (Pass, Result<u32, ServeFault>);
+
+// The script that a thread is to serve, and the pass that it is given.
+#[derive(Drop)]
+pub struct Script<'a> {
+    pub desk: &'a SharedDesk,
+    pub text: &'a [u8],
+    pub before: Snapshot<Pass>,
+}
+
+impl<'a> Promise<Ended> for Script<'a> {
+    ghost kept_by = { λ p r. Owns p.desk.now r.0 × IsSession p.desk.now p.before.value.known p.text.now r.0.known r.1 };
+}
+
+// Serves the script to its end, or to its fault. The thread begins at the gate.
+fn serve_script<R: Wait, G: Gate>(
+    rt: &R,
+    alloc: Global,
+    desk: &SharedDesk,
+    pass: Pass,
+    text: &[u8],
+    number: u32,
+    gate: &G,
+) -> Ended
+    requires { Owns desk.now pass }
+    ensures owned { Owns desk.now result.0 }
+    ensures session { IsSession desk.now pass.known text.now result.0.known result.1 }
+{
+    gate.begins(number);
+    let mut reader = Tap::new(text);
+    let mut window = Window::new(rt, desk, pass);
+    let ended = serve(alloc, &mut window, &mut reader, &mut Discard, BOUNDS);
+    (window.into_pass(), ended)
+}
+
+// Serves the scripts, the first of them as planner number + 1, each in a thread that is joined
+// before this returns, and joins their passes into the first one.
+fn serve_all<'s, E: 's, R: Threads + Wait + Sync, G: Gate>(
+    rt: &'s R,
+    alloc: Global,
+    scope: &'s Scope<'s, E>,
+    desk: &'s SharedDesk,
+    first: &mut Pass,
+    scripts: &'s [Vec<u8>],
+    number: u32,
+    gate: &'s G,
+) -> Result<(), RunFault>
+    requires owned { Owns desk.now first.old }
+    requires few { number + length scripts.now < 256 }
+    requires kept { KeepsFrom (number + 1) (number + length scripts.now + 1) first.old.known.unused }
+    requires nothing_seen { first.old.known.made ≡ [] }
+    ensures owned { Owns desk.now first.new }
+    ensures shared { first.new.known.start ≡ first.old.known.start }
+    ensures served { OnOk result (AreServed first.old.known.start first.new.known.made (number + 1) (texts_of scripts.now)) }
+{
+    let Some((script, later)) = scripts.split_first() else {
+        return Ok(());
+    };
+    let Ok(pass) = desk.split(first) else {
+        unreachable!()
+    };
+    let text = script.as_slice();
+    let promise = Script {
+        desk,
+        text,
+        before: Snapshot::of(&pass),
+    };
+    let started = scope.spawn_with(
+        promise,
+        move || -> Ended
+            requires { Owns desk.now pass }
+            ensures owned { Owns desk.entry.now result.0 }
+            ensures session { IsSession desk.entry.now pass.known text.entry.now result.0.known result.1 }
+        { serve_script(rt, alloc, desk, pass, text, number, gate) },
+    );
+    let Ok(child) = started else {
+        return Err(RunFault::OutOfMemory);
+    };
+    let others = serve_all(rt, alloc, scope, desk, first, later, number + 1, gate);
+    let (pass, ended) = child.join(rt);
+    desk.join(first, pass);
+    match ended {
+        Ok(_) => others,
+        Err(fault) => Err(RunFault::from(fault)),
+    }
+}
+
+/// Serves the scripts, the first as planner 1, each in a thread of its own that begins at the gate
+/// with the script's number from 0. The threads and their passes are joined into the first pass.
+///
+/// # Errors
+///
+/// The fault of the first script that has one, or the start of a thread was refused.
+pub fn serve_scripts<R: Threads + Wait + Sync, G: Gate>(
+    rt: &R,
+    alloc: Global,
+    desk: &SharedDesk,
+    first: Pass,
+    scripts: &[Vec<u8>],
+    gate: &G,
+) -> (Pass, Result<(), RunFault>)
+    requires owned { Owns desk.now first }
+    requires few { length scripts.now < 256 }
+    requires kept { KeepsFrom 1 (length scripts.now + 1) first.known.unused }
+    requires nothing_seen { first.known.made ≡ [] }
+    ensures owned { Owns desk.now result.0 }
+    ensures shared { result.0.known.start ≡ first.known.start }
+    ensures served { OnOk result.1 (AreServed first.known.start result.0.known.made 1 (texts_of scripts.now)) }
+{
+    thread::scope(
+        thread::scope_env(),
+        rt,
+        move |scope| -> (Pass, Result<(), RunFault>)
+            requires owned { Owns desk.now first }
+            requires few { length scripts.now < 256 }
+            requires kept { KeepsFrom 1 (length scripts.now + 1) first.known.unused }
+            requires nothing_seen { first.known.made ≡ [] }
+            ensures owned { Owns desk.entry.now result.0 }
+            ensures shared { result.0.known.start ≡ first.known.start }
+            ensures served { OnOk result.1 (AreServed first.known.start result.0.known.made 1 (texts_of scripts.entry.now)) }
+        {
+            let mut first = first;
+            let ended = serve_all(rt, alloc, scope, desk, &mut first, scripts, 0, gate);
+            (first, ended)
+        },
+    )
+}

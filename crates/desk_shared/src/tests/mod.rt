@@ -1,5 +1,0 @@
-mod build;
-mod memory;
-mod rows;
-mod speed;
-mod threads;

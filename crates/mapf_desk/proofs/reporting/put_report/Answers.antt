@@ -1,5 +1,0 @@
-use Rattle.std.proofs.KnownBytes.{Appends-trans}
-use Rattle.mapf_desk.proofs.reporting.put_report.Goals as goal
-
-pub returns-in-Ok-write_report : goal.returns-in-Ok-write_report
-returns-in-Ok-write_report g c = Appends-trans _ _ _ _ _ c.in-Ok.ensures.ok c.in-Ok-write_report.ensures.ok

@@ -1,0 +1,5 @@
+//! Worked rows of scenes and their edits. It has tests alone.
+#![tactic(auto)]
+
+#[cfg(test)]
+mod tests;

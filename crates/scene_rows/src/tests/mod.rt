@@ -1,0 +1,3 @@
+//! Worked examples, drawn by hand.
+mod edits;
+mod followers;
