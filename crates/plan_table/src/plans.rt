@@ -65,7 +65,8 @@ impl Plans {
 
     /// The agent at that rank, from 0, in the order of the agents.
     pub fn agent_at(&self, rank: u32) -> Option<Agent>
-        ensures { result ≡ slice_get (agents_of self.now.rows) rank }
+        ensures is { result ≡ slice_get (agents_of self.now.rows) rank }
+        ensures by_agent { IsByAgent self.now.rows }
     {
         let rank = rank as usize;
         if rank < self.rows.len() {
@@ -100,6 +101,7 @@ impl Plans {
         requires room { 0 < self.old.room }
         ensures row { ChangesRow self.old.rows self.new.rows agent (Some row) }
         ensures room { self.new.room + 1 ≡ self.old.room }
+        ensures by_agent { IsByAgent self.old.rows × IsByAgent self.new.rows }
     {
         let _number = agent.number();
         match self.search(agent) {
@@ -117,6 +119,7 @@ impl Plans {
         ensures gone { ChangesRow self.old.rows self.new.rows agent None }
         ensures room { OnSome result (self.new.room ≡ self.old.room + 1) }
         ensures none { IfNone result (self.new ≡ self.old) }
+        ensures by_agent { IsByAgent self.old.rows × IsByAgent self.new.rows }
     {
         match self.search(agent) {
             Ok(at) => {
@@ -133,6 +136,7 @@ impl Plans {
         ensures changed { IfSome (row_of self.old.rows agent) (λ row. ChangesRow self.old.rows self.new.rows agent (Some (record row { goal = goal }))) }
         ensures before { IfSome (row_of self.old.rows agent) (λ row. result ≡ row.goal) }
         ensures room { self.new.room ≡ self.old.room }
+        ensures by_agent { IsByAgent self.old.rows × IsByAgent self.new.rows }
     {
         match self.search(agent) {
             Ok(at) => {
@@ -150,6 +154,7 @@ impl Plans {
         ensures changed { IfSome (row_of self.old.rows agent) (λ row. ChangesRow self.old.rows self.new.rows agent (Some (record row { plan = plan }))) }
         ensures before { IfSome (row_of self.old.rows agent) (λ row. result ≡ row.plan) }
         ensures room { self.new.room ≡ self.old.room }
+        ensures by_agent { IsByAgent self.old.rows × IsByAgent self.new.rows }
     {
         match self.search(agent) {
             Ok(at) => put_plan(&mut self.rows, at, plan),
