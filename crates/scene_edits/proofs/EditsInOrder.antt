@@ -75,4 +75,4 @@ first_fault start edits done scene room index edit why way there fault = record 
 pub all_refused : (start scene same new : SceneState) (edits : List Edit) (done : List Change) (room index : ℕ) (edit : Edit) (fault : ApplyFault) → Underway start (take index edits) done scene room → slice_get edits index ≡ Some edit → Applied scene edit (Err fault) same → new ≡ undone_all same done → AllApplied start edits (Err (fault_at index fault)) new
 all_refused start scene same new edits done room index edit (Fault why) way there (fault, is) undoes =
     (first_fault start edits done scene room index edit why way there fault, undoes ∙ ap (λ s. undone_all s done) is ∙ way.back)
-all_refused start scene same new edits done room index edit OutOfMemory way there is undoes = undoes ∙ ap (λ s. undone_all s done) is ∙ way.back
+all_refused start scene same new edits done room index edit OutOfMemory way there (makes, is) undoes = undoes ∙ ap (λ s. undone_all s done) is ∙ way.back

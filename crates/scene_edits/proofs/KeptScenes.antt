@@ -154,4 +154,4 @@ edits_keep_scenes_holds scene (Close cell) is_scene allowed = record { by_agent 
 pub applied_keeps : (old : SceneState) (edit : Edit) (result : Result Change ApplyFault) (new : SceneState) → IsScene old → Applied old edit result new → IsScene new
 applied_keeps old edit (Ok change) new is_scene (allowed, told, is) = subst IsScene (sym is) (edits_keep_scenes_holds old edit is_scene allowed)
 applied_keeps old edit (Err (Fault fault)) new is_scene (told, is) = subst IsScene (sym is) is_scene
-applied_keeps old edit (Err OutOfMemory) new is_scene is = subst IsScene (sym is) is_scene
+applied_keeps old edit (Err OutOfMemory) new is_scene (makes, is) = subst IsScene (sym is) is_scene

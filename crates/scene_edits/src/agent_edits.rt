@@ -32,7 +32,6 @@ impl Board {
         let plan = resting_at(self.alloc, start)?;
         self.plans.make_room()?;
         self.plans.insert(agent, Row { goal, plan });
-        let _count = self.plans.count();
         Ok(Change::Added { agent })
     }
 
@@ -40,13 +39,9 @@ impl Board {
         ensures applied { Applied (scene_of self.old) (Edit.Drop agent) result (scene_of self.new) }
         ensures room { KeepsRoom self.old.plans.room result self.new.plans.room }
     {
-        let _count = self.plans.count();
         match self.plans.remove(agent) {
             None => Err(ApplyFault::Fault(EditFault::UnknownAgent)),
-            Some(row) => {
-                let _count = self.plans.count();
-                Ok(Change::Dropped { agent, row })
-            }
+            Some(row) => Ok(Change::Dropped { agent, row }),
         }
     }
 
@@ -54,7 +49,6 @@ impl Board {
         ensures applied { Applied (scene_of self.old) (Edit.Goal agent goal) result (scene_of self.new) }
         ensures room { KeepsRoom self.old.plans.room result self.new.plans.room }
     {
-        let _count = self.plans.count();
         if self.plans.row(agent).is_none() {
             return Err(ApplyFault::Fault(EditFault::UnknownAgent));
         }
@@ -62,7 +56,6 @@ impl Board {
             return Err(ApplyFault::Fault(EditFault::OutOfMap));
         }
         let old_goal = self.plans.set_goal(agent, goal);
-        let _count = self.plans.count();
         Ok(Change::Aimed { agent, old_goal })
     }
 }

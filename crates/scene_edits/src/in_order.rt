@@ -1,4 +1,4 @@
-ghost use Rattle.std.specs.Prelude.{◌≡◌, ◌+◌, ◌<◌, ◌≤◌, [], ◌∷◌, ◌++◌, IfOk, vec_len, vec_capacity};
+ghost use Rattle.std.specs.Prelude.{◌≡◌, ◌+◌, ◌<◌, ◌≤◌, [], ◌∷◌, ◌++◌, IfOk, IsOk, vec_len, vec_capacity};
 ghost use Rattle.scene_edits.specs.Scene.{IsScene};
 ghost use Rattle.scene_edits.specs.Answers.{Applied, AllApplied, fault_at};
 ghost use Rattle.scene_edits.specs.Board.{scene_of, room_left, KeepsRoom};
@@ -28,6 +28,7 @@ impl Board {
         requires scene { IsScene (scene_of self.old) }
         ensures applied { AllApplied (scene_of self.old) edits.now result (scene_of self.new) }
         ensures scene { IsScene (scene_of self.new) }
+        ensures empty { edits.now ≡ [] → IsOk result }
         ensures room { IfOk result (λ changes. room_left changes ≤ self.new.plans.room) }
     {
         let Ok(mut done) = Vec::with_capacity(self.alloc, edits.len()) else {

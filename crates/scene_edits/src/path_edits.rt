@@ -88,7 +88,6 @@ impl Board {
         ensures edited { scene_of self.new ≡ record (scene_of self.old) { rows = with_changed self.old.plans.rows agent (λ row. record row { plan = plan }) } }
         ensures room { self.new.plans.room ≡ self.old.plans.room }
     {
-        let _count = self.plans.count();
         let (after, since) = match self.plans.row(agent) {
             None => unreachable!(),
             Some(row) => {
@@ -101,7 +100,6 @@ impl Board {
             }
         };
         let old_plan = self.plans.set_plan(agent, after.plan);
-        let _count = self.plans.count();
         Change::Moved {
             agent,
             old_plan,

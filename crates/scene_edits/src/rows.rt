@@ -9,10 +9,8 @@ pub(crate) fn append_row(plans: &mut Plans, agent: Agent, row: Row) -> Result<()
     requires above { All (λ entry. entry.0 < agent) plans.old.rows }
     ensures { OnOk result (plans.new.rows ≡ plans.old.rows ++ (agent, row) ∷ []) }
 {
-    let _count = plans.count();
     plans.make_room()?;
     plans.insert(agent, row);
-    let _count = plans.count();
     Ok(())
 }
 

@@ -1,4 +1,4 @@
-ghost use Rattle.std.specs.Prelude.{◌≡◌, IfOk, []};
+ghost use Rattle.std.specs.Prelude.{◌≡◌, IfOk, IsOk, []};
 ghost use Rattle.scene_edits.specs.Scene.{SceneState, IsScene};
 ghost use Rattle.scene_edits.specs.Board.{scene_of};
 ghost use Rattle.scene_edits.specs.Answers.{Applied, AllApplied};
@@ -117,7 +117,8 @@ impl Scene {
     /// The first fault of the first edit that has one, with the edit's index from 0, or want of
     /// memory.
     pub fn apply_all(&mut self, edits: &[Edit]) -> Result<List<Change>, EditsFault>
-        ensures { AllApplied self.old edits.now result self.new }
+        ensures applied { AllApplied self.old edits.now result self.new }
+        ensures empty { edits.now ≡ [] → IsOk result }
     {
         self.board.apply_all(edits)
     }

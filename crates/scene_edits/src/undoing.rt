@@ -24,19 +24,15 @@ impl Board {
         ensures undone { scene_of self.new ≡ undone (scene_of self.old) change }
         ensures room { (room : ℕ) → room_after room change ≤ self.old.plans.room → room ≤ self.new.plans.room }
     {
-        let _count = self.plans.count();
         match change {
             Change::Added { agent } => {
                 let _row = self.plans.remove(agent);
-                let _count = self.plans.count();
             }
             Change::Dropped { agent, row } => {
                 self.plans.insert(agent, row);
-                let _count = self.plans.count();
             }
             Change::Aimed { agent, old_goal } => {
                 let _goal = self.plans.set_goal(agent, old_goal);
-                let _count = self.plans.count();
             }
             Change::Moved {
                 agent,
@@ -44,7 +40,6 @@ impl Board {
                 ..
             } => {
                 let _plan = self.plans.set_plan(agent, old_plan);
-                let _count = self.plans.count();
             }
             Change::Flipped { cell } => {
                 let free = self.grid.is_open(cell);

@@ -12,4 +12,4 @@ returns-clause-applied c =
     let changes : ChangesRow c.args.self.now.plans.rows c.insert.new.self.rows c.args.agent (Some (record { goal = c.args.goal; plan = c.args.start ∷ [] })) =
     subst (λ (rows : List (ℕ × Row)). ChangesRow rows c.insert.new.self.rows c.args.agent (Some (record { goal = c.args.goal; plan = c.args.start ∷ [] }))) c.make_room.ensures.rows
     (subst (λ (plan : List Point). ChangesRow c.make_room.new.self.rows c.insert.new.self.rows c.args.agent (Some (record { goal = c.args.goal; plan = plan }))) plan c.insert.ensures.row) in
-    added (scene_of c.args.self.now) c.args.agent c.args.start c.args.goal c.insert.new.self.rows (search rules) (omega arith) (search rules) c.count.ensures.by_agent c.count-count.ensures.by_agent changes
+    added (scene_of c.args.self.now) c.args.agent c.args.start c.args.goal c.insert.new.self.rows (search rules) (omega arith) (search rules) c.count.ensures.by_agent c.insert.ensures.by_agent.1 changes
