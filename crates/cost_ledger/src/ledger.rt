@@ -141,7 +141,8 @@ impl CostLedger {
 
     /// The agent's settle time in steps, if it is in it.
     pub fn settle(&self, agent: Agent) -> Option<u32>
-        ensures { IsSettleOf self.now.rows agent result }
+        ensures is { IsSettleOf self.now.rows agent result }
+        ensures by_agent { IsByAgent self.now.rows }
     {
         match self.rows.row(agent) {
             Some(row) => Some(settle_time(&row.plan)),
@@ -151,7 +152,8 @@ impl CostLedger {
 
     /// Whether the agent is in it and comes to rest in its goal.
     pub fn finished(&self, agent: Agent) -> bool
-        ensures { IsTrue result ↔ IsFinishedIn self.now.rows agent }
+        ensures is { IsTrue result ↔ IsFinishedIn self.now.rows agent }
+        ensures by_agent { IsByAgent self.now.rows }
     {
         match self.rows.row(agent) {
             Some(row) => is_finished(row),
@@ -161,7 +163,8 @@ impl CostLedger {
 
     /// The sum of the costs in steps, if every agent is finished.
     pub fn sum(&self) -> Option<u64>
-        ensures { IsSumOfCosts self.now.rows result }
+        ensures is { IsSumOfCosts self.now.rows result }
+        ensures by_agent { IsByAgent self.now.rows }
     {
         if self.elsewhere == 0 {
             Some(self.total)
@@ -172,7 +175,8 @@ impl CostLedger {
 
     /// The greatest of the costs in steps, if every agent is finished.
     pub fn makespan(&self) -> Option<u32>
-        ensures { IsMakespan self.now.rows result }
+        ensures is { IsMakespan self.now.rows result }
+        ensures by_agent { IsByAgent self.now.rows }
     {
         if self.elsewhere == 0 {
             Some(self.rests.greatest())
@@ -183,7 +187,8 @@ impl CostLedger {
 
     /// How many agents aren't finished.
     pub fn unfinished(&self) -> u32
-        ensures { IsUnfinishedCount self.now.rows result }
+        ensures is { IsUnfinishedCount self.now.rows result }
+        ensures by_agent { IsByAgent self.now.rows }
     {
         self.elsewhere
     }
@@ -192,6 +197,7 @@ impl CostLedger {
     pub fn blocked_visits(&self) -> Result<List<Visit>, OutOfMemory>
         ensures is { IfOk result (λ visits. visits ≡ self.now.visits) }
         ensures blocked { IfOk result (λ visits. (grid : Chart) → StandsFor self.now grid → AreVisits grid self.now.rows visits) }
+        ensures by_agent { IsByAgent self.now.rows }
     {
         self.blocked.listed(self.alloc)
     }
