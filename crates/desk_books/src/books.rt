@@ -60,7 +60,8 @@ impl Books {
         Ok(books)
     }
 
-    /// Takes in what edits changed; `scene` is the edited scene. The cost follows the changes.
+    /// Takes in what edits changed; `scene` is the edited scene. It visits the field of every goal,
+    /// and of the rest what the changes name.
     ///
     /// # Errors
     ///

@@ -46,8 +46,8 @@ impl<'a> Former<'a> {
     }
 }
 
-/// The agents that the changes name, in their order, with their rows before the changes; `plans`
-/// is the table after them. An agent that isn't among them has the row that it had.
+/// Agents that the changes name, in the order of the agents, with their rows before the changes;
+/// `plans` is the table after them. An agent that isn't among them has the row that it had.
 pub fn formers<'a>(
     alloc: Global,
     changes: &'a [Change],

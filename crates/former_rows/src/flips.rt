@@ -8,8 +8,8 @@ use grid_cells::{Cell, OutOfMemory};
 use scene_edits::Change;
 use std::alloc::Global;
 
-/// The cells that the changes opened or closed, in the order of the changes: each cell of the map
-/// whose state before them isn't the state after them is among these.
+/// Cells that the changes opened or closed: each cell of the map whose state before them isn't the
+/// state after them is among these.
 pub fn flipped(alloc: Global, changes: &[Change]) -> Result<Vec<Cell>, OutOfMemory>
     ensures flips { IfOk result (λ cells. (before : SceneState) (edits : List Edit) → IsScene before → AreAllowed before edits → AreChanges before edits changes.now → HoldFlips before.grid (edited_all before edits).grid cells.items) }
     ensures named { IfOk result (λ cells. All (λ cell. Contains changes.now (Change.Flipped cell)) cells.items) }
