@@ -39,8 +39,8 @@ recommits : (desk : DeskState) (entries : List Entry) (result : Result DeskState
 recommits desk entries (Ok new) legal made = inl (ap Ok made.1)
 recommits desk entries (Err ModeDiffers) legal made = absurd made
 recommits desk entries (Err (Refused number why)) legal made =
-    let accepts = accepted_at desk entries (number - 1) made.entry legal made.there in
-    absurd (made.remembered (accepted_only (after desk (take (number - 1) entries)) made.entry why accepts made.refused))
+    let accepts = accepted_at desk entries (number - 1) made.0.entry legal made.0.there in
+    absurd (made.1 (accepted_only (after desk (take (number - 1) entries)) made.0.entry why accepts made.0.refused))
 recommits desk entries (Err OutOfMemory) legal made = inr refl
 
 pub legal_journals_replay_holds : LegalJournalsReplay

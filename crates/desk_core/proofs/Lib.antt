@@ -7,3 +7,4 @@ pub mod Replaying
 pub mod OneAnswer
 pub mod LegalJournals
 pub mod Refusing
+pub mod Headline

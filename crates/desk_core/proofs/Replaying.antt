@@ -1,5 +1,5 @@
 -- Entries committed one after the other.
-use Rattle.std.proofs.Common.{◌≡◌, ◌≢◌, ◌+◌, ◌-◌, List, [], ◌∷◌, ◌++◌, length, take, Some, Err, refl, sym, ap, subst, ◌∙◌, arith}
+use Rattle.std.proofs.Common.{◌≡◌, ◌+◌, ◌-◌, List, [], ◌∷◌, ◌++◌, length, take, Some, Err, refl, sym, ap, subst, ◌∙◌, arith}
 use Rattle.std.specs.List.{slice_get}
 use Rattle.desk_core.specs.Entries.{Entry}
 use Rattle.desk_core.specs.State.{DeskState, grown, after}
@@ -24,8 +24,8 @@ take-front : (done rest : List Entry) → take (length done) (done ++ rest) ≡ 
 take-front [] rest = refl
 take-front (first ∷ done) rest = ap (λ later. first ∷ later) (take-front done rest)
 
-first_refused : (desk : DeskState) (done rest entries : List Entry) (entry : Entry) (why : Refusal) → done ++ entry ∷ rest ≡ entries → IsLegal desk done → Refuses (after desk done) entry why → why ≢ OutOfMemory → IsFirstRefused desk entries (length done + 1) why
-first_refused desk done rest entries entry why all legal refuses remembered =
+first_refused : (desk : DeskState) (done rest entries : List Entry) (entry : Entry) (why : Refusal) → done ++ entry ∷ rest ≡ entries → IsLegal desk done → Refuses (after desk done) entry why → IsFirstRefused desk entries (length done + 1) why
+first_refused desk done rest entries entry why all legal refuses =
     let back : length done + 1 - 1 ≡ length done = omega arith in
     let front : take (length done + 1 - 1) entries ≡ done = ap (λ n. take n entries) back ∙ ap (λ es. take (length done) es) (sym all) ∙ take-front done (entry ∷ rest) in
     record {
@@ -34,14 +34,13 @@ first_refused desk done rest entries entry why all legal refuses remembered =
       there = ap (λ n. slice_get entries n) back ∙ ap (λ es. slice_get es (length done)) (sym all) ∙ slice_get-middle done entry rest;
       before = subst (IsLegal desk) (sym front) legal;
       refused = subst (λ es. Refuses (after desk es) entry why) (sym front) refuses;
-      remembered = remembered;
     }
 
 -- what comes of an entry that is refused
 pub recommits_refused : (desk : DeskState) (done rest entries : List Entry) (entry : Entry) (why : Refusal) → done ++ entry ∷ rest ≡ entries → IsLegal desk done → Refuses (after desk done) entry why → Recommits desk entries (Err (fault_of (length done + 1) why))
-recommits_refused desk done rest entries entry (JournalFull limit) all legal refuses = first_refused desk done rest entries entry (JournalFull limit) all legal refuses (λ e. cc)
-recommits_refused desk done rest entries entry (Ahead now) all legal refuses = first_refused desk done rest entries entry (Ahead now) all legal refuses (λ e. cc)
-recommits_refused desk done rest entries entry NoEdits all legal refuses = first_refused desk done rest entries entry NoEdits all legal refuses (λ e. cc)
-recommits_refused desk done rest entries entry (Stale now thing at) all legal refuses = first_refused desk done rest entries entry (Stale now thing at) all legal refuses (λ e. cc)
-recommits_refused desk done rest entries entry (Faulty index fault) all legal refuses = first_refused desk done rest entries entry (Faulty index fault) all legal refuses (λ e. cc)
-recommits_refused desk done rest entries entry OutOfMemory all legal refuses = tt
+recommits_refused desk done rest entries entry (JournalFull limit) all legal refuses = (first_refused desk done rest entries entry (JournalFull limit) all legal refuses, λ e. cc)
+recommits_refused desk done rest entries entry (Ahead now) all legal refuses = (first_refused desk done rest entries entry (Ahead now) all legal refuses, λ e. cc)
+recommits_refused desk done rest entries entry NoEdits all legal refuses = (first_refused desk done rest entries entry NoEdits all legal refuses, λ e. cc)
+recommits_refused desk done rest entries entry (Stale now thing at) all legal refuses = (first_refused desk done rest entries entry (Stale now thing at) all legal refuses, λ e. cc)
+recommits_refused desk done rest entries entry (Faulty index fault) all legal refuses = (first_refused desk done rest entries entry (Faulty index fault) all legal refuses, λ e. cc)
+recommits_refused desk done rest entries entry OutOfMemory all legal refuses = (length done + 1, first_refused desk done rest entries entry OutOfMemory all legal refuses)

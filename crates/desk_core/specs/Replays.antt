@@ -27,19 +27,18 @@ pub record IsFirstRefused (desk : DeskState) (entries : List Entry) (number : �
   pub there : slice_get entries (number - 1) ≡ Some entry
   pub before : IsLegal desk (take (number - 1) entries)
   pub refused : Refuses (after desk (take (number - 1) entries)) entry reason
-  pub remembered : reason ≢ why.OutOfMemory
 
 -- the fault of an entry that was refused
 abbrev pub fault_of : ℕ → Refusal → ReplayFault
 fault_of number why.OutOfMemory = OutOfMemory
 fault_of number reason = Refused number reason
 
--- what comes of entries at a desk
+-- what comes of entries at a desk; for want of memory it refuses none but an entry that the first four reasons let pass
 abbrev pub Recommits : DeskState → List Entry → Result DeskState ReplayFault → Type 0
 Recommits old entries (Ok new) = IsLegal old entries × (new ≡ after old entries)
 Recommits old entries (Err ModeDiffers) = ⊥
-Recommits old entries (Err (Refused number reason)) = IsFirstRefused old entries number reason
-Recommits old entries (Err OutOfMemory) = Unit {0}
+Recommits old entries (Err (Refused number reason)) = IsFirstRefused old entries number reason × (reason ≢ why.OutOfMemory)
+Recommits old entries (Err OutOfMemory) = (number : ℕ) × IsFirstRefused old entries number why.OutOfMemory
 
 -- what comes of a journal at a scene under a limit: its entries are committed where the modes are the same
 abbrev pub IsReplay : SceneState → ℕ → Log → Result DeskState ReplayFault → Type 0

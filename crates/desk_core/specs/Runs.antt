@@ -1,5 +1,6 @@
 -- One call of the desk, and runs of calls.
-use Rattle.std.specs.Prelude.{◌≡◌, List, [], ◌∷◌, Ok, Err}
+use Rattle.std.specs.Prelude.{◌≡◌, List, [], ◌∷◌, ◌++◌, Ok, Err}
+use Rattle.desk_core.specs.Entries.{Entry}
 use Rattle.desk_core.specs.State.{DeskState}
 use Rattle.desk_core.specs.Commits.{Committed}
 use Rattle.desk_core.specs.Questions.{Shows, Tells, Copies}
@@ -29,3 +30,14 @@ IsRun old [] [] new = new ≡ old
 IsRun old [] (answer ∷ answers) new = ⊥
 IsRun old (asked ∷ calls) [] new = ⊥
 IsRun old (asked ∷ calls) (answer ∷ answers) new = (between : DeskState) × IsCall old asked answer between × IsRun between calls answers new
+
+-- the commit of a call, if it was accepted
+abbrev pub accepted_commit : Call → Answer → List Entry
+accepted_commit (call.Commit commit) (Done version) = commit ∷ []
+accepted_commit asked other = []
+
+-- the commits of calls that were accepted, in order
+abbrev pub accepted_commits : List Call → List Answer → List Entry
+accepted_commits [] answers = []
+accepted_commits (asked ∷ calls) [] = []
+accepted_commits (asked ∷ calls) (answer ∷ answers) = accepted_commit asked answer ++ accepted_commits calls answers

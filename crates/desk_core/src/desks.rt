@@ -1,4 +1,4 @@
-ghost use Rattle.std.specs.Prelude.{◌≡◌, ◌≤◌, IfOk, IfSome, IfNone};
+ghost use Rattle.std.specs.Prelude.{◌≡◌, ◌≤◌, length, IfOk, IfSome, IfNone};
 ghost use Rattle.desk_core.specs.State.{opening, version_of};
 ghost use Rattle.desk_core.specs.Commits.{IsCurrent, Refuses, Committed};
 ghost use Rattle.desk_core.specs.Questions.{Shows, Tells, Copies};
@@ -85,7 +85,8 @@ impl Desk {
 
     /// The accepted commits, in their order. Entries are numbered from 1.
     pub fn journal(&self) -> &[Commit]
-        ensures { result.now ≡ self.now.journal }
+        ensures is { result.now ≡ self.now.journal }
+        ensures within { length result.now ≤ self.now.limit }
     {
         &self.journal
     }

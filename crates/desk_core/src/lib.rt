@@ -20,6 +20,8 @@ pub use cost_ledger::Visit;
 pub use desks::Desk;
 pub use driving::drive;
 pub use journals::{Journal, ReplayFault, replay};
-pub use laws::{legal_journals_replay, one_answer_to_a_commit};
+pub use laws::{
+    entries_make_the_scene, legal_journals_replay, one_answer_to_a_commit, runs_are_legal,
+};
 pub use limits::{Limit, MOST_ENTRIES};
 pub use scene_edits::{ApplyFault, Change, Edit, EditFault, EditsFault, Scene, Thing};
