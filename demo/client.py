@@ -1,0 +1,54 @@
+#!/usr/bin/env python3
+"""Drives a live desk from a program: client.py DESK MAP, as client.py ./desk demo/corridor.map
+
+It sends a line, reads its answer, and goes on by what it read. Each line is answered by one line, but for blank lines
+and remarks, which have no answer, and `report`, whose answer ends with the line `end`.
+"""
+import subprocess
+import sys
+
+
+class Desk:
+    """A desk in a process of its own."""
+
+    def __init__(self, *words):
+        self.process = subprocess.Popen(words, stdin=subprocess.PIPE, stdout=subprocess.PIPE, text=True, bufsize=1)
+
+    def ask(self, line):
+        """The answer to a line; of `report` all its lines."""
+        self.process.stdin.write(line + "\n")
+        answer = [self.process.stdout.readline().rstrip("\n")]
+        while line == "report" and answer[-1] not in ("end", "", "refused memory"):
+            answer.append(self.process.stdout.readline().rstrip("\n"))
+        return answer if line == "report" else answer[0]
+
+    def close(self):
+        """Ends the session, and tells its status."""
+        self.process.stdin.close()
+        return self.process.wait()
+
+
+def path_line(agent, cells):
+    return f"path {agent} " + " ".join(f"{x},{y}" for x, y in cells)
+
+
+def main():
+    desk = Desk(sys.argv[1], "serve", "--map", sys.argv[2])
+    east = [(x, 0) for x in range(7)]
+    for line in ("agent 0 0,0 6,0", "agent 1 6,0 0,0", path_line(0, east), path_line(1, east[::-1])):
+        print(line, "->", desk.ask(line))
+    print("solves vertex swap ->", desk.ask("solves vertex swap"))
+    for entry in desk.ask("report"):
+        if entry.split()[0] in ("vertex", "parked", "edge", "follow", "swap", "cycle"):
+            print("in the way:", entry)
+    # Both change in one commit, which is stale where somebody else's commit named one of them meanwhile.
+    desk.ask("begin")
+    desk.ask(path_line(0, east[:2] + [(1, 0), (1, 0)] + east[2:]))
+    desk.ask(path_line(1, east[:2:-1] + [(3, 1)] * 3 + east[3::-1]))
+    print("commit ->", desk.ask("commit"))
+    print("solves vertex swap ->", desk.ask("solves vertex swap"))
+    return desk.close()
+
+
+if __name__ == "__main__":
+    sys.exit(main())

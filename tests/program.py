@@ -1,0 +1,349 @@
+#!/usr/bin/env python3
+"""Runs the built program as its users do: words, files, pipes and devices. docs/FORMATS.md says what is right.
+
+program.py [PROGRAM]     the program that `rt ci` or `./desk --prove` built where none is named
+The last line is 'N passed, M failed'; status 1 where one failed.
+"""
+import os
+import select
+import signal
+import subprocess
+import sys
+import tempfile
+
+TOP = os.path.dirname(os.path.dirname(os.path.abspath(__file__)))
+PROGRAM = f"{TOP}/crates/mapf_desk/out/mapf_desk"
+PATIENCE = 60  # seconds that one run may take
+
+MAP = b"type octile\nheight 1\nwidth 3\nmap\n...\n"
+SCEN = b"version 1\n0\tm\t3\t1\t0\t0\t2\t0\t2\n"
+JOURNAL = b"journal 2\nmode stay\nentry 0 0 0 1\npath 0 0,0 1,0 2,0\nend 1\n"
+
+# The files that the runs below name. `none` is never written.
+FILES = {
+    "m": MAP,
+    "s": SCEN,
+    "j": JOURNAL,
+    "one": b"agent 0 0,0 0,0\n",
+    "two": b"agent 1 2,0 2,0\n",
+    "map_octile": b"type tile\n",
+    "map_header": b"type octile\nheight 1\nwide 3\n",
+    "map_size": b"type octile\nheight 0\nwidth 3\nmap\n",
+    "map_short": b"type octile\nheight 1\nwidth 3\nmap\n..\n",
+    "map_long": b"type octile\nheight 1\nwidth 3\nmap\n....\n",
+    "map_letter": b"type octile\nheight 1\nwidth 3\nmap\n.x.\n",
+    "map_missing": b"type octile\nheight 2\nwidth 3\nmap\n...\n",
+    "map_extra": MAP + b"more\n",
+    "scen_version": b"version 2\n",
+    "scen_fields": b"version 1\n0 m 3 1 0 0 2 0\n",
+    "scen_number": b"version 1\n0 m 3 1 0 -1 2 0 2\n",
+    "scen_size": b"version 1\n0 m 4 1 0 0 2 0 2\n",
+    "scen_outside": b"version 1\n0 m 3 1 3 0 2 0 2\n",
+    "journal_line": JOURNAL.replace(b"entry 0 0", b"entry 00 0"),
+    "journal_mode": JOURNAL.replace(b"stay", b"disappear"),
+    "journal_entry": JOURNAL.replace(b"1,0 2,0", b"2,0"),
+}
+
+# Name, words, the fault's text. Standard output stays empty, and the status is 2.
+FAULTS = [
+    ("agents_without_scen", "serve --agents 3", "--agents needs --scen"),
+    ("agents_without_scen_in_an_audit", "audit --map m --agents 1", "--agents needs --scen"),
+    ("agents_without_scen_in_a_drill", "drill --map m --agents 1 one", "--agents needs --scen"),
+    ("agents_before_files", "serve --map none --agents 3", "--agents needs --scen"),
+    ("no_map", "serve --map none", "can't read none"),
+    ("folder_as_a_map", "serve --map .", "can't read ."),
+    ("no_scen", "serve --map m --scen none", "can't read none"),
+    ("no_journal", "audit --map m --journal none", "can't read none"),
+    ("no_script", "drill --map m one none", "can't read none"),
+    ("map_before_scen", "audit --map none --scen nothing", "can't read none"),
+    ("scen_before_journal", "audit --map m --scen none --journal nothing", "can't read none"),
+    ("files_before_what_stands_in_them", "audit --map map_size --journal none", "can't read none"),
+    ("too_many_scripts", "drill --map map_size" + " one" * 256, "too many scripts"),
+    ("not_octile", "serve --map map_octile", "map: not octile"),
+    ("bad_header", "serve --map map_header", "map: bad header in line 3"),
+    ("bad_size", "serve --map map_size", "map: bad size"),
+    ("short_row", "serve --map map_short", "map: short row 0"),
+    ("long_row", "audit --map map_long", "map: long row 0"),
+    ("bad_letter", "drill --map map_letter one", "map: bad letter in row 0, column 1"),
+    ("missing_row", "serve --map map_missing", "map: missing row 1"),
+    ("extra_line", "serve --map map_extra", "map: extra line 6"),
+    ("map_before_what_stands_in_scen", "serve --map map_extra --scen scen_version", "map: extra line 6"),
+    ("bad_version", "serve --map m --scen scen_version", "scen: bad version"),
+    ("field_count", "serve --map m --scen scen_fields", "scen: field count in line 2"),
+    ("bad_number", "serve --map m --scen scen_number", "scen: bad number in line 2, field 6"),
+    ("size_mismatch", "audit --map m --scen scen_size", "scen: size mismatch in line 2"),
+    ("out_of_map", "drill --map m --scen scen_outside one", "scen: out of map in line 2, field 5"),
+    ("too_few_tasks", "serve --map m --scen s --agents 2", "scen: too few tasks, 1"),
+    ("tasks_before_journal", "audit --map m --scen s --agents 2 --journal journal_line", "scen: too few tasks, 1"),
+    ("bad_line", "audit --map m --journal journal_line", "journal: bad line 3"),
+    ("mode_differs", "audit --map m --scen s --agents 1 --journal journal_mode", "journal: mode differs"),
+    ("mode_differs_by_the_word", "audit --map m --scen s --agents 1 --mode disappear --journal j", "journal: mode differs"),
+    ("entry_refused", "audit --map m --scen s --agents 1 --journal journal_entry", "journal: entry 1 refused"),
+]
+
+# Words that the program doesn't have: status 2, a text on standard error, nothing on standard output.
+REFUSED_WORDS = [
+    "bogus", "serve --limit 0", "serve --limit 1000001", "serve --limit x", "serve --agents 8193", "serve --mode none", "serve --workers 4",
+    "serve m", "audit", "audit --map m --workers 0", "audit --map m --workers 65", "audit --map m --limit 5", "drill --map m", "drill one",
+    "drill --map m --workers 65 one", "drill --map m --journal j one", "--map m",
+]
+
+EMPTY = "agents 0\nconflicts 0\nblocked 0\nsum 0\nmakespan 0\nbounds 0\ngap 0\nend\n"
+ARRIVED = "agents 1\nagent 0 settle 2 goal yes bound 2 gap 0\nconflicts 0\nblocked 0\nsum 2\nmakespan 2\nbounds 2\ngap 0\nend\n"
+RESTING = "agents 1\nagent 0 settle 0 goal no bound 2 gap none\nconflicts 0\nblocked 0\nsum none\nmakespan none\nbounds 2\ngap none\nend\n"
+TWO = ("agents 2\nagent 0 settle 0 goal yes bound 0 gap 0\nagent 1 settle 0 goal yes bound 0 gap 0\nconflicts 0\nblocked 0\nsum 0\n"
+       "makespan 0\nbounds 0\ngap 0\nend\n")
+# One agent comes to its goal, and another to the same cell a step later; only in mode stay it rests there before.
+MEETING = b"agent 0 1,0 1,0\nagent 1 0,0 1,0\npath 1 0,0 1,0\nreport\n"
+MET = "agents 2\nagent 0 settle 0 goal yes bound 0 gap 0\nagent 1 settle 1 goal yes bound 1 gap 0\n"
+TAIL = "blocked 0\nsum 1\nmakespan 1\nbounds 1\ngap 0\nend\n"
+COMMITS = "version 1\nversion 2\nversion 3\nversion 3\n"
+
+# Name, words, standard input, standard output. The status is 0, and standard error stays empty.
+ANSWERS = [
+    ("no_words", "", MAP + b"report\n", "version 0\n" + EMPTY),
+    ("serve_with_no_words", "serve", MAP + b"report\n", "version 0\n" + EMPTY),
+    ("last_line_without_its_end", "serve --map m", b"version", "version 0\n"),
+    ("agents_of_a_scenario", "serve --map m --scen s --agents 1", b"report\n", "version 0\n" + RESTING),
+    ("no_agents_of_a_scenario", "serve --map m --scen s", b"report\n", "version 0\n" + EMPTY),
+    ("scenario_for_a_map_on_standard_input", "serve --scen s --agents 1", MAP + b"report\n", "version 0\n" + RESTING),
+    ("limit_of_one", "serve --map m --limit 1", b"agent 0 0,0 2,0\nagent 1 1,0 1,0\n", "version 1\nrefused journal-full 1\n"),
+    ("limit_of_two", "serve --map m --limit 2", b"agent 0 0,0 2,0\nagent 1 1,0 1,0\n", "version 1\nversion 2\n"),
+    ("stays_where_no_mode_is_named", "serve --map m", MEETING, COMMITS + MET + "conflicts 1\nparked 1 0 1 1,0\n" + TAIL),
+    ("stays", "serve --map m --mode stay", MEETING, COMMITS + MET + "conflicts 1\nparked 1 0 1 1,0\n" + TAIL),
+    ("disappears", "serve --map m --mode disappear", MEETING, COMMITS + MET + "conflicts 0\n" + TAIL),
+    ("audit_of_a_map", "audit --map m", b"", "version 0\n" + EMPTY),
+    ("audit_of_a_scenario", "audit --map m --scen s --agents 1", b"", "version 0\n" + RESTING),
+    ("audit_of_a_journal", "audit --map m --scen s --agents 1 --journal j --workers 1", b"", "version 1\n" + ARRIVED),
+    ("audit_by_64_workers", "audit --map m --scen s --agents 1 --journal j --workers 64", b"", "version 1\n" + ARRIVED),
+    ("audit_of_a_journal_in_mode_disappear", "audit --map m --scen s --agents 1 --mode disappear --journal journal_mode", b"",
+     "version 1\n" + ARRIVED),
+    ("drill_of_two_scripts", "drill --map m one two", b"", "version 2\n" + TWO + "audit same\n"),
+    ("drill_by_one_worker", "drill --map m --workers 1 one two", b"", "version 2\n" + TWO + "audit same\n"),
+]
+
+
+class Wrong(Exception):
+    """What a run did that it shouldn't."""
+
+
+def want(what, found, right):
+    if found != right:
+        raise Wrong(f"{what} is {found!r:.300}, and not {right!r:.300}")
+
+
+def run(words, given=b"", **how):
+    streams = {"stdin": subprocess.PIPE, "stdout": subprocess.PIPE, "stderr": subprocess.PIPE, **how}
+    process = subprocess.Popen([PROGRAM, *words], **streams)
+    try:
+        out, err = process.communicate(given if streams["stdin"] == subprocess.PIPE else None, timeout=PATIENCE)
+    except subprocess.TimeoutExpired:
+        process.kill()
+        raise Wrong(f"not done after {PATIENCE} seconds")
+    return process.returncode, (out or b"").decode(), (err or b"").decode()
+
+
+def is_fault(words, text, given=b"", out=""):
+    status, said, complained = run(words, given)
+    want("standard error", complained, f"mapf_desk: {text}\n")
+    want("standard output", said, out)
+    want("the status", status, 2)
+
+
+def is_answered(words, given, out):
+    status, said, complained = run(words, given)
+    want("standard output", said, out)
+    want("standard error", complained, "")
+    want("the status", status, 0)
+
+
+def are_refused_words(words):
+    status, said, complained = run(words)
+    want("the status", status, 2)
+    want("standard output", said, "")
+    want("whether standard error is empty", complained == "", False)
+
+
+def is_help(words):
+    status, said, complained = run(words)
+    want("the status", status, 0)
+    want("standard error", complained, "")
+    want("whether there is a usage", "Usage:" in said, True)
+
+
+def full_output(words, given):
+    with open("/dev/full", "wb") as full:
+        status, _, complained = run(words, given, stdout=full)
+    want("standard error", complained, "mapf_desk: write failed\n")
+    want("the status", status, 2)
+
+
+def full_error():
+    with open("/dev/full", "wb") as full:
+        status, said, _ = run(["serve", "--map", "none"], stderr=full)
+    want("standard output", said, "")
+    want("the status", status, 2)
+
+
+def closed_pipe():
+    """Whoever hears the answers goes away before they come."""
+    hears, tells = os.pipe()
+    os.close(hears)
+    status, _, complained = run(["serve", "--map", "m"], b"version\n" * 50000, stdout=tells)
+    os.close(tells)
+    want("standard error", complained, "mapf_desk: write failed\n")
+    want("the status", status, 2)
+
+
+def folder_as_input():
+    with subprocess.Popen(["true"]):
+        folder = os.open(".", os.O_RDONLY)
+    status, said, complained = run(["serve", "--map", "m"], stdin=folder)
+    os.close(folder)
+    want("standard error", complained, "mapf_desk: read failed\n")
+    want("standard output", said, "")
+    want("the status", status, 2)
+
+
+def many_lines():
+    is_fault(["serve", "--map", "m"], "too many lines", b"\n" * 1000001)
+    is_answered(["serve", "--map", "m"], b"\n" * 1000000, "")
+
+
+def many_bytes():
+    """Remarks of 1,200 bytes, more than 1,073,741,824 bytes in fewer than 1,000,000 lines."""
+    process = subprocess.Popen([PROGRAM, "serve", "--map", "m"], stdin=subprocess.PIPE, stdout=subprocess.PIPE, stderr=subprocess.PIPE)
+    lines = (b"#" * 1199 + b"\n") * 1000
+    try:
+        for _ in range(900):
+            process.stdin.write(lines)
+        process.stdin.close()
+    except BrokenPipeError:
+        pass
+    want("standard error", process.stderr.read(), b"mapf_desk: too many bytes\n")
+    want("standard output", process.stdout.read(), b"")
+    want("the status", process.wait(), 2)
+    process.stdout.close(), process.stderr.close()
+
+
+class Planner:
+    """A session that is still going on."""
+
+    def __init__(self, *words):
+        self.process = subprocess.Popen([PROGRAM, *words], stdin=subprocess.PIPE, stdout=subprocess.PIPE, bufsize=0)
+
+    def ask(self, line, answer):
+        """Sends a line, and waits for its answer with no more sent."""
+        self.process.stdin.write(line)
+        heard = b""
+        while not heard.endswith(b"\n") or heard.count(b"\n") < answer.count(b"\n"):
+            if not select.select([self.process.stdout], [], [], PATIENCE)[0]:
+                raise Wrong(f"{line!r} had no whole answer, but {heard!r}, before more input came")
+            piece = os.read(self.process.stdout.fileno(), 65536)
+            if not piece:
+                break
+            heard += piece
+        want(f"the answer to {line!r}", heard, answer)
+
+    def end(self):
+        self.process.stdin.close()
+        rest = self.process.stdout.read()
+        self.process.stdout.close()
+        return self.process.wait(PATIENCE), rest
+
+
+def answers_before_more_input():
+    planner = Planner("serve", "--map", "m")
+    planner.ask(b"agent 0 0,0 2,0\n", b"version 1\n")
+    planner.ask(b"# nothing to answer\n\nversion\n", b"version 1\n")
+    planner.ask(b"report\n", b"version 1\n" + RESTING.encode())
+    planner.ask(b"path 0 0,0 2,0\n", b"refused faulty 0 not-a-step 1\n")
+    want("the end", planner.end(), (0, b""))
+
+
+def a_line_in_two_pieces():
+    planner = Planner("serve", "--map", "m")
+    planner.process.stdin.write(b"ver")
+    planner.ask(b"sion\n", b"version 0\n")
+    want("the end", planner.end(), (0, b""))
+
+
+def broken_off():
+    """The input ends within a line: what was complete is answered, and the front of a line counts as one."""
+    planner = Planner("serve", "--map", "m")
+    planner.ask(b"agent 0 0,0 2,0\n", b"version 1\n")
+    planner.process.stdin.write(b"path 0 0,0 1,")
+    want("the end", planner.end(), (0, b"bad 2 shape\n"))
+
+
+def stopped():
+    """A session that is stopped by a signal ends by it."""
+    planner = Planner("serve", "--map", "m")
+    planner.ask(b"version\n", b"version 0\n")
+    planner.process.send_signal(signal.SIGTERM)
+    want("the end", planner.end(), (-signal.SIGTERM, b""))
+
+
+def demo_session():
+    with open(f"{TOP}/demo/corridor.session", "rb") as lines, open(f"{TOP}/demo/corridor.answers") as answers:
+        is_answered(["serve", "--map", f"{TOP}/demo/corridor.map"], lines.read(), answers.read())
+
+
+def demo_drill():
+    demo = f"{TOP}/demo"
+    status, said, _ = run(["drill", "--map", f"{demo}/corridor.map", f"{demo}/east.script", f"{demo}/west.script"])
+    want("the status", status, 0)
+    with open(f"{demo}/corridor.answers") as answers:
+        report = answers.read().split("solves yes\n")[1].split("end\n")[0] + "end\n"
+    want("the report", said, report + "audit same\n")
+
+
+def demo_audit():
+    """The report from scratch is the one of a session, byte for byte."""
+    words = ["--map", f"{TOP}/demo/warehouse.map", "--scen", f"{TOP}/demo/warehouse.scen", "--agents", "100"]
+    audited, served = run(["audit", *words]), run(["serve", *words], b"report\n")
+    want("the audit", audited, served)
+    want("how many lines it has", audited[1].count("\nagent "), 100)
+
+
+def tests():
+    for name, words, text in FAULTS:
+        yield name, lambda words=words, text=text: is_fault(words.split(), text)
+    for words in REFUSED_WORDS:
+        yield f"words: {words}", lambda words=words: are_refused_words(words.split())
+    for words in ("--help", "serve --help", "audit --help", "drill --help", "help serve"):
+        yield words, lambda words=words: is_help(words.split())
+    for name, words, given, out in ANSWERS:
+        yield name, lambda words=words, given=given, out=out: is_answered(words.split(), given, out)
+    yield "map_on_standard_input", lambda: is_fault([], "map: bad size", FILES["map_size"])
+    yield "no_answer_goes_out_whole", lambda: full_output(["serve", "--map", "m"], b"version\n")
+    yield "no_audit_goes_out_whole", lambda: full_output(["audit", "--map", "m"], b"")
+    yield "no_drill_goes_out_whole", lambda: full_output(["drill", "--map", "m", "one"], b"")
+    for test in (full_error, closed_pipe, folder_as_input, many_lines, many_bytes, answers_before_more_input, a_line_in_two_pieces,
+                 broken_off, stopped, demo_session, demo_drill, demo_audit):
+        yield test.__name__, test
+
+
+def main():
+    global PROGRAM
+    PROGRAM = os.path.abspath(sys.argv[1] if len(sys.argv) > 1 else PROGRAM)
+    passed, failed = 0, 0
+    with tempfile.TemporaryDirectory() as folder:
+        os.chdir(folder)
+        for name, text in FILES.items():
+            with open(name, "wb") as file:
+                file.write(text)
+        for name, test in tests():
+            try:
+                test()
+                passed += 1
+            except (Wrong, OSError, subprocess.SubprocessError) as why:
+                failed += 1
+                print(f"{name}: FAILED: {why}", flush=True)
+        os.chdir(TOP)
+    print(f"{passed} passed, {failed} failed")
+    return 1 if failed else 0
+
+
+if __name__ == "__main__":
+    sys.exit(main())
