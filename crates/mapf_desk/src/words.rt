@@ -1,5 +1,6 @@
 //! The program's words.
-use clap::{Arg, ArgMatches, Command, Error, value_parser};
+use crate::helping::{ABOUT, AUDIT_HELP, DRILL_HELP, PROGRAM_HELP, SERVE_HELP};
+use clap::{Arg, ArgAction, ArgMatches, Command, Error, value_parser};
 use desk_core::{Limit, MOST_ENTRIES};
 use plan_table::Mode;
 use std::alloc::{AllocError, Global};
@@ -7,9 +8,21 @@ use std::alloc::{AllocError, Global};
 /// What the words ask for.
 #[derive(Drop)]
 pub enum Words<'a> {
+    /// What this program is, and what it is proved with.
+    Version,
     Serve(ServeWords<'a>),
     Audit(AuditWords<'a>),
     Drill(DrillWords<'a>),
+}
+
+impl Words<'_> {
+    /// Whether a map is to come on standard input.
+    pub fn waits_for_a_map(&self) -> bool {
+        match self {
+            Words::Serve(serve) => serve.map.is_none(),
+            _ => false,
+        }
+    }
 }
 
 /// The words of `serve`.
@@ -56,41 +69,6 @@ pub enum Asked<'a> {
 /// How many commits the journal takes where the words don't say.
 const USUAL_LIMIT: u32 = 100_000;
 
-const ABOUT: &str =
-    "A live plan desk for multi-agent path finding: it takes planners' edits of one \
-map's agents and paths, and reports conflicts, costs and bounds that are always current.";
-
-const PROGRAM_EXAMPLE: &str = "\
-With no words, `mapf_desk` is `mapf_desk serve`: a map stands first on standard input, and a
-session follows it.
-
-Example:
-  printf 'type octile\\nheight 1\\nwidth 3\\nmap\\n...\\nagent 0 0,0 2,0\\nreport\\n' | mapf_desk";
-
-const SERVE_EXAMPLE: &str = "\
-Each line of standard input is answered on standard output. An edit line (agent, drop, goal, path,
-tail, open, close) is committed at once; begin, watch .., edit lines and commit gather a commit of
-several edits; report, distance, solves and version ask.
-
-Example:
-  mapf_desk serve --map demo/warehouse.map --scen demo/warehouse.scen --agents 10";
-
-const AUDIT_EXAMPLE: &str = "\
-The report is made from scratch: nothing that a desk keeps is used. Each worker is a thread of its
-own and tells its share of the agents.
-
-Example:
-  mapf_desk audit --map demo/warehouse.map --scen demo/warehouse.scen --agents 10 --workers 4";
-
-const DRILL_EXAMPLE: &str = "\
-Each script is a session, as `serve` takes it, and is served as a planner of its own: the first is
-planner 1. The scripts run at once and their answers aren't kept. At the end the version and the
-report are printed, and `audit same` where a report made from scratch is the same, with status 0;
-or `audit differs`, with status 1.
-
-Example:
-  mapf_desk drill --map demo/corridor.map demo/east.script demo/west.script";
-
 fn map_argument<'a>(alloc: Global) -> Arg<'a> {
     Arg::new(alloc, "map").long("map").value_name("F")
 }
@@ -135,7 +113,7 @@ fn serve_command<'a>(alloc: Global) -> Result<Command<'a>, AllocError> {
     );
     Command::new(alloc, "serve")
         .about("Serves one planner's session from standard input to standard output")
-        .after_help(SERVE_EXAMPLE)
+        .after_help(SERVE_HELP)
         .arg(map)?
         .arg(scen_argument(alloc))?
         .arg(agents_argument(alloc))?
@@ -167,7 +145,7 @@ fn audit_command<'a>(alloc: Global) -> Result<Command<'a>, AllocError> {
         .about(
             "Prints the report of a map, a scenario's agents and a journal, made from scratch in threads",
         )
-        .after_help(AUDIT_EXAMPLE)
+        .after_help(AUDIT_HELP)
         .arg(map)?
         .arg(scen_argument(alloc))?
         .arg(agents_argument(alloc))?
@@ -190,7 +168,7 @@ fn drill_command<'a>(alloc: Global) -> Result<Command<'a>, AllocError> {
         .help("The map, a MovingAI .map file");
     Command::new(alloc, "drill")
         .about("Serves planners' scripts at once over one shared desk, and audits what they leave")
-        .after_help(DRILL_EXAMPLE)
+        .after_help(DRILL_HELP)
         .arg(map)?
         .arg(scen_argument(alloc))?
         .arg(agents_argument(alloc))?
@@ -199,10 +177,19 @@ fn drill_command<'a>(alloc: Global) -> Result<Command<'a>, AllocError> {
         .arg(scripts_argument(alloc))
 }
 
+fn version_argument<'a>(alloc: Global) -> Arg<'a> {
+    Arg::new(alloc, "version")
+        .long("version")
+        .short('V')
+        .action(ArgAction::SetTrue)
+        .help("Print the version, and what it is proved with")
+}
+
 fn command<'a>(alloc: Global) -> Result<Command<'a>, AllocError> {
     Command::new(alloc, "mapf_desk")
         .about(ABOUT)
-        .after_help(PROGRAM_EXAMPLE)
+        .after_help(PROGRAM_HELP)
+        .arg(version_argument(alloc))?
         .subcommand(serve_command(alloc)?)?
         .subcommand(audit_command(alloc)?)?
         .subcommand(drill_command(alloc)?)
@@ -257,6 +244,7 @@ fn words_of<'a>(alloc: Global, matches: &ArgMatches<'a>) -> Result<Words<'a>, Al
             limit: limit_of(inner),
             mode: mode_of(inner),
         }),
+        None if matches.get_flag("version") => Words::Version,
         None => Words::Serve(ServeWords {
             map: None,
             scen: None,
