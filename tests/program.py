@@ -5,6 +5,7 @@ program.py [PROGRAM]     the program that `rt ci` or `./desk --prove` built wher
 The last line is 'N passed, M failed'; status 1 where one failed.
 """
 import os
+import pty
 import select
 import signal
 import subprocess
@@ -178,6 +179,46 @@ def full_output(words, given):
     want("the status", status, 2)
 
 
+def full_help():
+    """Help and the version are printed on standard output: where it takes nothing, that is told."""
+    for words in (["--help"], ["serve", "--help"], ["--version"]):
+        full_output(words, b"")
+
+
+def full_refusal():
+    """A mistake in the words is told on standard error: where it takes nothing, the status tells it alone."""
+    with open("/dev/full", "wb") as full:
+        status, said, _ = run(["bogus"], stderr=full)
+    want("standard output", said, "")
+    want("the status", status, 2)
+
+
+def word_that_is_no_text():
+    is_fault([b"serve", b"--map", b"\xff"], "words that aren't text")
+
+
+def version():
+    status, said, complained = run(["--version"])
+    want("the status", status, 0)
+    want("standard error", complained, "")
+    lines = said.splitlines()
+    want("the first line's first word", lines[0].split()[0], "mapf_desk")
+    want("the second line's beginning", lines[1][:12], "proved with ")
+    want("how many lines", len(lines), 2)
+
+
+def bare_on_a_terminal():
+    """With no words and a terminal the program says what it waits for; elsewhere it says nothing."""
+    terminal, inside = pty.openpty()
+    process = subprocess.Popen([PROGRAM], stdin=inside, stdout=subprocess.PIPE, stderr=subprocess.PIPE)
+    os.write(terminal, MAP + b"version\n\x04")
+    said, complained = process.communicate(timeout=PATIENCE)
+    os.close(inside), os.close(terminal)
+    want("standard output", said, b"version 0\n")
+    want("whether it says what it waits for", b"type a map first" in complained, True)
+    want("the status", process.returncode, 0)
+
+
 def full_error():
     with open("/dev/full", "wb") as full:
         status, said, _ = run(["serve", "--map", "none"], stderr=full)
@@ -319,7 +360,7 @@ def tests():
     yield "no_answer_goes_out_whole", lambda: full_output(["serve", "--map", "m"], b"version\n")
     yield "no_audit_goes_out_whole", lambda: full_output(["audit", "--map", "m"], b"")
     yield "no_drill_goes_out_whole", lambda: full_output(["drill", "--map", "m", "one"], b"")
-    for test in (full_error, closed_pipe, folder_as_input, many_lines, many_bytes, answers_before_more_input, a_line_in_two_pieces,
+    for test in (full_help, full_refusal, word_that_is_no_text, version, bare_on_a_terminal, full_error, closed_pipe, folder_as_input, many_lines, many_bytes, answers_before_more_input, a_line_in_two_pieces,
                  broken_off, stopped, demo_session, demo_drill, demo_audit):
         yield test.__name__, test
 
