@@ -104,7 +104,7 @@ impl Scene {
     /// Applies an edit. After any refusal the scene is what it was.
     ///
     /// # Errors
-    /// The first fault of the edit, or want of memory.
+    /// The first fault of the edit, or want of memory, which Add, Path and Tail alone ask for.
     pub fn apply(&mut self, edit: &Edit) -> Result<Change, ApplyFault>
         ensures { Applied self.old edit.now result self.new }
     {
