@@ -6,7 +6,7 @@ use Rattle.desk_core.specs.State.{DeskState, grown, after}
 use Rattle.desk_core.specs.Commits.{Accepts, Refuses}
 use Rattle.desk_core.specs.Replays.{IsLegal, IsFirstRefused, Recommits, fault_of}
 use Rattle.desk_core.specs.declared.answers.Refusal.{Refusal}
-use Rattle.desk_core.specs.declared.answers.Refusal.TheVariants.{JournalFull, Ahead, NoEdits, Stale, Faulty, OutOfMemory}
+use Rattle.desk_core.specs.declared.answers.Refusal.TheVariants.{OutOfMemory}
 
 pub IsLegal-push : (desk : DeskState) (entries : List Entry) (entry : Entry) → IsLegal desk entries → Accepts (after desk entries) entry → IsLegal desk (entries ++ entry ∷ [])
 IsLegal-push desk [] entry legal accepts = (accepts, tt)
@@ -38,9 +38,5 @@ first_refused desk done rest entries entry why all legal refuses =
 
 -- what comes of an entry that is refused
 pub recommits_refused : (desk : DeskState) (done rest entries : List Entry) (entry : Entry) (why : Refusal) → done ++ entry ∷ rest ≡ entries → IsLegal desk done → Refuses (after desk done) entry why → Recommits desk entries (Err (fault_of (length done + 1) why))
-recommits_refused desk done rest entries entry (JournalFull limit) all legal refuses = (first_refused desk done rest entries entry (JournalFull limit) all legal refuses, λ e. cc)
-recommits_refused desk done rest entries entry (Ahead now) all legal refuses = (first_refused desk done rest entries entry (Ahead now) all legal refuses, λ e. cc)
-recommits_refused desk done rest entries entry NoEdits all legal refuses = (first_refused desk done rest entries entry NoEdits all legal refuses, λ e. cc)
-recommits_refused desk done rest entries entry (Stale now thing at) all legal refuses = (first_refused desk done rest entries entry (Stale now thing at) all legal refuses, λ e. cc)
-recommits_refused desk done rest entries entry (Faulty index fault) all legal refuses = (first_refused desk done rest entries entry (Faulty index fault) all legal refuses, λ e. cc)
 recommits_refused desk done rest entries entry OutOfMemory all legal refuses = (length done + 1, first_refused desk done rest entries entry OutOfMemory all legal refuses)
+recommits_refused desk done rest entries entry reason all legal refuses = (first_refused desk done rest entries entry reason all legal refuses, λ e. cc)
