@@ -1,0 +1,129 @@
+//! Sources and sinks that fail, or that count their calls.
+ghost use Rattle.std.specs.Prelude.{◌≡◌, None, Some, false};
+
+use desk_report::{ReadFailed, Sink, Source, WriteFailed};
+use std::alloc::Global;
+
+/// Gives one byte so many times, and counts the calls.
+#[derive(Drop)]
+pub struct Repeated {
+    byte: u8,
+    left: u64,
+    calls: u64,
+}
+
+impl Repeated {
+    /// That byte, so many times.
+    pub fn new(byte: u8, times: u64) -> Repeated {
+        Repeated {
+            byte,
+            left: times,
+            calls: 0,
+        }
+    }
+
+    /// How often it was asked.
+    pub fn calls(&self) -> u64 {
+        self.calls
+    }
+}
+
+impl Source for Repeated {
+    ghost left = { λ _. None };
+
+    ghost failed = { λ _. false };
+
+    fn next_byte(&mut self) -> Result<Option<u8>, ReadFailed> {
+        self.calls = self.calls.saturating_add(1);
+        if self.left == 0 {
+            return Ok(None);
+        }
+        self.left -= 1;
+        Ok(Some(self.byte))
+    }
+}
+
+/// Fails once, after so many of its bytes, and then goes on. It counts the calls.
+#[derive(Drop)]
+pub struct Torn<'a> {
+    bytes: &'a [u8],
+    given: usize,
+    fails_at: usize,
+    calls: usize,
+    failed: bool,
+}
+
+impl<'a> Torn<'a> {
+    /// A source of those bytes, which fails after so many of them.
+    pub fn new(bytes: &'a [u8], fails_at: usize) -> Torn<'a> {
+        Torn {
+            bytes,
+            given: 0,
+            fails_at,
+            calls: 0,
+            failed: false,
+        }
+    }
+
+    /// How often it was asked.
+    pub fn calls(&self) -> usize {
+        self.calls
+    }
+}
+
+impl<'a> Source for Torn<'a> {
+    ghost left = { λ _. None };
+
+    ghost failed = { λ t. t.failed };
+
+    fn next_byte(&mut self) -> Result<Option<u8>, ReadFailed> {
+        self.calls = self.calls.saturating_add(1);
+        if self.given == self.fails_at && !self.failed {
+            self.failed = true;
+            return Err(ReadFailed);
+        }
+        let byte = self.bytes.get(self.given).copied();
+        self.given = self.given.saturating_add(1);
+        Ok(byte)
+    }
+}
+
+/// Takes a few bytes, and then fails.
+#[derive(Drop)]
+pub struct Short {
+    room: usize,
+    taken: Vec<u8>,
+    broken: bool,
+}
+
+impl Short {
+    /// A sink for so many bytes.
+    pub fn new(alloc: Global, room: usize) -> Short {
+        Short {
+            room,
+            taken: Vec::new(alloc),
+            broken: false,
+        }
+    }
+
+    /// What it has taken.
+    pub fn taken(&self) -> &[u8] {
+        self.taken.as_slice()
+    }
+}
+
+impl Sink for Short {
+    ghost held = { λ s. Some s.taken.items };
+
+    ghost broken = { λ s. s.broken };
+
+    fn put(&mut self, bytes: &[u8]) -> Result<usize, WriteFailed> {
+        let n = bytes.len().min(self.room);
+        if n == 0 && !bytes.is_empty() || self.taken.extend_from_slice(&bytes[..n]).is_err() {
+            self.broken = true;
+            return Err(WriteFailed);
+        }
+        self.room -= n;
+        Ok(n)
+    }
+}
