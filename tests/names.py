@@ -1,0 +1,55 @@
+#!/usr/bin/env python3
+"""Says which names of names.txt stand nowhere in the repository, and ends with status 1 if one doesn't.
+
+A name stands where a worked example (crates/*/data/*.txt, a line `== NAME` or `== NAME, remark`), a test
+function or a wrong body (crates/*/must-fail/NAME.edit) has it, alone or as a whole part of a longer one that
+is joined by `_and_`, `_of_` and the like. A wrong body that tests refuse is named in a remark beside its test:
+`wrong body NAME`.
+"""
+
+import re
+import sys
+from pathlib import Path
+
+HERE = Path(__file__).resolve().parent
+CRATES = HERE.parent / "crates"
+EXAMPLE = re.compile(r"^== (\w+)", re.MULTILINE)
+TEST = re.compile(r"#\[test\]\s+fn (\w+)")
+REMARK = re.compile(r"wrong body\s+(?://\s*)?(\w+)")
+
+
+def own_files(pattern):
+    """The files of that form that are written and not made."""
+    return [path for path in CRATES.glob(pattern) if "out" not in path.relative_to(CRATES).parts]
+
+
+def found(pattern, form):
+    names = set()
+    for path in own_files(pattern):
+        names |= set(form.findall(path.read_text()))
+    return names
+
+
+def standing():
+    names = found("*/data/*.txt", EXAMPLE) | found("*/src/**/*.rt", TEST) | found("*/src/**/*.rt", REMARK)
+    return names | {path.stem for path in own_files("*/must-fail/*.edit")}
+
+
+def stands(name, names):
+    whole = re.compile(rf"(?:^|_){name}(?:_|$)")
+    return any(whole.search(other) for other in names)
+
+
+def main():
+    lines = (HERE / "names.txt").read_text().splitlines()
+    wanted = [line for line in lines if line and not line.startswith("#")]
+    names = standing()
+    missing = [name for name in wanted if not stands(name, names)]
+    for name in missing:
+        print(f"{name} stands nowhere")
+    print(f"{len(wanted) - len(missing)} of {len(wanted)} names stand")
+    return 1 if missing else 0
+
+
+if __name__ == "__main__":
+    sys.exit(main())
