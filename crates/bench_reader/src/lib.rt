@@ -5,12 +5,8 @@ mod fields;
 mod header;
 mod laws;
 mod lines;
-#[cfg(test)]
-mod map_tests;
 mod maps;
 mod rows;
-#[cfg(test)]
-mod scen_tests;
 mod scens;
 mod tasks;
 mod words;

@@ -86,27 +86,3 @@ impl CellQueue {
         self.taken = 0;
     }
 }
-
-#[cfg(test)]
-mod tests {
-    use super::CellQueue;
-    use grid_cells::{Cell, Size};
-
-    #[test]
-    fn queue_of_three(rt: HostRuntime) {
-        let size = Size::new(3, 1).expect(&rt, "size");
-        let first = Cell::new(0, 0).expect(&rt, "cell");
-        let second = Cell::new(1, 0).expect(&rt, "cell");
-        let mut queue = CellQueue::new(rt.alloc(), size).expect(&rt, "memory");
-        queue.put(first, 5);
-        queue.put(second, 2);
-        queue.put(first, 1);
-        assert!(rt; queue.take_least() == Some((first, 1)));
-        assert!(rt; queue.remove(second));
-        assert!(rt; queue.take_least() == None);
-        assert!(rt; queue.taken() == 1);
-        assert!(rt; !queue.remove(Cell::new(3, 0).expect(&rt, "cell")));
-        queue.reset();
-        assert!(rt; queue.taken() == 0);
-    }
-}

@@ -19,6 +19,3 @@ pub use reports::{AgentLine, Report};
 pub use text::write_report;
 pub use values::{put_answer, put_cell, put_given, put_number};
 pub use words::{Word, put_line, put_more, put_next, put_word};
-
-#[cfg(test)]
-mod tests;

@@ -6,6 +6,3 @@ mod laws;
 
 pub use books::FleetBooks;
 pub use laws::routes_fix_books;
-
-#[cfg(test)]
-mod tests;

@@ -4,8 +4,6 @@
 mod agents;
 mod flips;
 mod taking_back;
-#[cfg(test)]
-mod tests;
 
 pub use agents::{Former, FormerRow, formers};
 pub use flips::flipped;

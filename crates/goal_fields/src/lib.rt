@@ -7,8 +7,6 @@ mod lifelong;
 mod places;
 mod plain;
 mod search;
-#[cfg(test)]
-mod tests;
 
 pub use field::Field;
 pub use fields::Fields;

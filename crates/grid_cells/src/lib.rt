@@ -17,6 +17,3 @@ pub use lists::List;
 pub use memory::OutOfMemory;
 pub use numbers::{Agent, MOST_AGENT, MOST_PLANNER, Planner, Step};
 pub use sizes::{MOST_CELLS, MOST_SIDE, Size};
-
-#[cfg(test)]
-mod tests;

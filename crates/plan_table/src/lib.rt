@@ -10,6 +10,3 @@ pub use laws::one_table;
 pub use paths::{MOST_LAST_INDEX, Plan, PlanFault};
 pub use plans::{Plans, Row};
 pub use tracks::{Mode, Track};
-
-#[cfg(test)]
-mod tests;

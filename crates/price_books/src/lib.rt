@@ -9,6 +9,3 @@ mod laws;
 
 pub use books::PriceBooks;
 pub use laws::same_rows_same_books;
-
-#[cfg(test)]
-mod tests;

@@ -9,6 +9,3 @@ mod totals;
 mod visitors;
 
 pub use reports::quick_report;
-
-#[cfg(test)]
-mod tests;

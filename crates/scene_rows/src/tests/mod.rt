@@ -1,3 +1,0 @@
-//! Worked examples, drawn by hand.
-mod edits;
-mod followers;

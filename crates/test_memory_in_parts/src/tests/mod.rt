@@ -1,0 +1,19 @@
+//! Scripts of calls, and runs of them with little memory.
+mod build;
+mod edit_lists;
+mod edits;
+mod fields;
+mod grids;
+mod indexes;
+mod ledgers;
+mod maps;
+mod plain;
+mod prices;
+mod rings;
+mod scenarios;
+mod scenes;
+mod scripts;
+mod swaps;
+mod tasks;
+mod told;
+mod trials;

@@ -1,0 +1,185 @@
+//! A fleet on a map, what is kept of it, and its changes by chance.
+ghost use Rattle.std.specs.Prelude.{◌≡◌, ◌<◌, ℕ};
+ghost use Rattle.plan_table.specs.Route.{route_of, position};
+
+use super::records::check_touched;
+use super::walks::{any_agent, any_cell, new_row, other_row};
+use conflict_ledger::ConflictLedger;
+use cost_ledger::CostLedger;
+use grid_cells::{Agent, Grid};
+use plan_table::{Mode, Plans, Row, Track};
+use scene_edits::first_difference;
+use std::alloc::Global;
+use std::process::Abort;
+use test_support::{Chain, open_grid};
+use where_index::WhereIndex;
+
+#[derive(Drop)]
+pub struct Fleet {
+    pub plans: Plans,
+    pub grid: Grid,
+    pub mode: Mode,
+}
+
+impl Fleet {
+    /// Nobody, on an open map of 3 x 2 cells.
+    pub fn new(rt: &impl Abort, alloc: Global, mode: Mode) -> Fleet {
+        Fleet {
+            plans: Plans::new(alloc),
+            grid: open_grid(alloc, 3, 2).expect(rt, "a map"),
+            mode,
+        }
+    }
+
+    fn set(&mut self, rt: &impl Abort, agent: Agent, row: Row) {
+        let _ = self.plans.remove(agent);
+        self.plans.make_room().expect(rt, "memory");
+        self.plans.insert(agent, row);
+    }
+}
+
+#[derive(Drop)]
+pub struct Kept {
+    pub index: WhereIndex,
+    pub ledger: ConflictLedger,
+    pub costs: CostLedger,
+}
+
+impl Kept {
+    pub fn new(alloc: Global) -> Kept {
+        Kept {
+            index: WhereIndex::new(alloc),
+            ledger: ConflictLedger::new(alloc),
+            costs: CostLedger::new(alloc),
+        }
+    }
+}
+
+fn entered(rt: &impl Abort, kept: Kept, agent: Agent, row: &Row, mode: Mode, grid: &Grid) -> Kept {
+    let Kept {
+        index,
+        ledger,
+        mut costs,
+    } = kept;
+    let (track, touched) = (row.track(mode), index.touched());
+    let index = index.put(agent, track).expect(rt, "memory");
+    check_touched(rt, &index, touched, None, Some(track));
+    let ledger = ledger.admit(agent, track, &index).expect(rt, "memory");
+    costs.take(agent);
+    let costs = costs
+        .put(agent, row.goal, &row.plan, grid)
+        .expect(rt, "memory");
+    Kept {
+        index,
+        ledger,
+        costs,
+    }
+}
+
+fn left(rt: &impl Abort, kept: Kept, agent: Agent, row: &Row, mode: Mode) -> Kept {
+    let Kept {
+        index,
+        ledger,
+        mut costs,
+    } = kept;
+    let (track, touched) = (row.track(mode), index.touched());
+    let index = index.take(agent, track);
+    check_touched(rt, &index, touched, Some(track), None);
+    let ledger = ledger.retract(agent, track, &index).expect(rt, "memory");
+    costs.take(agent);
+    Kept {
+        index,
+        ledger,
+        costs,
+    }
+}
+
+// A time below which the positions on the two tracks are equal.
+fn since(old: Track, new: Track) -> u32
+    ensures { (t : ℕ) → t < result → position (route_of old.entry) t ≡ position (route_of new.entry) t }
+{
+    match first_difference(old, new) {
+        Some(time) => time,
+        None => 0,
+    }
+}
+
+fn revised(
+    rt: &impl Abort,
+    kept: Kept,
+    agent: Agent,
+    old: &Row,
+    new: &Row,
+    mode: Mode,
+    grid: &Grid,
+) -> Kept {
+    let Kept {
+        index,
+        ledger,
+        mut costs,
+    } = kept;
+    let (was, is) = (old.track(mode), new.track(mode));
+    let (since, touched) = (since(was, is), index.touched());
+    let index = index.swap(agent, was, is, since).expect(rt, "memory");
+    check_touched(rt, &index, touched, Some(was), Some(is));
+    let ledger = ledger
+        .revise(agent, was, is, since, &index)
+        .expect(rt, "memory");
+    if old.plan.cells() == new.plan.cells() {
+        costs.aim(agent, new.goal);
+    } else {
+        costs.take(agent);
+        costs = costs
+            .put(agent, new.goal, &new.plan, grid)
+            .expect(rt, "memory");
+    }
+    Kept {
+        index,
+        ledger,
+        costs,
+    }
+}
+
+/// An agent by chance comes, goes, or gets another row.
+pub fn change(
+    rt: &impl Abort,
+    alloc: Global,
+    kept: Kept,
+    fleet: &mut Fleet,
+    chain: &mut Chain,
+) -> Kept {
+    let (agent, mode) = (any_agent(rt, chain), fleet.mode);
+    let Some(old) = fleet.plans.remove(agent) else {
+        let row = new_row(rt, alloc, chain);
+        let kept = entered(rt, kept, agent, &row, mode, &fleet.grid);
+        fleet.set(rt, agent, row);
+        return kept;
+    };
+    if chain.roll(4) == 0 {
+        return left(rt, kept, agent, &old, mode);
+    }
+    let new = other_row(rt, alloc, &old, chain);
+    let kept = revised(rt, kept, agent, &old, &new, mode, &fleet.grid);
+    fleet.set(rt, agent, new);
+    kept
+}
+
+/// A cell by chance opens or closes, in every third draw.
+pub fn flip(rt: &impl Abort, kept: Kept, fleet: &mut Fleet, chain: &mut Chain) -> Kept {
+    let cell = any_cell(rt, chain);
+    if chain.roll(3) > 0 || !fleet.grid.size().holds(cell) {
+        return kept;
+    }
+    fleet.grid.set(cell, chain.roll(2) == 0);
+    let Kept {
+        index,
+        ledger,
+        costs,
+    } = kept;
+    let costs = costs.flip(cell, &fleet.grid).expect(rt, "memory");
+    Kept {
+        index,
+        ledger,
+        costs,
+    }
+}

@@ -1,0 +1,126 @@
+//! Edits that are refused, one and several, and those at the limits.
+use grid_cells::{Agent, Cell, List};
+use scene_edits::{ApplyFault, Change, Edit, EditFault, EditsFault, Scene};
+use std::alloc::Global;
+use std::process::Abort;
+use test_support::{edit, edits, scene};
+
+// The corridor of three cells with one agent, that is to go to its other end.
+fn corridor(rt: &impl Abort, alloc: Global) -> Scene {
+    scene(alloc, 3, 1, &["agent 0 0,0 2,0"]).expect(rt, "a scene")
+}
+
+// Whether it is the scene of that corridor.
+fn is_corridor(rt: &impl Abort, scene: &Scene) -> bool {
+    let size = scene.grid().size();
+    assert!(rt; size.width() == 3 && size.height() == 1 && scene.plans().count() == 1);
+    let (agent, row) = scene.plans().entry_at(0);
+    for x in 0..3 {
+        let cell = size.cell(x, 0).expect(rt, "a cell");
+        assert!(rt; scene.grid().is_open(cell));
+    }
+    let start = Cell::new(0, 0).expect(rt, "a cell");
+    agent.number() == 0 && row.goal.x() == 2 && row.plan.cells() == [start].as_slice()
+}
+
+#[test]
+fn each_edit_fault(rt: HostRuntime) {
+    let alloc = rt.alloc();
+    let mut scene = corridor(&rt, alloc);
+    for (line, fault) in [
+        ("agent 0 0,0 0,0", EditFault::AgentTaken),
+        ("agent 1 3,0 0,0", EditFault::OutOfMap),
+        ("drop 7", EditFault::UnknownAgent),
+        ("goal 0 0,1", EditFault::OutOfMap),
+        ("path 0", EditFault::EmptyPath),
+        ("path 0 1,0", EditFault::NotFromStart),
+        ("path 0 0,0 0,0 2,0", EditFault::NotAStep { at: 2 }),
+        ("tail 0 1", EditFault::NoSuchTime),
+        ("tail 0 0 2,0", EditFault::NotAStep { at: 1 }),
+        ("open 0,1", EditFault::OutOfMap),
+        ("close 3,0", EditFault::OutOfMap),
+    ] {
+        let edit = edit(alloc, line).expect(&rt, "an edit");
+        assert!(rt;
+            scene.apply(&edit).err() == Some(ApplyFault::Fault(fault)),
+            "{line}"
+        );
+        assert!(rt; is_corridor(&rt, &scene), "{line}");
+    }
+}
+
+#[test]
+fn all_or_none(rt: HostRuntime) {
+    let alloc = rt.alloc();
+    let mut scene = corridor(&rt, alloc);
+    let lines = [
+        "agent 1 1,0 2,0",
+        "close 1,0",
+        "path 0 0,0 1,0",
+        "goal 0 1,0",
+        "drop 0",
+        "open 0,0",
+        "goal 0 0,0",
+    ];
+    let edits = edits(alloc, &lines).expect(&rt, "edits");
+    let fault = EditsFault::Faulty {
+        index: 6,
+        why: EditFault::UnknownAgent,
+    };
+    assert!(rt; scene.apply_all(edits.as_slice()).err() == Some(fault));
+    assert!(rt; is_corridor(&rt, &scene));
+}
+
+#[test]
+fn cells_open_and_close(rt: HostRuntime) {
+    let alloc = rt.alloc();
+    let mut scene = corridor(&rt, alloc);
+    for (line, flips) in [
+        ("open 1,0", false),
+        ("close 1,0", true),
+        ("close 1,0", false),
+        ("open 1,0", true),
+    ] {
+        let edit = edit(alloc, line).expect(&rt, "an edit");
+        match scene.apply(&edit) {
+            Ok(change) => assert!(rt; matches!(&change, Change::Flipped { .. }) == flips),
+            Err(_) => panic!(rt; "{line}"),
+        }
+    }
+}
+
+// Agent 0's path of so many cells, all where it starts.
+fn resting(rt: &impl Abort, alloc: Global, many: usize) -> Edit {
+    let start = Cell::new(0, 0).expect(rt, "a cell");
+    Edit::Path {
+        agent: Agent::LEAST,
+        cells: List::new(vec![in alloc; start; many].expect(rt, "memory")),
+    }
+}
+
+#[test]
+fn larger_limits(rt: HostRuntime) {
+    let alloc = rt.alloc();
+    let mut scene = corridor(&rt, alloc);
+    match scene.apply(&resting(&rt, alloc, 65_537)) {
+        Ok(Change::Moved { since, .. }) => assert!(rt; since.is_none()),
+        _ => panic!(rt; "not moved"),
+    }
+    let refused = scene.apply(&resting(&rt, alloc, 131_073)).err();
+    assert!(rt; refused == Some(ApplyFault::Fault(EditFault::TooLong)));
+    let start = Cell::new(0, 0).expect(&rt, "a cell");
+    for number in 1..=8_192 {
+        let agent = Agent::new(number).expect(&rt, "an agent");
+        let add = Edit::Add {
+            agent,
+            start,
+            goal: start,
+        };
+        let fault = match scene.apply(&add) {
+            Ok(_) => None,
+            Err(fault) => Some(fault),
+        };
+        let full = Some(ApplyFault::Fault(EditFault::TooManyAgents));
+        assert!(rt; fault == if number < 8_192 { None } else { full });
+    }
+}

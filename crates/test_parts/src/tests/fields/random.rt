@@ -1,0 +1,84 @@
+//! Random changes of small maps, and a breadth-first search after each.
+ghost use Rattle.std.specs.Prelude.{◌≡◌};
+ghost use Rattle.grid_cells.specs.Size.{Holds};
+
+use super::build::{at, change, open_map};
+use goal_fields::{Field, PlainField};
+use grid_cells::{Cell, Grid, Size};
+use std::alloc::Global;
+use std::process::Abort;
+use test_support::Chain;
+
+// A cell of the map.
+fn pick(rt: &impl Abort, chain: &mut Chain, size: Size) -> Cell
+    ensures { Holds size result }
+{
+    let x = chain.roll(7) as u32 % size.width();
+    let y = chain.roll(7) as u32 % size.height();
+    size.cell(x, y).expect(rt, "a cell")
+}
+
+// What the change count is by its definition, of a cell with those distances before and after.
+fn changes(before: Option<u32>, after: Option<u32>) -> u64 {
+    let grew = before.is_some() && (after.is_none() || before < after);
+    let came = after.is_some() && before != after;
+    u64::from(grew) + u64::from(came)
+}
+
+// Looks at all distances by breadth-first search, and adds up what has changed since those before, in
+// whose place it puts them.
+fn compare(
+    rt: &impl Abort,
+    alloc: Global,
+    field: &Field,
+    grid: &Grid,
+    goal: Cell,
+    before: &mut Vec<Option<u32>>,
+) -> u64
+    requires { Holds grid.now.size goal }
+{
+    let plain = PlainField::new(alloc, grid, goal).expect(rt, "memory");
+    let size = grid.size();
+    let mut all = Vec::new(alloc);
+    let mut count = 0u64;
+    for y in 0..size.height() {
+        for x in 0..size.width() {
+            let cell = at(rt, x, y);
+            let distance = plain.distance(cell);
+            assert!(rt; field.distance(cell) == distance);
+            let old = before.get(all.len()).copied().unwrap_or(None);
+            count = count.saturating_add(changes(old, distance));
+            all.push(distance).expect(rt, "memory");
+        }
+    }
+    *before = all;
+    count
+}
+
+// Opens and closes cells of one map, and looks at each distance and each count.
+fn edit_at_random(rt: &impl Abort, alloc: Global, size: Size, chain: &mut Chain) {
+    let goal = pick(rt, chain, size);
+    let mut grid = open_map(rt, alloc, size);
+    let mut field = Field::new(alloc, &grid, goal).expect(rt, "memory");
+    let mut before = Vec::new(alloc);
+    let _ = compare(rt, alloc, &field, &grid, goal, &mut before);
+    for _ in 0..12u32 {
+        let cells = [
+            pick(rt, chain, size),
+            pick(rt, chain, size),
+            pick(rt, chain, size),
+        ];
+        let count = change(&mut field, &mut grid, &cells, chain.roll(3) == 0);
+        assert!(rt; count == compare(rt, alloc, &field, &grid, goal, &mut before));
+    }
+}
+
+#[test]
+fn fields_agree_on_random_edits(rt: HostRuntime) {
+    let mut chain = Chain::new(1);
+    for _ in 0..40u32 {
+        let width = chain.roll(7) as u32 + 1;
+        let size = Size::new(width, chain.roll(7) as u32 + 1).expect(&rt, "a size");
+        edit_at_random(&rt, rt.alloc(), size, &mut chain);
+    }
+}

@@ -1,0 +1,120 @@
+//! Texts of scenarios, why they are refused, and scenes of tasks.
+use bench_reader::{ScenFault, Task, one_scen_answer, read_scen};
+use grid_cells::{Cell, Size};
+use scene_edits::{Scene, TaskFault};
+use test_support::open_grid;
+
+#[test]
+fn counts_of_tasks(rt: HostRuntime) {
+    let size = Size::new(3, 2).expect(&rt, "a size");
+    for (text, count) in [
+        ("version 1.0", 0),
+        ("version 1\r\n\r\n", 0),
+        (
+            "version 1\n\n0 m 3 2 0 0 2 1 x\n \t\n7 m 003 2 1 1 1 1 x\r\n",
+            2,
+        ),
+    ] {
+        let Ok(tasks) = read_scen(rt.alloc(), text.as_bytes(), size) else {
+            panic!(rt; "{text}");
+        };
+        assert!(rt; tasks.items().len() == count, "{text}");
+    }
+    one_scen_answer();
+}
+
+// Texts of scenarios for a map of 3 x 2 cells that are refused, why, and what is said of that.
+const FAULTY: [(&str, ScenFault, &str); 14] = [
+    ("", ScenFault::BadVersion, "bad version"),
+    ("version 2\n", ScenFault::BadVersion, "bad version"),
+    ("version 1.00\n", ScenFault::BadVersion, "bad version"),
+    (
+        "version 1\n0 m 3 2 3 0 2 1 1\n",
+        ScenFault::OutOfMap { line: 2, field: 5 },
+        "out of map in line 2, field 5",
+    ),
+    (
+        "version 1\n0 m 3 2 0 -1 2 1 1\n",
+        ScenFault::BadNumber { line: 2, field: 6 },
+        "bad number in line 2, field 6",
+    ),
+    (
+        "version 1\n0 m 3 2 0 0 2 1\n",
+        ScenFault::FieldCount { line: 2 },
+        "field count in line 2",
+    ),
+    (
+        "version 1\n0 m 3 2 0 0 2 1 1 1\n",
+        ScenFault::FieldCount { line: 2 },
+        "field count in line 2",
+    ),
+    (
+        "version 1\n0 m 4 2 0 0 2 1 1\n",
+        ScenFault::SizeMismatch { line: 2 },
+        "size mismatch in line 2",
+    ),
+    (
+        "version 1\n0 m 3 3 9 0 2 1 1\n",
+        ScenFault::SizeMismatch { line: 2 },
+        "size mismatch in line 2",
+    ),
+    (
+        "version 1\n4294967296 m 4 2 0 x 2 1 1\n",
+        ScenFault::BadNumber { line: 2, field: 1 },
+        "bad number in line 2, field 1",
+    ),
+    (
+        "version 1\n0 m 3 2 0 2 3 1 1\n",
+        ScenFault::OutOfMap { line: 2, field: 6 },
+        "out of map in line 2, field 6",
+    ),
+    (
+        "version 1\n0 m 3 2 0 0 3 2 1\n",
+        ScenFault::OutOfMap { line: 2, field: 7 },
+        "out of map in line 2, field 7",
+    ),
+    (
+        "version 1\n0 m 3 2 0 0 2 2 1\n",
+        ScenFault::OutOfMap { line: 2, field: 8 },
+        "out of map in line 2, field 8",
+    ),
+    (
+        "version 1\n0 m 3 2 0 0 2 1 1\n\n0 m 3 2 0 0 2 1",
+        ScenFault::FieldCount { line: 4 },
+        "field count in line 4",
+    ),
+];
+
+#[test]
+fn faults_of_scenarios(rt: HostRuntime) {
+    let size = Size::new(3, 2).expect(&rt, "a size");
+    for (text, fault, said) in FAULTY {
+        let found = read_scen(rt.alloc(), text.as_bytes(), size).err();
+        assert!(rt; found == Some(fault), "{text}");
+        let shown = format!(in rt.alloc(); "{fault}").expect(&rt, "memory");
+        assert!(rt; shown.as_str() == said, "{said}");
+    }
+}
+
+#[test]
+fn faults_of_tasks(rt: HostRuntime) {
+    let alloc = rt.alloc();
+    let task = Task {
+        bucket: 0,
+        start: Cell::new(0, 0).expect(&rt, "a cell"),
+        goal: Cell::new(2, 1).expect(&rt, "a cell"),
+    };
+    let tasks = vec![in alloc; task; 8_193].expect(&rt, "memory");
+    for (height, have, many, fault) in [
+        (2, 1, 2, TaskFault::TooFewTasks { have: 1 }),
+        (2, 8_193, 8_193, TaskFault::TooManyAgents),
+        (1, 1, 1, TaskFault::OutOfMap { task: 0 }),
+    ] {
+        let grid = open_grid(alloc, 3, height).expect(&rt, "a map");
+        let tasks = tasks.get(..have).expect(&rt, "tasks");
+        match Scene::with_tasks(alloc, grid, tasks, many) {
+            Ok(_) => panic!(rt; "no fault"),
+            Err((found, _)) => assert!(rt; found == fault),
+        }
+    }
+}
