@@ -55,8 +55,8 @@ pub fn put_and_swap(rt: &impl Abort, alloc: Global, trial: &mut Trial) -> Option
     swap_without_memory(rt, alloc, trial, &before, &after)
 }
 
-// The path that comes ends at time 22. It has 22 Stand records, a Tail and 21 Moves, of which the path
-// before has Stand 0 and 1 and Move 0; that one has a Tail and a Move of its own. So 41 records come
+// The path that comes ends at time 42. It has 42 Stand records, a Tail and 41 Moves, of which the path
+// before has Stand 0 and 1 and Move 0; that one has a Tail and a Move of its own. So 81 records come
 // and 2 go.
 fn swap_with_growth(
     rt: &impl Abort,
@@ -69,15 +69,18 @@ fn swap_with_growth(
     trial.leave(rt);
     let index = swapped(rt, index, before, after);
     let index = trial.met(rt, index)?;
-    assert!(rt; index.touched() == 48 && index.end(agent(rt, 0)) == Some((22, at(rt, 1, 0))));
-    assert!(rt; index.movers(Step::new(21), at(rt, 2, 0)).len() == 1);
+    assert!(rt; index.touched() == 88 && index.end(agent(rt, 0)) == Some((42, at(rt, 1, 0))));
+    assert!(rt; index.movers(Step::new(41), at(rt, 2, 0)).len() == 1);
     assert!(rt; index.movers(Step::new(1), at(rt, 1, 0)).is_empty());
     Some(())
 }
 
-// Waits at (1,0), and goes ten times on to (2,0) and back.
-const TO_AND_FRO: &str =
-    "path 0 0,0 1,0 1,0 2,0 1,0 2,0 1,0 2,0 1,0 2,0 1,0 2,0 1,0 2,0 1,0 2,0 1,0 2,0 1,0 2,0 1,0 2,0 1,0";
+// Waits at (1,0), and goes twenty times on to (2,0) and back.
+const TO_AND_FRO: &str = "path 0 0,0 1,0 1,0 \
+    2,0 1,0 2,0 1,0 2,0 1,0 2,0 1,0 2,0 1,0 \
+    2,0 1,0 2,0 1,0 2,0 1,0 2,0 1,0 2,0 1,0 \
+    2,0 1,0 2,0 1,0 2,0 1,0 2,0 1,0 2,0 1,0 \
+    2,0 1,0 2,0 1,0 2,0 1,0 2,0 1,0 2,0 1,0";
 
 pub fn swap_for_a_long_path(rt: &impl Abort, alloc: Global, trial: &mut Trial) -> Option<()> {
     let before = plan(rt, alloc, "path 0 0,0 1,0 2,0");
