@@ -2,7 +2,7 @@
 """Writes the maps and scenarios of this folder, in the text forms of the MovingAI benchmarks.
 
 The same files go to crates/demo_maps/data, where the gate reads them. The corridor's map, session and
-answers are written by hand; they are copied to crates/demo_session, where the gate runs them.
+answers are written by hand; they are copied to crates/mapf_desk, whose run in the gate they are.
 
 Each run writes the same files: the generator below has a fixed seed and uses integers alone.
 A scenario's tasks have distinct starts and distinct goals, and each goal can be reached. The
@@ -106,10 +106,10 @@ def write(name, rows, numbers):
 
 def copy_corridor():
     demo = Path(__file__).resolve().parent
-    crate = demo.parent / "crates" / "demo_session"
-    for name in ["corridor.map", "corridor.session"]:
-        (crate / "data" / name).write_bytes((demo / name).read_bytes())
-    (crate / "stdout").write_bytes((demo / "corridor.answers").read_bytes())
+    program = demo.parent / "crates" / "mapf_desk"
+    session = (demo / "corridor.map").read_bytes() + (demo / "corridor.session").read_bytes()
+    (program / "stdin").write_bytes(session)
+    (program / "stdout").write_bytes((demo / "corridor.answers").read_bytes())
 
 
 def main():
