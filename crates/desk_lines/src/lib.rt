@@ -10,6 +10,3 @@ mod shapes;
 mod values;
 
 pub use requests::{LineFault, Request, read_line};
-
-#[cfg(test)]
-mod tests;

@@ -17,6 +17,3 @@ pub use counters::Counter;
 pub use desk_journal::{Journal, JournalFault, read_journal, upgrade_journal, write_journal};
 pub use serving::serve;
 pub use starting::{hear_map, serve_with_map};
-
-#[cfg(test)]
-mod tests;

@@ -4,6 +4,3 @@
 mod windows;
 
 pub use windows::Window;
-
-#[cfg(test)]
-mod tests;

@@ -1,7 +1,0 @@
-mod fakes;
-mod replies;
-mod reports;
-mod served;
-mod sessions;
-mod started;
-mod table;

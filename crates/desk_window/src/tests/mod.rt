@@ -1,4 +1,0 @@
-//! Sessions over a shared desk. Answers are written by hand.
-mod build;
-mod sessions;
-mod stale;

@@ -1,0 +1,103 @@
+use super::worked::MAP;
+use desk_audit::{Gate, NoGate};
+use desk_report::Spout;
+use desk_runs::{RunFault, run_drill};
+use plan_table::Mode;
+use std::alloc::Global;
+use std::process::Abort;
+use std::sync::Wait;
+use std::sync::atomic::{AtomicBool, AtomicU64, Ordering};
+use std::thread;
+use std::thread::Threads;
+
+// The scripts' bytes.
+pub fn texts(rt: &impl Abort, alloc: Global, scripts: &[&[u8]]) -> Vec<Vec<u8>> {
+    let mut all = Vec::new(alloc);
+    for script in scripts {
+        let text = script.to_vec(alloc).expect(rt, "memory");
+        all.push(text).expect(rt, "memory");
+    }
+    all
+}
+
+// What `run_drill` answers on that map with those scripts, and what it writes.
+pub fn drilled<R: Threads + Wait + Sync, G: Gate>(
+    rt: &R,
+    alloc: Global,
+    map: &str,
+    scripts: Vec<Vec<u8>>,
+    gate: &G,
+) -> (Result<bool, RunFault>, Vec<u8>) {
+    let mut writer = Spout::new(Vec::new(alloc));
+    let ended = run_drill(
+        rt,
+        alloc,
+        map.as_bytes(),
+        None,
+        0,
+        Mode::Stay,
+        4,
+        scripts,
+        gate,
+        &mut writer,
+    );
+    (ended, writer.into_inner())
+}
+
+// Scripts that are one too many are refused before the map is read.
+#[test]
+fn too_many_scripts(rt: HostRuntime) {
+    let alloc = rt.alloc();
+    for (count, wanted) in [(256, "too many scripts"), (255, "map: not octile")] {
+        let mut scripts = Vec::new(alloc);
+        for _ in 0..count {
+            scripts.push(Vec::new(alloc)).expect(&rt, "memory");
+        }
+        let (ended, written) = drilled(&rt, alloc, "", scripts, &NoGate);
+        let fault = ended.expect_err(&rt, "a fault");
+        let text = format!(in alloc; "{fault}").expect(&rt, "a text");
+        assert!(rt; text.as_str() == wanted);
+        assert!(rt; written.is_empty());
+    }
+}
+
+// Holds each of two scripts until the other has begun. The wrong body drill_one_after_another misses.
+#[derive(Drop)]
+struct Meeting {
+    begun: [AtomicBool; 2],
+    missed: AtomicU64,
+}
+
+// How often a script looks whether the other has begun.
+const MOST_TURNS: u32 = 10_000_000;
+
+impl Gate for Meeting {
+    fn begins(&self, script: u32) {
+        let mine = if script == 0 { 0 } else { 1 };
+        self.begun[mine].store(true, Ordering::SeqCst);
+        for _ in 0..MOST_TURNS {
+            if self.begun[1 - mine].load(Ordering::SeqCst) {
+                return;
+            }
+            thread::yield_now();
+        }
+        self.missed.store(1, Ordering::SeqCst);
+    }
+}
+
+#[test]
+fn scripts_run_at_once(rt: HostRuntime) {
+    let alloc = rt.alloc();
+    let scripts = texts(
+        &rt,
+        alloc,
+        &[b"agent 0 0,0 0,0".as_slice(), b"agent 1 2,0 2,0".as_slice()],
+    );
+    let gate = Meeting {
+        begun: [AtomicBool::new(false), AtomicBool::new(false)],
+        missed: AtomicU64::new(0),
+    };
+    let (ended, _) = drilled(&rt, alloc, MAP, scripts, &gate);
+    assert!(rt; ended == Ok(true));
+    assert!(rt; gate.missed.load(Ordering::SeqCst) == 0);
+}

@@ -1,0 +1,134 @@
+//! Drills while memory comes back block by block.
+use crate::tests::drills::texts;
+use crate::tests::worked::MAP;
+use desk_audit::Gate;
+use desk_report::Spout;
+use desk_runs::{RunFault, run_drill};
+use plan_table::Mode;
+use std::alloc::Global;
+use std::process::Abort;
+use std::sync::Wait;
+use std::sync::atomic::{AtomicU64, Ordering};
+use std::thread::Threads;
+use want_of_memory::take_all;
+
+// The drill's text where both scripts' edits were accepted, where one was and the other found no
+// memory, and where neither found any.
+const TEXTS: [&str; 4] = [
+    "version 2\nagents 2\nagent 0 settle 0 goal yes bound 0 gap 0\nagent 1 settle 0 goal yes bound 0 gap 0\nconflicts 0\nblocked 0\nsum 0\nmakespan 0\nbounds 0\ngap 0\nend\naudit same\n",
+    "version 1\nagents 1\nagent 0 settle 0 goal yes bound 0 gap 0\nconflicts 0\nblocked 0\nsum 0\nmakespan 0\nbounds 0\ngap 0\nend\naudit same\n",
+    "version 1\nagents 1\nagent 1 settle 0 goal yes bound 0 gap 0\nconflicts 0\nblocked 0\nsum 0\nmakespan 0\nbounds 0\ngap 0\nend\naudit same\n",
+    "version 0\nagents 0\nconflicts 0\nblocked 0\nsum 0\nmakespan 0\nbounds 0\ngap 0\nend\naudit same\n",
+];
+
+// Counts the scripts that begin.
+#[derive(Drop)]
+struct Turnstile {
+    begun: AtomicU64,
+}
+
+impl Gate for Turnstile {
+    fn begins(&self, _script: u32) {
+        self.begun.fetch_add(1, Ordering::SeqCst);
+    }
+}
+
+// Whether a hundred thousand bytes can be had, which is more than the drill's growths take in all.
+fn is_ample(alloc: Global) -> bool {
+    let block: Result<Vec<u8>, _> = Vec::with_capacity(alloc, 100_000);
+    block.is_ok()
+}
+
+// What `run_drill` answers, and what it writes. The writer has room.
+fn drilled<R: Threads + Wait + Sync>(
+    rt: &R,
+    alloc: Global,
+    scripts: Vec<Vec<u8>>,
+    gate: &Turnstile,
+    room: Vec<u8>,
+) -> (Result<bool, RunFault>, Vec<u8>) {
+    let mut writer = Spout::new(room);
+    let ended = run_drill(
+        rt,
+        alloc,
+        MAP.as_bytes(),
+        None,
+        0,
+        Mode::Stay,
+        4,
+        scripts,
+        gate,
+        &mut writer,
+    );
+    (ended, writer.into_inner())
+}
+
+// How a drill of two scripts ended: the text that it wrote, if it did, and how many scripts began.
+#[derive(Clone, Copy, Debug)]
+struct Ended {
+    text: Option<usize>,
+    begun: u64,
+}
+
+// Runs the drill. The room comes back empty.
+fn end_of<R: Threads + Wait + Sync + Abort>(
+    rt: &R,
+    alloc: Global,
+    scripts: Vec<Vec<u8>>,
+    room: Vec<u8>,
+) -> (Ended, Vec<u8>) {
+    let gate = Turnstile {
+        begun: AtomicU64::new(0),
+    };
+    let (ended, mut written) = drilled(rt, alloc, scripts, &gate, room);
+    let begun = gate.begun.load(Ordering::SeqCst);
+    let place = TEXTS
+        .iter()
+        .position(|text| text.as_bytes() == written.as_slice());
+    match ended {
+        Err(fault) => assert!(rt; fault == RunFault::OutOfMemory && written.is_empty()),
+        Ok(same) => assert!(rt; same && begun == 2 && place.is_some()),
+    }
+    written.clear();
+    (Ended { text: place, begun }, written)
+}
+
+// As many lists of the two scripts as there may be drills.
+fn scripts(rt: &impl Abort, alloc: Global) -> Vec<Vec<Vec<u8>>> {
+    let mut all = Vec::new(alloc);
+    for _ in 0..1_000 {
+        let two = [b"agent 0 0,0 0,0".as_slice(), b"agent 1 2,0 2,0".as_slice()];
+        all.push(texts(rt, alloc, &two)).expect(rt, "memory");
+    }
+    all
+}
+
+// After the first drill that has both agents no more blocks are held. The drills before it have
+// found no memory; at some of them no thread could be started, and at some one of two, though there
+// was memory for all growths.
+#[test]
+fn drill_of_two_scripts(rt: HostRuntime) {
+    let alloc = rt.alloc();
+    let mut room: Vec<u8> = Vec::with_capacity(alloc, 2_000).expect(&rt, "memory");
+    let all = scripts(&rt, alloc);
+    let mut blocks: Vec<Vec<u8>> = Vec::with_capacity(alloc, 1_000_000).expect(&rt, "memory");
+    take_all(alloc, &mut blocks);
+    let mut unstarted = [false; 3];
+    for scripts in all {
+        let ample = is_ample(alloc);
+        let (ended, back) = end_of(&rt, alloc, scripts, room);
+        room = back;
+        match ended {
+            Ended { text: Some(0), .. } => {
+                drop(blocks);
+                println!(rt; "unstarted {unstarted:?}").expect(&rt, "print");
+                assert!(rt; unstarted[0]);
+                return;
+            }
+            Ended { text: None, begun } if ample && begun < 3 => unstarted[begun as usize] = true,
+            Ended { .. } => {}
+        }
+        let _block = blocks.pop();
+    }
+    panic!(rt; "no drill had both agents");
+}
