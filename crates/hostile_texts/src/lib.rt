@@ -1,5 +1,4 @@
-//! Tests of hostile input: edited texts beside plain readers of their grammars, and readers and
-//! writers that fail or never end.
+//! Tests of sessions at the bounds of lines and bytes.
 #![tactic(auto)]
 
 #[cfg(test)]

@@ -1,11 +1,31 @@
 //! Sessions at the bounds of lines and bytes.
-use super::fakes::Repeated;
-use super::serving::over_desk;
-use desk_report::Tap;
-use desk_session::{Bounds, ServeFault};
+use desk_core::{Desk, Limit, Scene};
+use desk_report::{Source, Spout, Tap};
+use desk_session::{Bounds, ServeFault, serve};
+use std::alloc::Global;
+use std::process::Abort;
+use test_support::{Repeated, open_grid};
 
 /// Four megabytes.
 const BYTES: u64 = 4 << 20;
+
+// Serves a session over an open map of one cell, and tells what is written.
+fn over_desk<R: Source>(
+    rt: &impl Abort,
+    alloc: Global,
+    reader: &mut R,
+    bounds: Bounds,
+) -> (Result<u32, ServeFault>, Vec<u8>) {
+    let grid = open_grid(alloc, 1, 1).expect(rt, "a map");
+    let mut desk = Desk::open(
+        alloc,
+        Scene::bare(alloc, grid),
+        Limit::new(8).expect(rt, "a limit"),
+    );
+    let mut writer = Spout::new(Vec::new(alloc));
+    let ended = serve(alloc, &mut desk, reader, &mut writer, bounds);
+    (ended, writer.into_inner())
+}
 
 #[test]
 fn lines_at_the_bound_of_bytes(rt: HostRuntime) {
@@ -25,18 +45,14 @@ fn lines_at_the_bound_of_bytes(rt: HostRuntime) {
         (b' ', BYTES, BYTES + 1, Ok(1), ""),
         (b'\n', u64::MAX, 11, Err(ServeFault::TooManyLines), ""),
     ] {
-        let mut reader = Repeated {
-            byte,
-            left,
-            calls: 0,
-        };
+        let mut reader = Repeated::new(byte, left);
         let bounds = Bounds {
             lines: 10,
             bytes: BYTES,
         };
         let (got, written) = over_desk(&rt, rt.alloc(), &mut reader, bounds);
         assert_eq!(rt; got, ended, "{left} times {byte}");
-        assert_eq!(rt; reader.calls, calls, "{left} times {byte}");
+        assert_eq!(rt; reader.calls(), calls, "{left} times {byte}");
         assert_eq!(rt; written.as_slice(), text.as_bytes(), "{left} times {byte}");
     }
 }

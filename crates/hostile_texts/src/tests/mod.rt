@@ -1,14 +1,1 @@
 mod bounds;
-mod chance;
-mod edited_journals;
-mod edited_maps;
-mod edited_scens;
-mod edited_sessions;
-mod fakes;
-mod long_commits;
-mod long_journals;
-mod plain;
-mod scen_fronts;
-mod scen_lines;
-mod serving;
-mod session_fronts;

@@ -1,11 +1,12 @@
 //! Edited journals.
-use super::chance::{Chain, edited};
+use super::chance::edited;
 use super::plain::journals::first_bad;
 use super::plain::words::shown;
 use desk_journal::{JournalFault, read_journal, upgrade_journal};
 use plan_table::Mode;
 use std::alloc::Global;
 use std::process::Abort;
+use test_support::Chain;
 
 const GOOD: &[&str] = &[
     "journal 1\nentry 1 0 0 1\npath 3 0,0 1,0\nend 1\n",
@@ -60,7 +61,7 @@ pub fn compare(rt: &impl Abort, alloc: Global, text: &[u8]) -> usize {
 #[test]
 fn edited_journals(rt: HostRuntime) {
     let alloc = rt.alloc();
-    let mut chain = Chain { state: 3 };
+    let mut chain = Chain::new(3);
     let mut seen = [0u32; 16];
     for _ in 0..2_500 {
         let text = edited(&rt, alloc, &mut chain, GOOD);

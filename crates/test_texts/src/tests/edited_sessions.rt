@@ -1,5 +1,5 @@
 //! Edited sessions, each with its map.
-use super::chance::{Chain, edited};
+use super::chance::edited;
 use super::plain::hearing::hear_all;
 use super::plain::maps::read;
 use super::plain::starts::parted;
@@ -8,6 +8,7 @@ use super::serving::served;
 use desk_session::StartFault;
 use std::alloc::Global;
 use std::process::Abort;
+use test_support::Chain;
 
 /// Good sessions.
 pub const GOOD: &[&str] = &[
@@ -46,7 +47,7 @@ fn good_sessions(rt: HostRuntime) {
 #[test]
 fn edited_sessions(rt: HostRuntime) {
     let alloc = rt.alloc();
-    let mut chain = Chain { state: 4 };
+    let mut chain = Chain::new(4);
     let mut begun = 0u32;
     for _ in 0..2_500 {
         let text = edited(&rt, alloc, &mut chain, GOOD);

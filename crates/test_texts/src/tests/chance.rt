@@ -1,32 +1,11 @@
 //! Edits that look like chance.
-ghost use Rattle.std.specs.Prelude.{◌<◌};
-
 use super::plain::words::pieces;
 use std::alloc::Global;
 use std::process::Abort;
+use test_support::Chain;
 
 // What is put in most often: the bytes that the grammars are made of.
 const LIKELY: &[u8] = b" \t\r\n,#-.@Gxey0123456789";
-
-/// A chain of numbers without pattern (Knuth's linear congruential generator).
-#[derive(Drop)]
-pub struct Chain {
-    pub state: u64,
-}
-
-impl Chain {
-    /// The next number, below `sides`.
-    pub fn roll(&mut self, sides: usize) -> usize
-        requires { 0 < sides }
-        ensures { result < sides }
-    {
-        self.state = self
-            .state
-            .wrapping_mul(6_364_136_223_846_793_005)
-            .wrapping_add(1_442_695_040_888_963_407);
-        (self.state >> 33) as usize % sides
-    }
-}
 
 fn some_byte(chain: &mut Chain) -> u8 {
     if chain.roll(4) == 0 {

@@ -1,11 +1,12 @@
 //! Edited maps.
-use super::chance::{Chain, edited};
+use super::chance::edited;
 use super::plain::maps::{Chart, read};
 use super::plain::words::shown;
 use bench_reader::{MapFault, read_map};
 use grid_cells::Grid;
 use std::alloc::Global;
 use std::process::Abort;
+use test_support::Chain;
 
 const GOOD: &[&str] = &[
     "type octile\nheight 1\nwidth 1\nmap\n.\n",
@@ -66,7 +67,7 @@ fn compare(rt: &impl Abort, alloc: Global, text: &[u8]) -> usize {
 #[test]
 fn edited_maps(rt: HostRuntime) {
     let alloc = rt.alloc();
-    let mut chain = Chain { state: 1 };
+    let mut chain = Chain::new(1);
     let mut seen = [0u32; 10];
     for _ in 0..2_500 {
         let text = edited(&rt, alloc, &mut chain, GOOD);

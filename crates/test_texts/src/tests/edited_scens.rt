@@ -1,11 +1,12 @@
 //! Edited scenarios.
-use super::chance::{Chain, edited};
+use super::chance::edited;
 use super::plain::scens::{Errand, read};
 use super::plain::words::shown;
 use bench_reader::{ScenFault, Task, read_scen};
 use grid_cells::Size;
 use std::alloc::Global;
 use std::process::Abort;
+use test_support::Chain;
 
 const WIDTH: u32 = 12;
 
@@ -69,7 +70,7 @@ pub fn compare(rt: &impl Abort, alloc: Global, text: &[u8]) -> usize {
 #[test]
 fn edited_scenarios(rt: HostRuntime) {
     let alloc = rt.alloc();
-    let mut chain = Chain { state: 2 };
+    let mut chain = Chain::new(2);
     let mut seen = [0u32; 7];
     for _ in 0..2_500 {
         let text = edited(&rt, alloc, &mut chain, GOOD);

@@ -1,11 +1,11 @@
 //! Every front of a session, and sessions that are broken off at every place.
 use super::edited_sessions::{GOOD, compare};
-use super::fakes::{Short, Torn};
 use super::serving::{over_map, served};
 use desk_report::{Spout, Tap};
 use desk_session::{ServeFault, StartFault};
 use std::alloc::Global;
 use std::process::Abort;
+use test_support::{Short, Torn};
 
 const MAP: &str = "type octile\nheight 1\nwidth 3\nmap\n...\n";
 
@@ -71,18 +71,13 @@ fn readers_that_fail(rt: HostRuntime) {
     let alloc = rt.alloc();
     let text = session(&rt, alloc);
     for end in 0..=text.len() {
-        let mut reader = Torn {
-            bytes: &text.as_slice()[..end],
-            given: 0,
-            failed: false,
-        };
+        let mut reader = Torn::new(text.as_slice(), end);
         let mut writer = Spout::new(Vec::new(alloc));
         let ended = over_map(&rt, alloc, &mut reader, &mut writer);
-        assert_eq!(rt; ended, Err(StartFault::Serve(ServeFault::ReadFailed)));
-        assert!(rt;
-            writer.into_inner() == answers(&rt, alloc, end),
-            "{end} bytes"
-        );
+        assert!(rt; ended == Err(StartFault::Serve(ServeFault::ReadFailed)));
+        assert!(rt; reader.calls() == end + 1, "no read after the failure");
+        let written: Vec<u8> = writer.into_inner();
+        assert!(rt; written == answers(&rt, alloc, end), "{end} bytes");
     }
 }
 
@@ -93,14 +88,10 @@ fn writers_that_fail(rt: HostRuntime) {
         let (_, whole) = served(&rt, alloc, text.as_bytes());
         for room in 0..whole.len() {
             let mut reader = Tap::new(text.as_bytes());
-            let mut writer = Short {
-                room,
-                held: Vec::new(alloc),
-                broken: false,
-            };
+            let mut writer = Short::new(alloc, room);
             let ended = over_map(&rt, alloc, &mut reader, &mut writer);
-            assert_eq!(rt; ended, Err(StartFault::Serve(ServeFault::WriteFailed)));
-            assert_eq!(rt; writer.held.as_slice(), &whole.as_slice()[..room]);
+            assert!(rt; ended == Err(StartFault::Serve(ServeFault::WriteFailed)));
+            assert!(rt; writer.taken() == &whole.as_slice()[..room]);
         }
     }
 }

@@ -1,0 +1,15 @@
+mod chance;
+mod edited_journals;
+mod edited_maps;
+mod edited_scens;
+mod edited_sessions;
+mod journals;
+mod long_commits;
+mod long_journals;
+mod plain;
+mod samples;
+mod scen_fronts;
+mod scen_lines;
+mod serving;
+mod session_fronts;
+mod wants;
