@@ -1,6 +1,9 @@
 -- Beginnings of lists, and the entries of one planner.
-use Rattle.std.proofs.Common.{◌≡◌, ◌≢◌, ℕ, eqb, Bool, true, false, List, [], ◌∷◌, ◌++◌, length, refl, sym, ap, ◌∙◌, arith, append_assoc, length-append, eq-eqb, ne_eqb}
+use Rattle.std.specs.Prelude.{All}
+use Rattle.std.proofs.Common.{◌≡◌, ◌≢◌, ◌⊎◌, inl, inr, ⊎_elim, ℕ, eqb, Bool, true, false, true≢false, List, [], ◌∷◌, ◌++◌, length, drop, take, refl, sym, ap, subst, ◌∙◌, arith, append_assoc, length-append, eq-eqb, ne_eqb}
 use Rattle.std.proofs.lemmas.List.{append-nil}
+use Rattle.std.proofs.lemmas.List.Elements.{All-nil, All-cons, All-take}
+use Rattle.std.proofs.Math.Seq.{take-append_seam, drop-append_seam}
 use mathlib.Core.List.{IsPrefix}
 use Rattle.desk_core.specs.Entries.{Entry}
 use Rattle.desk_shared.specs.Passes.{own_if, own_of}
@@ -37,12 +40,46 @@ prefix_longer (x ∷ xs) (y ∷ ys) (z ∷ zs) p q =
     let rest = prefix_longer xs ys zs (p.0, cc (p.1)) (q.0, cc (q.1)) in
     ((rest.0.0, cc (rest.0.1)), (rest.1.0, cc (heads, rest.1.1)), (rest.2.0, cc (first, rest.2.1)))
 
+-- of two beginnings of one list the longer is one of them
+pub longer_is : {A : Type 0} (xs ys zs : List A) → IsPrefix xs zs → IsPrefix ys zs → (longer xs ys ≡ xs) ⊎ (longer xs ys ≡ ys)
+longer_is [] ys zs p q = inr refl
+longer_is (x ∷ xs) [] zs p q = inl refl
+longer_is (x ∷ xs) (y ∷ ys) [] p q = absurd (cc (p.1))
+longer_is (x ∷ xs) (y ∷ ys) (z ∷ zs) p q =
+    let heads : x ≡ y = cc (p.1, q.1) in
+    ⊎_elim (λ (e : longer xs ys ≡ xs). inl (ap (λ l. x ∷ l) e)) (λ (e : longer xs ys ≡ ys). inr (λ i. heads i ∷ e i)) (longer_is xs ys zs (p.0, cc (p.1)) (q.0, cc (q.1)))
+
+-- what follows the beginning of a list
+pub after_prefix : {A : Type 0} (xs ys : List A) (h : IsPrefix xs ys) → drop (length xs) ys ≡ h.0
+after_prefix xs ys h = ap (drop (length xs)) (sym h.1) ∙ drop-append_seam xs h.0
+
+pub All-prefix : {A : Type 0} (P : A → Type 0) (xs ys : List A) → IsPrefix xs ys → All P ys → All P xs
+All-prefix P xs ys h all = subst (All P) (ap (take (length xs)) (sym h.1) ∙ take-append_seam xs h.0) (All-take P (length xs) ys all)
+
 nil_of : {A : Type 0} (xs : List A) → length xs ≡ 0 → xs ≡ []
 nil_of [] e = refl
 nil_of (x ∷ xs) e = absurd (omega arith)
 
 own_parts : (p : ℕ) (xs ys : List Entry) (h : IsPrefix xs ys) → own_of p ys ≡ own_of p xs ++ own_of p h.0
 own_parts p xs ys h = ap (own_of p) (sym h.1) ∙ own_of-append p xs h.0
+
+-- where the list has no more entries of the planner than its beginning, none follows
+pub own_rest : (p : ℕ) (xs ys : List Entry) (h : IsPrefix xs ys) → own_of p ys ≡ own_of p xs → own_of p h.0 ≡ []
+own_rest p xs ys h e =
+    let parts = ap (λ (l : List Entry). length l) (own_parts p xs ys h) ∙ length-append (own_of p xs) (own_of p h.0) in
+    let same = ap (λ (l : List Entry). length l) e in
+    nil_of (own_of p h.0) (omega arith)
+
+own_if_none : (b : Bool) (x : Entry) (xs : List Entry) → own_if b x xs ≡ [] → (b ≡ false) × (xs ≡ [])
+own_if_none true x xs e = absurd (cc e)
+own_if_none false x xs e = (refl, e)
+
+-- where the planner has none of the entries, each is of another
+pub none_own : (p : ℕ) (xs : List Entry) → own_of p xs ≡ [] → All (λ (x : Entry). x.planner ≢ p) xs
+none_own p [] e = All-nil (λ (x : Entry). x.planner ≢ p)
+none_own p (x ∷ xs) e =
+    let none = own_if_none (eqb x.planner p) x (own_of p xs) e in
+    All-cons (λ (x : Entry). x.planner ≢ p) x xs (λ is. true≢false (sym (eq-eqb x.planner p is) ∙ none.0)) (none_own p xs none.1)
 
 pub own_none : (p : ℕ) (xs ys : List Entry) → IsPrefix xs ys → own_of p ys ≡ [] → own_of p xs ≡ []
 own_none p xs ys h e =

@@ -1,5 +1,6 @@
 -- Each step keeps the rule of the table.
-use Rattle.std.specs.Prelude.{slice_index_or}
+use Rattle.std.specs.Prelude.{slice_index_or, All}
+use Rattle.std.proofs.lemmas.List.Elements.{All-nil, All-push, All-weaker}
 use Rattle.std.proofs.Common.{◌≡◌, ◌≢◌, ℕ, zero, suc, ◌+◌, ◌%◌, ◌^◌, ◌<◌, ◌≤◌, eqb, Bool, true, false, List, [], ◌∷◌, ◌++◌, length, get_or, set, refl, sym, ap, ◌∙◌, subst, ⊎_elim, arith, Option, Some, None, length-set, length-append, get_or-set_other, get_or-set_same, true≢false}
 use mathlib.Core.Logic.{dite}
 use mathlib.Core.Option.{none, some, some-ne-none, some-injective}
@@ -20,9 +21,9 @@ use Rattle.desk_shared.proofs.Journals.{limit_after, version_after, since_after,
 use Rattle.desk_shared.specs.declared.board.Known.{Known}
 use Rattle.desk_shared.specs.declared.board.Stage.{Stage}
 use Rattle.desk_shared.specs.declared.board.Stage.TheVariants.{Making, Idle, Holding, Joined}
-use Rattle.desk_shared.specs.Passes.{own_of, version_at, GoesOn}
-use Rattle.desk_shared.specs.Turns.{shown, since, Stands, Live, IsSpent, IsBusy, IsWithin, Ruled, posed, first_known, reached, won, grew, freed, IsAt, IsNext}
-use Rattle.desk_shared.proofs.Beginnings.{prefix_self, prefix_more, own_of-other}
+use Rattle.desk_shared.specs.Passes.{own_of, version_at, MayGive, AreOfPlanners, HasJust, IsOfAnother, GoesOn}
+use Rattle.desk_shared.specs.Turns.{shown, since, Stands, IsPast, Live, IsBusy, IsWithin, Ruled, posed, first_known, reached, won, grew, freed, IsAt, IsNext}
+use Rattle.desk_shared.proofs.Beginnings.{prefix_self, prefix_more, own_of-other, own_rest, own_none, none_own, after_prefix}
 
 abbrev St : Type 0
 St = State (Option DeskState) Known
@@ -39,37 +40,24 @@ each_stays K vs me w mine others j k e = ⊎_elim (λ (t : (j ≡ me) × (w ≡ 
     (λ (t : (j ≢ me) × (get_elem? vs j ≡ some k)). others j k t.0 t.1) (at_set vs me j w k e)
 
 -- a pass that has not the turn knows nothing of it
-rests : (start : DeskState) (log : List Entry) (turn : ℕ) (homes : Homes) (holder : ℕ) (owner : ℕ → ℕ) (seat : ℕ) (log' : List Entry) (turn' : ℕ) (homes' : Homes) (holder' : ℕ)
-    (made : List Entry) (stage : Stage) → (seat ≡ holder → turn ≡ 1 → ⊥) → Stands start log turn homes holder owner seat made stage → Stands start log' turn' homes' holder' owner seat made stage
-rests start log turn homes holder owner seat log' turn' homes' holder' made Idle away h = tt
-rests start log turn homes holder owner seat log' turn' homes' holder' made Making away h = absurd (away h.0 h.1)
-rests start log turn homes holder owner seat log' turn' homes' holder' made Holding away h = absurd (away h.0 h.1)
-rests start log turn homes holder owner seat log' turn' homes' holder' made (Joined a b p q s) away h = h
-
--- the same pass, where the journal stays
-live_on : (start : DeskState) (log : List Entry) (turn : ℕ) (homes : Homes) (holder : ℕ) (owner : ℕ → ℕ) (seat : ℕ) (turn' : ℕ) (homes' : Homes) (holder' : ℕ) (k : Known)
-    → (seat ≡ holder → turn ≡ 1 → ⊥) → Live start log turn homes holder owner seat k → Live start log turn' homes' holder' owner seat k
-live_on start log turn homes holder owner seat turn' homes' holder' k away l = record {
-  same = l.same;
-  seen = l.seen;
-  floor = l.floor;
-  number = l.number;
-  own = l.own;
-  unused = l.unused;
-  stands = rests start log turn homes holder owner seat log turn' homes' holder' k.made k.stage away l.stands;
-}
+pub rests : (start : DeskState) (log : List Entry) (turn : ℕ) (homes : Homes) (holder seat : ℕ) (log' : List Entry) (turn' : ℕ) (homes' : Homes) (holder' : ℕ)
+    (made : List Entry) (stage : Stage) → (seat ≡ holder → turn ≡ 1 → ⊥) → Stands start log turn homes holder seat made stage → Stands start log' turn' homes' holder' seat made stage
+rests start log turn homes holder seat log' turn' homes' holder' made Idle away h = tt
+rests start log turn homes holder seat log' turn' homes' holder' made Making away h = absurd (away h.0 h.1)
+rests start log turn homes holder seat log' turn' homes' holder' made Holding away h = absurd (away h.0 h.1)
+rests start log turn homes holder seat log' turn' homes' holder' made (Joined a b p q s) away h = h
 
 -- the pass at another stage, which has seen the whole journal
-live_posed : (start : DeskState) (log : List Entry) (turn : ℕ) (homes : Homes) (holder : ℕ) (owner : ℕ → ℕ) (seat : ℕ) (turn' : ℕ) (homes' : Homes) (holder' : ℕ) (k : Known) (stage : Stage)
-    → Live start log turn homes holder owner seat k → Stands start log turn' homes' holder' owner seat log stage → Live start log turn' homes' holder' owner seat (posed k stage log)
-live_posed start log turn homes holder owner seat turn' homes' holder' k stage l h = record {
+live_posed : (start : DeskState) (planners : ℕ) (log : List Entry) (owner : ℕ → ℕ) (seat : ℕ) (k : Known) (stage : Stage) → Live start planners log owner seat k → Live start planners log owner seat (posed k stage log)
+live_posed start planners log owner seat k stage l = record {
   same = l.same;
+  shared = l.shared;
   seen = prefix_self log;
   floor = l.floor;
   number = l.number;
   own = refl;
   unused = l.unused;
-  stands = h;
+  past = All-weaker (IsPast start planners log owner seat k) (IsPast start planners log owner seat (posed k stage log)) (λ n p. record { beside = p.beside; kept = p.kept; whole = p.whole; seen = p.whole }) k.past l.past;
 }
 
 pub set_at : {A : Type 0} (l : List A) (i : ℕ) (a b : A) → get_elem? l i ≡ some a → get_elem? (set l i b) i ≡ some b
@@ -98,34 +86,33 @@ in_hand d (x ∷ xs) = desk_or d x.1
 abbrev pub turn_of : St → ℕ
 turn_of s = get_or s.words 1 0
 
+-- what holds of the pass of a seat
+abbrev pub Stays : (start : DeskState) (planners : ℕ) (log : List Entry) (turn : ℕ) (homes : Homes) (holder : ℕ) (owner : ℕ → ℕ) → ℕ → Known → Type 0
+Stays start planners log turn homes holder owner j v = v.live ≡ true → Live start planners log owner j v × Stands start log turn homes holder j v.made v.stage
+
 pub unmoved : (s : St) (r : Ruled s) (i id : ℕ) (cs : Carried) (k : Known) → get_elem? s.views id ≡ some k → Ruled (stepped s i (get_or s.words i 0) id cs k keeps)
 unmoved s r i id cs k at = subst (λ (z : List ℕ × List Known). Ruled record { words = z.0; homes = s.homes; views = z.1 }) (λ c. (sym (set-get_or s.words i 0) c, sym (set_again s.views id k at) c)) r
 
-pub found : (s : St) (r : Ruled s) (id : ℕ) (k : Known) → Live r.start r.log (turn_of s) s.homes r.holder r.owner id k → GoesOn (shown k) r.log
+pub found : (s : St) (r : Ruled s) (id : ℕ) (k : Known) → Live r.start r.planners r.log r.owner id k → GoesOn (shown k) r.log
 found s r id k l = record {
   seen = l.seen;
   floor = subst (λ (z : DeskState). k.floor ≤ version_at z r.log) (sym l.same) l.floor;
   legal = subst (λ (z : DeskState). IsLegal z r.log) (sym l.same) r.legal;
   within = subst (λ (z : DeskState). version_at z r.log ≤ z.limit) (sym l.same) (legal_within r.start r.log r.within r.legal);
   own = l.own;
+  numbered = subst (λ (n : ℕ). AreOfPlanners n r.log) (sym l.shared) r.numbered;
+  others = subst (All (λ (e : Entry). IsOfAnother (shown k) e.planner)) (sym (after_prefix k.made r.log l.seen)) (λ i d at. (
+    none_own k.planner l.seen.0 (own_rest k.planner k.made r.log l.seen l.own) i d at,
+    λ give. let none = (l.unused (get_or l.seen.0 i d).planner give).1 in
+        none_own (get_or l.seen.0 i d).planner l.seen.0 (own_rest _ k.made r.log l.seen (none ∙ sym (own_none _ k.made r.log l.seen none))) i d at refl,
+  ));
+  past = All-weaker (IsPast r.start r.planners r.log r.owner id k) (HasJust r.log) (λ n p. p.whole) k.past l.past;
 }
-
-pub live_at : (s : St) (r : Ruled s) (id : ℕ) (k : Known) → get_elem? s.views id ≡ some k → k.live ≡ true → (q : ℕ) → r.gone q ≡ true → r.owner q ≢ id
-live_at s r id k at live q g is = let spent = (r.over q g).1 in
-    let same : spent.0 ≡ k = some-injective _ _ (sym spent.1 ∙ (ap (get_elem? s.views) is ∙ at)) in
-    true≢false (sym live ∙ (ap (λ (z : Known). z.live) (sym same) ∙ spent.2))
-
-pub still_spent : (vs : List Known) (id : ℕ) (w : Known) (j : ℕ) → j ≢ id → IsSpent vs j → IsSpent (set vs id w) j
-still_spent vs id w j other h = (h.0, set_else vs id j w other ∙ h.1, h.2)
-
--- what is over stays so at a step of another
-pub over_on : (s : St) (r : Ruled s) (id : ℕ) (k w : Known) → get_elem? s.views id ≡ some k → k.live ≡ true → (q : ℕ) → r.gone q ≡ true → (own_of q r.log ≡ r.past q) × IsSpent (set s.views id w) (r.owner q)
-over_on s r id k w at live q g = ((r.over q g).0, still_spent s.views id w (r.owner q) (live_at s r id k at live q g) (r.over q g).1)
 
 pub wins : (slots id : ℕ) (k : Known) (cs : Carried) → k.live ≡ true → Allows Ruled slots id (k, cs) 1 (λ n. either (eqb n 0) 1 n) (won (step slots 1 0 1 none) (k, cs))
 wins slots id k cs live s r deep at small =
     let n : ℕ = turn_of s in
-    let mine = r.each id k at live in
+    let mine = (r.each id k at live).0 in
     exchanged n 0 1 (λ x. (w : Known) × (a : Act (Option DeskState)) × Valid s.homes cs a × Ruled (stepped s 1 x id cs w a) × won (step slots 1 0 1 none) (k, cs) n (w, carried_after cs a))
     (λ free. let w : Known = posed k Holding r.log in let d : Option DeskState = Some (after k.start r.log) in (
       w,
@@ -135,10 +122,9 @@ wins slots id k cs live s r deep at small =
         start = r.start;
         log = r.log;
         holder = id;
+        planners = r.planners;
         owner = r.owner;
-        gone = r.gone;
-        past = r.past;
-        over = over_on s r id k w at live;
+        numbered = r.numbered;
         wide = length-set s.words 1 1 ∙ r.wide;
         deep = length-set s.homes 0 none ∙ r.deep;
         bounded = r.bounded;
@@ -147,9 +133,9 @@ wins slots id k cs live s r deep at small =
         count = get_or-set_other s.words 1 0 1 0 (λ e. omega arith) ∙ r.count;
         home = λ z. let same = get_or-set_same s.words 1 1 0 (omega arith) in absurd (omega arith);
         held = λ _. held_here s.views id k w at tt;
-        each = each_stays (λ j v. v.live ≡ true → Live r.start r.log (get_or (set s.words 1 1) 1 0) (set s.homes 0 none) id r.owner j v) s.views id w
-            (λ _. live_posed r.start r.log n s.homes r.holder r.owner id (get_or (set s.words 1 1) 1 0) (set s.homes 0 none) id k Holding mine (refl, get_or-set_same s.words 1 1 0 (omega arith), refl))
-            (λ j v other there alive. live_on r.start r.log n s.homes r.holder r.owner j (get_or (set s.words 1 1) 1 0) (set s.homes 0 none) id v (λ _ held. omega arith) (r.each j v there alive));
+        each = each_stays (Stays r.start r.planners r.log (get_or (set s.words 1 1) 1 0) (set s.homes 0 none) id r.owner) s.views id w
+            (λ _. (live_posed r.start r.planners r.log r.owner id k Holding mine, (refl, get_or-set_same s.words 1 1 0 (omega arith), refl)))
+            (λ j v other there alive. let h = r.each j v there alive in (h.0, rests r.start r.log n s.homes r.holder j r.log (get_or (set s.words 1 1) 1 0) (set s.homes 0 none) id v.made v.stage (λ _ held. omega arith) h.1));
       }),
       ((λ _. (found s r id k mine, refl)), λ held. absurd (held free)),
     ))
@@ -162,8 +148,8 @@ carries m m' d cs is has = let e : m.1 ≡ (0, d) ∷ cs = ap (λ (z : Me (Optio
 pub reaches : (slots id : ℕ) (k : Known) (cs : Carried) → k.live ≡ true → k.stage ≡ Making → Allows Ruled slots id (k, cs) 1 (λ n. n) (reached (step slots 1 0 0 none) (k, cs))
 reaches slots id k cs live making s r deep at small =
     let n : ℕ = turn_of s in
-    let mine = r.each id k at live in
-    let h : Stands r.start r.log n s.homes r.holder r.owner id k.made Making = subst (Stands r.start r.log n s.homes r.holder r.owner id k.made) making mine.stands in
+    let (mine, stands) = r.each id k at live in
+    let h : Stands r.start r.log n s.homes r.holder id k.made Making = subst (Stands r.start r.log n s.homes r.holder id k.made) making stands in
     let held : n ≡ 1 = h.1 in
     let w : Known = posed k Holding k.made in
     let same : posed k Holding r.log ≡ w = ap (posed k Holding) (sym h.2) in (
@@ -174,10 +160,9 @@ reaches slots id k cs live making s r deep at small =
         start = r.start;
         log = r.log;
         holder = id;
+        planners = r.planners;
         owner = r.owner;
-        gone = r.gone;
-        past = r.past;
-        over = over_on s r id k w at live;
+        numbered = r.numbered;
         wide = r.wide;
         deep = length-set s.homes 0 none ∙ r.deep;
         bounded = r.bounded;
@@ -186,9 +171,9 @@ reaches slots id k cs live making s r deep at small =
         count = r.count;
         home = λ z. absurd (omega arith);
         held = λ _. held_here s.views id k w at tt;
-        each = each_stays (λ j v. v.live ≡ true → Live r.start r.log n (set s.homes 0 none) id r.owner j v) s.views id w
-            (λ _. subst (Live r.start r.log n (set s.homes 0 none) id r.owner id) same (live_posed r.start r.log n s.homes r.holder r.owner id n (set s.homes 0 none) id k Holding mine (refl, held, refl)))
-            (λ j v other there alive. live_on r.start r.log n s.homes r.holder r.owner j n (set s.homes 0 none) id v (λ is _. other (is ∙ sym h.0)) (r.each j v there alive));
+        each = each_stays (Stays r.start r.planners r.log n (set s.homes 0 none) id r.owner) s.views id w
+            (λ _. (subst (Live r.start r.planners r.log r.owner id) same (live_posed r.start r.planners r.log r.owner id k Holding mine), (refl, held, h.2)))
+            (λ j v other there alive. let h' = r.each j v there alive in (h'.0, rests r.start r.log n s.homes r.holder j r.log n (set s.homes 0 none) id v.made v.stage (λ is _. other (is ∙ sym h.0)) h'.1));
       },
       refl,
     )
@@ -197,8 +182,8 @@ pub frees : (slots id : ℕ) (k : Known) (d : DeskState) → k.live ≡ true →
     → Allows Ruled slots id (k, (0, Some d) ∷ []) 1 (λ _. 0) (λ _. freed (step slots 1 0 0 none) (k, (0, Some d) ∷ []) 0)
 frees slots id k d live holding is s r deep at small =
     let n : ℕ = turn_of s in
-    let mine = r.each id k at live in
-    let h : Stands r.start r.log n s.homes r.holder r.owner id k.made Holding = subst (Stands r.start r.log n s.homes r.holder r.owner id k.made) holding mine.stands in
+    let (mine, stands) = r.each id k at live in
+    let h : Stands r.start r.log n s.homes r.holder id k.made Holding = subst (Stands r.start r.log n s.homes r.holder id k.made) holding stands in
     let held : n ≡ 1 = h.1 in
     let w : Known = posed k Idle k.made in
     let same : posed k Idle r.log ≡ w = ap (posed k Idle) (sym h.2) in
@@ -212,10 +197,9 @@ frees slots id k d live holding is s r deep at small =
         start = r.start;
         log = r.log;
         holder = id;
+        planners = r.planners;
         owner = r.owner;
-        gone = r.gone;
-        past = r.past;
-        over = over_on s r id k w at live;
+        numbered = r.numbered;
         wide = length-set s.words 1 0 ∙ r.wide;
         deep = length-set s.homes 0 (some (Some d)) ∙ r.deep;
         bounded = r.bounded;
@@ -224,9 +208,9 @@ frees slots id k d live holding is s r deep at small =
         count = get_or-set_other s.words 1 0 0 0 (λ e. omega arith) ∙ r.count;
         home = λ _. set_here s.homes 0 (some (Some d)) (omega arith) ∙ ap (λ (z : DeskState). some (some (Some z))) there;
         held = λ z. absurd (z (get_or-set_same s.words 1 0 0 (omega arith)));
-        each = each_stays (λ j v. v.live ≡ true → Live r.start r.log turn' homes' id r.owner j v) s.views id w
-            (λ _. subst (Live r.start r.log turn' homes' id r.owner id) same (live_posed r.start r.log n s.homes r.holder r.owner id turn' homes' id k Idle mine tt))
-            (λ j v other at' alive. live_on r.start r.log n s.homes r.holder r.owner j turn' homes' id v (λ e _. other (e ∙ sym h.0)) (r.each j v at' alive));
+        each = each_stays (Stays r.start r.planners r.log turn' homes' id r.owner) s.views id w
+            (λ _. (subst (Live r.start r.planners r.log r.owner id) same (live_posed r.start r.planners r.log r.owner id k Idle mine), tt))
+            (λ j v other at' alive. let h' = r.each j v at' alive in (h'.0, rests r.start r.log n s.homes r.holder j r.log turn' homes' id v.made v.stage (λ e _. other (e ∙ sym h.0)) h'.1));
       }),
       refl,
     )
@@ -235,27 +219,29 @@ pub since_next : (k : Known) (e : Entry) → since k.start (grown (after k.start
 since_next k e = ap (since k.start) (sym (after-push k.start k.made e)) ∙ since_after k.start (k.made ++ e ∷ [])
 
 -- the same pass, where another adds an entry
-live_more : (start : DeskState) (log : List Entry) (turn : ℕ) (homes : Homes) (holder : ℕ) (owner : ℕ → ℕ) (seat : ℕ) (turn' : ℕ) (e : Entry) (k : Known)
-    → seat ≢ holder → owner e.planner ≡ holder → Live start log turn homes holder owner seat k → Live start (log ++ e ∷ []) turn' homes holder owner seat k
-live_more start log turn homes holder owner seat turn' e k other by l =
+live_more : (start : DeskState) (planners : ℕ) (log : List Entry) (owner : ℕ → ℕ) (seat by : ℕ) (e : Entry) (k : Known)
+    → seat ≢ by → owner e.planner ≡ by → Live start planners log owner seat k → Live start planners (log ++ e ∷ []) owner seat k
+live_more start planners log owner seat by e k other is_by l =
     let floor = l.floor in
     let longer = length-append log (e ∷ []) in
-    let apart : (u : ℕ) → owner u ≡ seat → e.planner ≢ u = λ u mine is. other (sym mine ∙ (ap owner (sym is) ∙ by)) in record {
+    let apart : (u : ℕ) → owner u ≡ seat → e.planner ≢ u = λ u mine is. other (sym mine ∙ (ap owner (sym is) ∙ is_by)) in record {
       same = l.same;
+      shared = l.shared;
       seen = prefix_more k.made log (e ∷ []) l.seen;
       floor = omega arith;
       number = l.number;
-      own = own_of-other k.planner log e (apart k.planner l.number) ∙ l.own;
-      unused = λ u give. let m = l.unused u give in (m.0, m.1, own_of-other u log e (apart u m.1) ∙ m.2);
-      stands = rests start log turn homes holder owner seat (log ++ e ∷ []) turn' homes holder k.made k.stage (λ is _. other is) l.stands;
+      own = own_of-other k.planner log e (apart k.planner l.number.1) ∙ l.own;
+      unused = λ u give. let m = l.unused u give in (m.0, own_of-other u log e (apart u m.0.2) ∙ m.1);
+      past = All-weaker (IsPast start planners log owner seat k) (IsPast start planners (log ++ e ∷ []) owner seat k)
+          (λ n p. record { beside = p.beside; kept = p.kept; whole = own_of-other n.0 log e (apart n.0 p.beside.2) ∙ p.whole; seen = p.seen }) k.past l.past;
     }
 
 pub grows : (slots id : ℕ) (k : Known) (d : DeskState) → k.live ≡ true → k.stage ≡ Holding → IsNext k d
     → Allows Ruled slots id (k, (0, Some d) ∷ []) 0 (λ n. (n + 1) % 2 ^ 64) (grew (step slots 0 1 0 none) (k, (0, Some d) ∷ []))
 grows slots id k d live holding next s r deep at small =
     let n : ℕ = turn_of s in
-    let mine = r.each id k at live in
-    let h : Stands r.start r.log n s.homes r.holder r.owner id k.made Holding = subst (Stands r.start r.log n s.homes r.holder r.owner id k.made) holding mine.stands in
+    let (mine, stands) = r.each id k at live in
+    let h : Stands r.start r.log n s.homes r.holder id k.made Holding = subst (Stands r.start r.log n s.homes r.holder id k.made) holding stands in
     let held : n ≡ 1 = h.1 in
     let e : Entry = next.0 in
     let log' : List Entry = r.log ++ e ∷ [] in
@@ -282,11 +268,9 @@ grows slots id k d live holding next s r deep at small =
         start = r.start;
         log = log';
         holder = id;
+        planners = r.planners;
         owner = r.owner;
-        gone = r.gone;
-        past = r.past;
-        over = λ q g. let was = r.over q g in let own = live_at s r id k at live q g in
-            (own_of-other q r.log e (λ is. own (ap r.owner (sym is) ∙ (ap r.owner next.2 ∙ mine.number))) ∙ was.0, still_spent s.views id w (r.owner q) own was.1);
+        numbered = All-push (λ (z : Entry). z.planner < r.planners) r.log e r.numbered (subst (λ (z : ℕ). z < r.planners) (sym next.2) mine.number.0);
         wide = length-set s.words 0 c' ∙ r.wide;
         deep = r.deep;
         bounded = r.bounded;
@@ -295,18 +279,25 @@ grows slots id k d live holding next s r deep at small =
         count = get_or-set_same s.words 0 c' 0 (omega arith) ∙ is_count;
         home = λ z. absurd (omega arith);
         held = λ _. held_here s.views id k w at tt;
-        each = each_stays (λ j v. v.live ≡ true → Live r.start log' turn' s.homes id r.owner j v) s.views id w
-            (λ _. let floor = mine.floor in record {
-              same = mine.same;
-              seen = subst (λ (z : List Entry). IsPrefix z log') (sym is_made) (prefix_self log');
-              floor = omega arith;
-              number = mine.number;
-              own = ap (own_of k.planner) (sym is_made);
-              unused = λ u give. let m = mine.unused u give in (m.0, m.1, own_of-other u r.log e (λ z. m.0 (sym z ∙ next.2)) ∙ m.2);
-              stands = (refl, still ∙ held, is_made);
-            })
-            (λ j v other at' alive. subst (λ (z : ℕ). Live r.start log' turn' s.homes z r.owner j v) (sym h.0)
-            (live_more r.start r.log n s.homes r.holder r.owner j turn' e v (λ is. other (is ∙ sym h.0)) (ap r.owner next.2 ∙ (mine.number ∙ h.0)) (r.each j v at' alive)));
+        each = each_stays (Stays r.start r.planners log' turn' s.homes id r.owner) s.views id w
+            (λ _. let floor = mine.floor in let apart : (u : ℕ) → u ≢ k.planner → own_of u log' ≡ own_of u r.log = λ u not. own_of-other u r.log e (λ z. not (sym z ∙ next.2)) in (
+              record {
+                same = mine.same;
+                shared = mine.shared;
+                seen = subst (λ (z : List Entry). IsPrefix z log') (sym is_made) (prefix_self log');
+                floor = omega arith;
+                number = mine.number;
+                own = ap (own_of k.planner) (sym is_made);
+                unused = λ u give. let m = mine.unused u give in (m.0, apart u m.0.1 ∙ m.1);
+                past = All-weaker (IsPast r.start r.planners r.log r.owner id k) (IsPast r.start r.planners log' r.owner id w)
+                    (λ n p. let whole = apart n.0 p.beside.1 ∙ p.whole in record { beside = p.beside; kept = p.kept; whole = whole; seen = ap (own_of n.0) is_made ∙ whole }) k.past mine.past;
+              },
+              (refl, still ∙ held, is_made),
+            ))
+            (λ j v other at' alive. let h' = r.each j v at' alive in (
+              live_more r.start r.planners r.log r.owner j id e v other (ap r.owner next.2 ∙ mine.number.1) h'.0,
+              rests r.start r.log n s.homes r.holder j log' turn' s.homes id v.made v.stage (λ is _. other (is ∙ sym h.0)) h'.1,
+            ));
       },
       λ z same. let is' : d ≡ z = ap (in_hand d) same in λ i. (posed k Holding (since k.start (is' i)), (0, Some d) ∷ []),
     )
@@ -315,15 +306,15 @@ grows slots id k d live holding next s r deep at small =
 pub next_at : (k : Known) (d : DeskState) → IsNext k d → d ≡ after k.start (since k.start d)
 next_at k d next = next.3 ∙ (sym (after-push k.start k.made next.0) ∙ ap (after k.start) (sym (ap (since k.start) next.3 ∙ since_next k next.0)))
 
-pub starts : (start : DeskState) (unused : List Bool) → start.limit < 2 ^ 32 → length start.journal ≤ start.limit → ((u : ℕ) → slice_index_or unused u false ≡ true → u ≢ 0) → Ruled (opening (length start.journal ∷ 1 ∷ []) (None ∷ []) (first_known start unused))
-starts start unused bounded room numbers = record {
+pub starts : (start : DeskState) (planners : ℕ) (unused : List Bool) → start.limit < 2 ^ 32 → length start.journal ≤ start.limit → 0 < planners → ((u : ℕ) → slice_index_or unused u false ≡ true → (u < planners) × (u ≢ 0))
+    → Ruled (opening (length start.journal ∷ 1 ∷ []) (None ∷ []) (first_known start planners unused))
+starts start planners unused bounded room any numbers = record {
   start = start;
   log = [];
   holder = 0;
+  planners = planners;
   owner = λ _. 0;
-  gone = λ _. false;
-  past = λ _. [];
-  over = λ q g. absurd (true≢false (sym g));
+  numbered = All-nil (λ (e : Entry). e.planner < planners);
   wide = refl;
   deep = refl;
   bounded = bounded;
@@ -331,17 +322,21 @@ starts start unused bounded room numbers = record {
   legal = tt;
   count = omega arith;
   home = λ z. absurd (omega arith);
-  held = λ _. (first_known start unused, refl, tt);
-  each = λ j k at alive. let w = first_known start unused in
-      ⊎_elim (λ (t : (j ≡ 0) × (w ≡ k)). subst (λ (x : ℕ × Known). Live start [] 1 (some None ∷ []) 0 (λ _. 0) x.0 x.1) (λ i. (sym t.0 i, t.1 i)) record {
-        same = refl;
-        seen = ([], refl);
-        floor = omega arith;
-        number = refl;
-        own = refl;
-        unused = λ u give. (numbers u give, refl, refl);
-        stands = (refl, refl, refl, refl);
-      }) (λ (t : (j ≢ 0) × (get_elem? (w ∷ []) j ≡ some k)). absurd (beyond j k w t.0 t.1)) (at_set (w ∷ []) 0 j w k at);
+  held = λ _. (first_known start planners unused, refl, tt);
+  each = λ j k at alive. let w = first_known start planners unused in
+      ⊎_elim (λ (t : (j ≡ 0) × (w ≡ k)). subst (λ (x : ℕ × Known). Live start planners [] (λ _. 0) x.0 x.1 × Stands start [] 1 (some None ∷ []) 0 x.0 x.1.made x.1.stage) (λ i. (sym t.0 i, t.1 i)) (
+        record {
+          same = refl;
+          shared = refl;
+          seen = ([], refl);
+          floor = omega arith;
+          number = (any, refl);
+          own = refl;
+          unused = λ u give. let n = numbers u give in ((n.0, n.1, refl), refl);
+          past = All-nil (IsPast start planners [] (λ _. 0) 0 w);
+        },
+        (refl, refl, refl, refl),
+      )) (λ (t : (j ≢ 0) × (get_elem? (w ∷ []) j ≡ some k)). absurd (beyond j k w t.0 t.1)) (at_set (w ∷ []) 0 j w k at);
 }
   where
     beyond : (j : ℕ) (k w : Known) → j ≢ 0 → get_elem? (w ∷ []) j ≡ some k → ⊥

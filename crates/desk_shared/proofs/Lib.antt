@@ -4,3 +4,4 @@ pub mod Unused
 pub mod Kept
 pub mod Views
 pub mod Told
+pub mod Alone

@@ -1,7 +1,7 @@
 -- What callers are told follows from what the steps told.
-use Rattle.std.specs.Prelude.{slice_index_or}
+use Rattle.std.specs.Prelude.{◌⊎◌, slice_index_or, All}
 use mathlib.Core.List.{IsPrefix}
-use Rattle.std.proofs.Common.{◌≡◌, ℕ, ◌+◌, ◌<◌, Bool, false, List, [], ◌∷◌, ◌++◌, length-append, arith, get_or, true, refl, sym, ap, ◌∙◌, subst, Option, Some, Ok}
+use Rattle.std.proofs.Common.{◌≡◌, ◌≢◌, ℕ, ◌+◌, ◌<◌, Bool, false, List, [], ◌∷◌, ◌++◌, length-append, arith, get_or, true, refl, sym, ap, ◌∙◌, subst, Option, Some, Ok}
 use mathlib.Core.Option.{some, some-injective}
 use lib.ListN.{get_elem?}
 use Rattle.atomic_table.specs.Table.{Final, Seen}
@@ -11,11 +11,11 @@ use Rattle.desk_core.specs.Commits.{Accepts, Committed}
 use Rattle.desk_core.proofs.Replaying.{after-push}
 use Rattle.desk_shared.specs.declared.board.Known.{Known}
 use Rattle.desk_shared.specs.declared.board.Stage.TheVariants.{Idle, Holding}
-use Rattle.desk_shared.specs.Passes.{PassState, own_of, version_at, GoesOn}
+use Rattle.desk_shared.specs.Passes.{PassState, own_of, version_at, AreOfPlanners, HasJust, GoesOn}
 use Rattle.desk_shared.specs.Calls.{CommitsBy, IsLastSeen, IsClosed, IsLeast, IsSplit, IsJoined}
 use Rattle.desk_shared.specs.Turns.{shown, since, Ruled, posed, first_true, Unspent, giver, given, both}
 use Rattle.desk_shared.proofs.Journals.{version_after}
-use Rattle.desk_shared.proofs.Beginnings.{own_of-mine}
+use Rattle.desk_shared.proofs.Beginnings.{own_of-mine, longer_is}
 use Rattle.desk_shared.proofs.Unused.{at_or, blank}
 use Rattle.desk_shared.proofs.Kept.{desk_or, found, since_next}
 
@@ -29,9 +29,11 @@ commits k k1 k2 e v d0 d1 f same at did mine now =
     record {
       same = record {
         start = ap (λ (z : Known). z.start) now ∙ start;
+        shared = ap (λ (z : Known). z.planners) now ∙ ap (λ (z : Known). z.planners) same;
         floor = ap (λ (z : Known). z.floor) now ∙ ap (λ (z : Known). z.floor) same;
         planner = ap (λ (z : Known). z.planner) now ∙ ap (λ (z : Known). z.planner) same;
         unused = ap (λ (z : Known). z.unused) now ∙ ap (λ (z : Known). z.unused) same;
+        past = ap (λ (z : Known). z.past) now ∙ ap (λ (z : Known). z.past) same;
       };
       found = k1.made;
       goes_on = f;
@@ -44,7 +46,7 @@ pub closes : (ws : List ℕ) (xs : List (Option DeskState)) (id : ℕ) (k : Know
 closes ws xs id k d live last free there =
     let s = last.0 in
     let r = last.1.0 in
-    let mine = r.each id k last.1.1 live in
+    let mine = (r.each id k last.1.1 live).0 in
     let turn : get_or s.words 1 0 ≡ 0 = ap (λ (l : List ℕ). get_or l 1 0) last.2 ∙ at_or ws 1 0 0 free in
     let home = last.4 0 _ (r.home turn) in
     let is : Some d ≡ Some (after r.start r.log) = some-injective _ _ (sym there ∙ home) in
@@ -55,10 +57,12 @@ splitted_so k unspent least = let own = unspent (first_true k.unused) least.kept
   number = least;
   given = refl;
   start = refl;
+  shared = refl;
   made = refl;
   floor = refl;
   keeps_none = λ u. blank 256 u;
   no_entries = own.1;
+  no_past = refl;
   apart = own.0;
 }
 
@@ -72,18 +76,25 @@ least_of k unused i same is may below =
     (subst (λ (n : ℕ). (slice_index_or unused n false ≡ true) × ((u : ℕ) → u < n → slice_index_or unused u false ≡ false)) is (may, below)) in
     record { kept = at.0; least = at.1 }
 
-pub joined_so : (k o m w : Known) → m ≡ both k o → IsPrefix k.made m.made × IsPrefix o.made m.made × (own_of k.planner m.made ≡ own_of k.planner k.made) × (own_of o.planner m.made ≡ own_of o.planner o.made) × (o.start ≡ m.start)
-    → w ≡ posed m Idle m.made → IsJoined (shown k) (shown o) (shown w)
-joined_so k o m w is told now = subst (λ (z : Known). IsJoined (shown k) (shown o) (shown z)) (sym now) record {
+pub joined_so : (k o m w : Known) → m ≡ both k o
+    → (IsPrefix k.made m.made × IsPrefix o.made m.made × (own_of k.planner m.made ≡ own_of k.planner k.made) × (own_of o.planner m.made ≡ own_of o.planner o.made) × (o.start ≡ m.start)) × AreOfPlanners m.planners m.made × All (HasJust m.made) m.past × All (λ (n : ℕ × List Entry). n.0 ≢ m.planner) m.past × (w ≡ posed m Idle m.made)
+    → IsJoined (shown k) (shown o) (shown w)
+joined_so k o m w is (told, numbered, kept, apart, now) = subst (λ (z : Known). IsJoined (shown k) (shown o) (shown z)) (sym now) record {
   start = ap (λ (z : Known). z.start) is;
   one_desk = told.4 ∙ ap (λ (z : Known). z.start) is;
+  shared = ap (λ (z : Known). z.planners) is;
   planner = ap (λ (z : Known). z.planner) is;
   floor = ap (λ (z : Known). z.floor) is;
+  one_of_both = subst (λ (z : List Entry). (z ≡ k.made) ⊎ (z ≡ o.made)) (sym (ap (λ (z : Known). z.made) is)) (longer_is k.made o.made m.made told.0 told.1);
   seen = told.0;
   others = told.1;
   own = told.2;
   own_of_other = told.3;
+  numbered = numbered;
   unused = ap (λ (z : Known). z.unused) is;
+  past = ap (λ (z : Known). z.past) is;
+  kept = kept;
+  apart = apart;
 }
 
 pub ends_with : (k l : PassState) (e : Entry) (v : ℕ) → CommitsBy k e (Ok v) l → IsLastSeen l e v

@@ -25,7 +25,7 @@ numbers_more i xs one inside h u = dite (ℕ_discrete u i) (λ is. ((λ _. (omeg
     (λ other. let same = get_or-set_other xs i u true false other in let k = h u in ((λ e. let b = k.0 (sym same ∙ e) in (b.0, (let c = b.1 in omega arith))), λ a b. same ∙ k.1 a (omega arith)))
 
 pub either_at : (xs ys : List Bool) (u : ℕ) → get_or (either_of xs ys) u false ≡ true → (get_or xs u false ≡ true) ⊎ (get_or ys u false ≡ true)
-either_at [] ys u e = inl e
+either_at [] ys u e = inr e
 either_at (x ∷ xs) [] u e = inl e
 either_at (true ∷ xs) (y ∷ ys) zero e = inl refl
 either_at (false ∷ xs) (y ∷ ys) zero e = inr e
@@ -39,8 +39,9 @@ first_true_is (false ∷ xs) zero e below = absurd (true≢false (sym e))
 first_true_is (false ∷ xs) (suc i) e below = ap suc (first_true_is xs i e (λ u l. below (suc u) (omega arith)))
 
 pub merged : (xs ys zs : List Bool) → length zs ≡ length xs → length ys ≡ length xs → ((u : ℕ) → u < length xs → get_or zs u false ≡ (get_or xs u false || get_or ys u false)) → zs ≡ either_of xs ys
-merged [] ys [] a b h = refl
-merged [] ys (z ∷ zs) a b h = absurd (omega arith)
+merged [] [] [] a b h = refl
+merged [] (y ∷ ys) zs a b h = absurd (omega arith)
+merged [] [] (z ∷ zs) a b h = absurd (omega arith)
 merged (x ∷ xs) [] zs a b h = absurd (omega arith)
 merged (x ∷ xs) (y ∷ ys) [] a b h = absurd (omega arith)
 merged (x ∷ xs) (y ∷ ys) (z ∷ zs) a b h = let head : z ≡ (x || y) = h 0 (omega arith) in let rest = merged xs ys zs (omega arith) (omega arith) (λ u l. h (suc u) (omega arith)) in λ i. head i ∷ rest i

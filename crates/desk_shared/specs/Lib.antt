@@ -1,3 +1,4 @@
 pub mod Passes
 pub mod Calls
 pub mod Turns
+pub mod Laws

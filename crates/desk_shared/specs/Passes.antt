@@ -1,18 +1,20 @@
 -- What a pass knows of a shared desk (this project's choice): the desk as it was shared, the entries accepted since then that the pass has seen, and its numbers.
-use Rattle.std.specs.Prelude.{◌≡◌, ℕ, ◌+◌, ◌≤◌, Bool, true, false, eqb, List, [], ◌∷◌, length, slice_index_or}
+use Rattle.std.specs.Prelude.{◌≡◌, ◌≢◌, ℕ, ◌+◌, ◌<◌, ◌≤◌, Bool, true, false, eqb, List, [], ◌∷◌, length, drop, slice_index_or, All}
 use mathlib.Core.List.{IsPrefix}
 use Rattle.atomic_table.specs.Seated.{TableId}
 use Rattle.desk_core.specs.Entries.{Entry}
 use Rattle.desk_core.specs.State.{DeskState, version_of}
 use Rattle.desk_core.specs.Replays.{IsLegal}
 
--- what a pass knows: the desk at its sharing, the entries that it has seen of those made since, the greatest front that it was told, its planner number, and for each number whether it may still give it away
+-- what a pass knows: the desk at its sharing and for how many planners it was shared, the entries that it has seen of those made since, the greatest front that it was told, its planner number, for each number whether it may still give it away, and the number of each pass that was joined into it, with the entries that this number has for ever
 pub record PassState : Type 0 where
   pub start : DeskState
+  pub planners : ℕ
   pub made : List Entry
   pub floor : ℕ
   pub planner : ℕ
   pub unused : List Bool
+  pub past : List (ℕ × List Entry)
 
 -- a pass as callers see it: of which shared desk it is, and what it knows
 pub record Held : Type 0 where
@@ -46,10 +48,25 @@ version_at start made = version_of start + length made
 abbrev pub MayGive : PassState → ℕ → Type 0
 MayGive pass number = slice_index_or pass.unused number false ≡ true
 
--- a journal that goes on from what the pass has seen: it is legal, no shorter than the floor, and has no more entries of the pass's own
+-- each entry is of one of so many planners
+abbrev pub AreOfPlanners : ℕ → List Entry → Type 0
+AreOfPlanners planners = All (λ entry. entry.planner < planners)
+
+-- the entries have just these of that number
+abbrev pub HasJust : List Entry → ℕ × List Entry → Type 0
+HasJust made numbered = own_of numbered.0 made ≡ numbered.1
+
+-- the number was given to another: it isn't the pass's own, and the pass may not give it
+abbrev pub IsOfAnother : PassState → ℕ → Type 0
+IsOfAnother pass number = (number ≢ pass.planner) × (MayGive pass number → ⊥)
+
+-- a journal that goes on from what the pass has seen: it is legal, no shorter than the floor, and of the desk's planners alone. What it has beyond that was committed by others: it has no more entries of the pass's own number, of a number that the pass may give, or of a pass that was joined into it
 pub record GoesOn (pass : PassState) (made : List Entry) : Type 0 where
   pub seen : IsPrefix pass.made made
   pub floor : pass.floor ≤ version_at pass.start made
   pub legal : IsLegal pass.start made
   pub within : version_at pass.start made ≤ pass.start.limit
   pub own : own_of pass.planner made ≡ own_of pass.planner pass.made
+  pub numbered : AreOfPlanners pass.planners made
+  pub others : All (λ entry. IsOfAnother pass entry.planner) (drop (length pass.made) made)
+  pub past : All (HasJust made) pass.past

@@ -1,6 +1,6 @@
 -- The rule of the table that passes share, and what each step on it tells (this project's choice).
 -- Word 0 is the length of the journal, word 1 is 1 while a pass has the turn, and slot 0 is the desk's place.
-use Rattle.std.specs.Prelude.{◌≡◌, ◌≢◌, ℕ, suc, max, replicate, slice_set, ◌^◌, ◌<◌, ◌≤◌, Bool, true, false, List, [], ◌∷◌, length, drop, slice_index, Option, Some, None}
+use Rattle.std.specs.Prelude.{◌≡◌, ◌≢◌, ℕ, suc, max, replicate, slice_set, ◌^◌, ◌<◌, ◌≤◌, Bool, true, false, List, [], ◌∷◌, ◌++◌, length, drop, slice_index, Option, Some, None, All}
 use mathlib.Core.Option.{some}
 use mathlib.Core.Option as maybe
 use mathlib.Core.List.{IsPrefix}
@@ -16,18 +16,18 @@ use Rattle.desk_core.specs.Replays.{IsLegal}
 use Rattle.desk_shared.specs.declared.board.Known.{Known}
 use Rattle.desk_shared.specs.declared.board.Stage.{Stage}
 use Rattle.desk_shared.specs.declared.board.Stage.TheVariants.{Making, Idle, Holding, Joined}
-use Rattle.desk_shared.specs.Passes.{PassState, own_of, version_at, MayGive, GoesOn}
+use Rattle.desk_shared.specs.Passes.{PassState, own_of, version_at, MayGive, AreOfPlanners, HasJust, GoesOn}
 use Rattle.desk_shared.specs.Calls.{either_of}
 
 -- what callers see of what a pass knows
 abbrev pub shown : Known → PassState
-shown pass = record { start = pass.start; made = pass.made; floor = pass.floor; planner = pass.planner; unused = pass.unused }
+shown pass = record { start = pass.start; planners = pass.planners; made = pass.made; floor = pass.floor; planner = pass.planner; unused = pass.unused; past = pass.past }
 
 -- the entries of the desk made since it was shared
 abbrev pub since : DeskState → DeskState → List Entry
 since start desk = drop (version_of start) desk.journal
 
-module _ (start : DeskState) (log : List Entry) (turn : ℕ) (homes : List (maybe.Option (Option DeskState))) (holder : ℕ) (owner : ℕ → ℕ) (seat : ℕ) where
+module _ (start : DeskState) (log : List Entry) (turn : ℕ) (homes : List (maybe.Option (Option DeskState))) (holder seat : ℕ) where
   -- what holds while a pass is within a call: where it has the turn it has seen the whole journal, and after a join it has seen what both had
   abbrev pub Stands : List Entry → Stage → Type 0
   Stands made Idle = Unit {0}
@@ -35,19 +35,28 @@ module _ (start : DeskState) (log : List Entry) (turn : ℕ) (homes : List (mayb
   Stands made Holding = (seat ≡ holder) × (turn ≡ 1) × (made ≡ log)
   Stands made (Joined seen others planner other first) = IsPrefix seen made × IsPrefix others made × (own_of planner made ≡ own_of planner seen) × (own_of other made ≡ own_of other others) × (first ≡ start)
 
-  -- what holds of a pass that isn't spent: what it has seen begins the journal, which has no more entries of its own, and none of a number that it may give away
-  pub record Live (pass : Known) : Type 0 where
+module _ (start : DeskState) (planners : ℕ) (log : List Entry) (owner : ℕ → ℕ) (seat : ℕ) (pass : Known) where
+  -- a number of the desk that belongs to the pass of the seat, besides its own
+  abbrev pub IsBeside : ℕ → Type 0
+  IsBeside number = (number < planners) × (number ≢ pass.planner) × (owner number ≡ seat)
+
+  -- the number of a pass that was joined into this one: the journal has the entries that it had then, and no others
+  pub record IsPast (numbered : ℕ × List Entry) : Type 0 where
+    pub beside : IsBeside numbered.0
+    pub kept : MayGive (shown pass) numbered.0 → ⊥
+    pub whole : HasJust log numbered
+    pub seen : HasJust pass.made numbered
+
+  -- what holds of a pass that isn't spent: what it has seen begins the journal, which has no more entries of its own, none of a number that it may give away, and no more of a pass that was joined into it
+  pub record Live : Type 0 where
     pub same : pass.start ≡ start
+    pub shared : pass.planners ≡ planners
     pub seen : IsPrefix pass.made log
     pub floor : pass.floor ≤ version_at start log
-    pub number : owner pass.planner ≡ seat
+    pub number : (pass.planner < planners) × (owner pass.planner ≡ seat)
     pub own : own_of pass.planner log ≡ own_of pass.planner pass.made
-    pub unused : (number : ℕ) → MayGive (shown pass) number → (number ≢ pass.planner) × (owner number ≡ seat) × (own_of number log ≡ [])
-    pub stands : Stands pass.made pass.stage
-
--- the pass of the seat was joined into another
-abbrev pub IsSpent : List Known → ℕ → Type 0
-IsSpent passes seat = (pass : Known) × (get_elem? passes seat ≡ some pass) × (pass.live ≡ false)
+    pub unused : (number : ℕ) → MayGive (shown pass) number → IsBeside number × (own_of number log ≡ [])
+    pub past : All IsPast pass.past
 
 -- a pass that is within a call, and may have the turn
 abbrev pub IsBusy : Stage → Type 0
@@ -60,9 +69,10 @@ IsBusy (Joined seen others planner other first) = ⊥
 abbrev pub IsWithin : List Known → ℕ → Type 0
 IsWithin passes seat = (pass : Known) × (get_elem? passes seat ≡ some pass) × IsBusy pass.stage
 
--- There is one legal journal from the desk as it was shared. The count is its length, and a desk at home has it. What each pass has seen begins it. Each number belongs to one pass, and is of no entry where it isn't given yet. A joined pass's number has for ever the entries that it had then. One pass at most has the turn, and only while it is within a call
+-- There is one legal journal from the desk as it was shared. The count is its length, and a desk at home has it. What each pass has seen begins it. Each entry is of one of the desk's planners, each number belongs to one pass, and is of no entry where it isn't given yet. A joined pass's number has for ever the entries that it had then. One pass at most has the turn, and only while it is within a call
 pub record Ruled (table : State (Option DeskState) Known) : Type 0 where
   pub start : DeskState
+  pub planners : ℕ
   pub log : List Entry
   pub holder : ℕ
   pub owner : ℕ → ℕ
@@ -71,13 +81,11 @@ pub record Ruled (table : State (Option DeskState) Known) : Type 0 where
   pub bounded : start.limit < 2 ^ 32
   pub within : version_of start ≤ start.limit
   pub legal : IsLegal start log
+  pub numbered : AreOfPlanners planners log
   pub count : slice_index table.words 0 ≡ version_at start log
   pub home : slice_index table.words 1 ≡ 0 → get_elem? table.homes 0 ≡ some (some (Some (after start log)))
   pub held : slice_index table.words 1 ≢ 0 → IsWithin table.views holder
-  pub each : (seat : ℕ) (pass : Known) → get_elem? table.views seat ≡ some pass → pass.live ≡ true → Live start log (slice_index table.words 1) table.homes holder owner seat pass
-  pub gone : ℕ → Bool
-  pub past : ℕ → List Entry
-  pub over : (number : ℕ) → gone number ≡ true → (own_of number log ≡ past number) × IsSpent table.views (owner number)
+  pub each : (seat : ℕ) (pass : Known) → get_elem? table.views seat ≡ some pass → pass.live ≡ true → Live start planners log owner seat pass × Stands start log (slice_index table.words 1) table.homes holder seat pass.made pass.stage
 
 -- a pass, and the slots that it has taken
 abbrev Hand : Type 0
@@ -87,16 +95,16 @@ abbrev OneStep : Type 0
 OneStep = Step (Option DeskState)
 
 -- the first pass, while the table is made
-abbrev pub first_known : DeskState → List Bool → Known
-first_known start unused = record { live = true; stage = Making; start = start; made = []; floor = 0; planner = 0; unused = unused }
+abbrev pub first_known : DeskState → ℕ → List Bool → Known
+first_known start planners unused = record { live = true; stage = Making; start = start; planners = planners; made = []; floor = 0; planner = 0; unused = unused; past = [] }
 
 -- the pass at another stage, and with other entries seen
 abbrev pub posed : Known → Stage → List Entry → Known
-posed pass stage made = record { live = pass.live; stage = stage; start = pass.start; made = made; floor = pass.floor; planner = pass.planner; unused = pass.unused }
+posed pass stage made = record { live = pass.live; stage = stage; start = pass.start; planners = pass.planners; made = made; floor = pass.floor; planner = pass.planner; unused = pass.unused; past = pass.past }
 
 -- the pass with this floor
 abbrev pub floored : Known → ℕ → Known
-floored pass floor = record { live = pass.live; stage = pass.stage; start = pass.start; made = pass.made; floor = floor; planner = pass.planner; unused = pass.unused }
+floored pass floor = record { live = pass.live; stage = pass.stage; start = pass.start; planners = pass.planners; made = pass.made; floor = floor; planner = pass.planner; unused = pass.unused; past = pass.past }
 
 -- the pass has read the length of a journal
 abbrev pub fronted : OneStep → Hand → ℕ → Hand → Type 0
@@ -118,11 +126,11 @@ first_true (false ∷ later) = suc (first_true later)
 
 -- the pass without its least number
 abbrev pub giver : Known → Known
-giver pass = record { live = pass.live; stage = pass.stage; start = pass.start; made = pass.made; floor = pass.floor; planner = pass.planner; unused = slice_set pass.unused (first_true pass.unused) false }
+giver pass = record { live = pass.live; stage = pass.stage; start = pass.start; planners = pass.planners; made = pass.made; floor = pass.floor; planner = pass.planner; unused = slice_set pass.unused (first_true pass.unused) false; past = pass.past }
 
 -- the pass that gets the number
 abbrev pub given : Known → Known
-given pass = record { live = true; stage = Idle; start = pass.start; made = pass.made; floor = pass.floor; planner = first_true pass.unused; unused = replicate 256 false }
+given pass = record { live = true; stage = Idle; start = pass.start; planners = pass.planners; made = pass.made; floor = pass.floor; planner = first_true pass.unused; unused = replicate 256 false; past = [] }
 
 -- the longer of two lists, where one begins the other
 abbrev pub longer : {A : Type 0} → List A → List A → List A
@@ -132,16 +140,16 @@ longer (x ∷ xs) (y ∷ ys) = x ∷ longer xs ys
 
 -- two passes as one
 abbrev pub both : Known → Known → Known
-both pass other = record { live = pass.live; stage = Joined pass.made other.made pass.planner other.planner other.start; start = pass.start; made = longer pass.made other.made; floor = max pass.floor other.floor; planner = pass.planner; unused = either_of pass.unused other.unused }
+both pass other = record { live = pass.live; stage = Joined pass.made other.made pass.planner other.planner other.start; start = pass.start; planners = pass.planners; made = longer pass.made other.made; floor = max pass.floor other.floor; planner = pass.planner; unused = either_of pass.unused other.unused; past = pass.past ++ (other.planner, own_of other.planner other.made) ∷ other.past }
 
 -- what is left of a joined pass
 abbrev pub nobody : Known
-nobody = record { live = false; stage = Idle; start = record { scene = record { grid = record { size = record { width = 0; height = 0 }; flags = [] }; rows = []; mode = Stay }; journal = []; limit = 0 }; made = []; floor = 0; planner = 0; unused = [] }
+nobody = record { live = false; stage = Idle; start = record { scene = record { grid = record { size = record { width = 0; height = 0 }; flags = [] }; rows = []; mode = Stay }; journal = []; limit = 0 }; planners = 0; made = []; floor = 0; planner = 0; unused = []; past = [] }
 
 -- what both passes had seen begins what the one has seen
 abbrev pub joined : OneStep → Hand → ℕ → Hand → Type 0
 joined step old count new = (seen others : List Entry) (planner other : ℕ) (first : DeskState) → old.0.stage ≡ Joined seen others planner other first
-    → (IsPrefix seen old.0.made × IsPrefix others old.0.made × (own_of planner old.0.made ≡ own_of planner seen) × (own_of other old.0.made ≡ own_of other others) × (first ≡ old.0.start)) × (new ≡ (posed old.0 Idle old.0.made, old.1))
+    → (IsPrefix seen old.0.made × IsPrefix others old.0.made × (own_of planner old.0.made ≡ own_of planner seen) × (own_of other old.0.made ≡ own_of other others) × (first ≡ old.0.start)) × AreOfPlanners old.0.planners old.0.made × All (HasJust old.0.made) old.0.past × All (λ numbered. numbered.0 ≢ old.0.planner) old.0.past × (new ≡ (posed old.0 Idle old.0.made, old.1))
 
 -- the first pass takes the empty slot
 abbrev pub reached : OneStep → Hand → ℕ → Hand → Type 0

@@ -28,6 +28,8 @@ pub struct Known {
     pub stage: Stage,
     /// The desk as it was when it was shared.
     pub start: Desk,
+    /// For how many planners it was shared.
+    pub planners: u32,
     /// What the pass has seen of the entries made since then.
     pub made: LinkedList<Commit>,
     /// The greatest front that it was told.
@@ -35,12 +37,15 @@ pub struct Known {
     pub planner: Planner,
     /// Which numbers it may give to another pass. A clause reads an array as a list of any length.
     pub unused: [bool; 0],
+    /// The number of each pass that was joined into it, with the entries of this number.
+    pub past: LinkedList<(Planner, LinkedList<Commit>)>,
 }
 
 /// What the table is told when it is made.
 #[derive(Drop)]
 pub struct About {
     pub start: Snapshot<Desk>,
+    pub planners: u32,
     pub unused: [bool; 256],
 }
 
@@ -52,7 +57,7 @@ impl TableRule<Option<Desk>, Known, About> for Turns {
 
     ghost holds = { λ _. Ruled };
 
-    ghost first = { λ about. first_known about.start.value about.unused };
+    ghost first = { λ about. first_known about.start.value about.planners about.unused };
 }
 
 pub type Top = Table<Option<Desk>, Known, About, Turns, Global>;

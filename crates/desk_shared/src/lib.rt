@@ -3,6 +3,7 @@
 
 mod board;
 mod faults;
+mod laws;
 mod numbers;
 mod passes;
 mod plays;
@@ -10,5 +11,6 @@ mod sharing;
 mod steps;
 
 pub use faults::{MOST_PLANNERS, PassLost, ShareFault, SplitFault};
+pub use laws::{alone_finds_what_it_saw, one_planner_finds_what_it_saw};
 pub use passes::Pass;
 pub use sharing::SharedDesk;

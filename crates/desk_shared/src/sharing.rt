@@ -64,6 +64,7 @@ impl SharedDesk {
         };
         let about = About {
             start: snapshot::Snapshot::of(&desk),
+            planners,
             unused: numbers_to(planners),
         };
         let _limit = desk.limit().entries();
@@ -74,7 +75,7 @@ impl SharedDesk {
         };
         reach(&table.shared, &mut place);
         free(&table.shared, &mut place, desk);
-        let About { start: _, unused } = about;
+        let About { unused, .. } = about;
         let pass = Pass {
             place,
             planner,

@@ -13,7 +13,7 @@ pub load-requires : goal.load-requires
 load-requires c = (search rules, search rules, compares _ _ _ _ (ap (λ m. m.0.live) c.join_seat.ensures.2 ∙ c.pass.invariant.2) (λ b. subst IsBusy (ap (λ m. m.0.stage) c.join_seat.ensures.2) b))
 
 pub invariant_of-pass : goal.invariant_of-pass
-invariant_of-pass c = let now = c.join_seat.ensures.2 in let told = c.load.ensures.2 _ _ _ _ _ (ap (λ m. m.0.stage) now) in let to = told.1 in (
+invariant_of-pass c = let now = c.join_seat.ensures.2 in let told = c.load.ensures.2 _ _ _ _ _ (ap (λ m. m.0.stage) now) in let to = told.4 in (
   ap (λ m. m.1) to ∙ (ap (λ m. m.1) now ∙ c.pass.invariant.0),
   ap (λ m. m.0.stage) to,
   ap (λ m. m.0.live) to ∙ (ap (λ m. m.0.live) now ∙ c.pass.invariant.2),
@@ -24,4 +24,4 @@ invariant_of-pass c = let now = c.join_seat.ensures.2 in let told = c.load.ensur
 pub returns-clause-joined : goal.returns-clause-joined
 returns-clause-joined c = let now = c.join_seat.ensures.2 in let told = c.load.ensures.2 _ _ _ _ _ (ap (λ m. m.0.stage) now) in
     subst (λ (z : PassState × PassState). IsJoined z.0 z.1 (shown c.load.new.seat.me.0)) (λ i. ((c.pass.view_is i).known, (c.other.view_is i).known))
-    (joined_so c.pass.inside.place.me.0 c.other.inside.place.me.0 c.join_seat.new.seat.me.0 c.load.new.seat.me.0 (ap (λ m. m.0) now) told.0 (ap (λ m. m.0) told.1))
+    (joined_so c.pass.inside.place.me.0 c.other.inside.place.me.0 c.join_seat.new.seat.me.0 c.load.new.seat.me.0 (ap (λ m. m.0) now) (told.0, told.1, told.2, told.3, ap (λ m. m.0) told.4))
