@@ -15,8 +15,7 @@ use std::alloc::Global;
 ///
 /// # Errors
 ///
-/// The first fault. The lines that were complete by then were answered; where the sink failed, the
-/// last of them in part.
+/// The first fault. The lines that were complete by then were answered.
 pub fn serve<C: Counter, R: Source, W: Sink>(
     alloc: Global,
     counter: &mut C,
@@ -24,8 +23,7 @@ pub fn serve<C: Counter, R: Source, W: Sink>(
     writer: &mut W,
     bounds: Bounds,
 ) -> Result<u32, ServeFault>
-    ensures session { (last : Session) × Serves (answering C.counting) bounds (R.left reader.old) (R.left reader.new)
-        (W.held writer.old) (W.held writer.new) (Session.Idle, counter.old) (last, counter.new) result }
+    ensures session { (last : Session) × Serves (answering C.counting) bounds (R.left reader.old) (R.left reader.new) (W.held writer.old) (W.held writer.new) (Session.Idle, counter.old) (last, counter.new) result }
     ensures failed { R.failed reader.new ≡ (R.failed reader.old || is_read_failed result) }
     ensures broken { W.broken writer.new ≡ (W.broken writer.old || is_write_failed result) }
 {

@@ -1,10 +1,6 @@
 use Rattle.std.proofs.Common.{rules, arith, ◌≡◌, ◌<◌, false, nat_eq, length}
-use Rattle.desk_session.proofs.Progress.{progress-byte, progress-line, ends-unread, ends-no_memory, ends-line_unwritten, ends-last_unwritten, ends-last, ends-empty, ends-many_lines, ends-many_bytes}
+use Rattle.desk_session.proofs.Progress.{progress-byte, progress-line, ends-no_memory, ends-line_unwritten, ends-last_unwritten, ends-last, ends-empty, ends-many_lines, ends-many_bytes}
 use Rattle.desk_session.proofs.serving.serve.Goals as goal
-
-pub returns-in-Err-clause-session : goal.returns-in-Err-clause-session
-returns-in-Err-clause-session g c =
-    (c.session.session, ends-unread _ c.args.bounds _ _ _ _ _ _ _ _ _ _ 0 c.session.invariant.so_far c.in-Err.ensures.bytes c.session.invariant.lines_within c.session.invariant.bytes_within c.session.invariant.room)
 
 pub returns-then-is_empty-clause-session : goal.returns-then-is_empty-clause-session
 returns-then-is_empty-clause-session g c =
@@ -15,7 +11,7 @@ returns-then-is_empty-clause-session g c =
 pub returns-then-lines-bounds-clause-session : goal.returns-then-lines-bounds-clause-session
 returns-then-lines-bounds-clause-session g c =
     let took = rw c.in-Ok-Some.field-0-is at c.in-Ok-Some.ensures.bytes in
-    (c.session.session, ends-many_lines _ c.args.bounds _ _ _ _ _ _ _ _ _ _ c.in-Ok-Some.byte c.session.invariant.so_far took (omega arith) c.session.invariant.lines_within c.session.invariant.bytes_within c.session.invariant.room)
+    (c.session.session, ends-many_lines _ c.args.bounds _ _ _ _ _ _ _ _ _ _ c.in-Ok-Some.byte c.session.invariant.so_far took (omega arith) c.session.invariant.lines_within c.session.invariant.bytes_within)
 
 pub returns-then-bytes-bounds-clause-session : goal.returns-then-bytes-bounds-clause-session
 returns-then-bytes-bounds-clause-session g c =
@@ -46,14 +42,14 @@ returns-in-Ok-clause-session g c =
     let took = rw c.in-Ok-None.field-0-is at c.in-Ok-None.ensures.bytes in
     let asked = rw c.as_slice.ensures.value at c.answer-reply.ensures in
     let some : 0 < length c.session.line.items = search rules in
-    (c.answer-reply.result.1, ends-last _ c.args.bounds _ _ _ _ _ _ _ _ _ _ 0 c.session.invariant.so_far _ c.answer-reply.result.0 some _ took (c.in-Ok-None.ensures.end c.in-Ok-None.field-0-is) (search rules) (search rules) asked c.in-Ok.ensures.ok)
+    (c.answer-reply.result.1, ends-last _ c.args.bounds _ _ _ _ _ _ _ _ _ _ 0 c.session.invariant.so_far _ _ c.answer-reply.result.0 took (c.in-Ok-None.ensures.end c.in-Ok-None.field-0-is) some (search rules) (search rules) asked c.in-Ok.ensures.ok)
 
 pub returns-in-Err-put_reply-clause-session : goal.returns-in-Err-put_reply-clause-session
 returns-in-Err-put_reply-clause-session g c =
     let took = rw c.in-Ok-None.field-0-is at c.in-Ok-None.ensures.bytes in
     let asked = rw c.as_slice.ensures.value at c.answer-reply.ensures in
     let some : 0 < length c.session.line.items = search rules in
-    (c.answer-reply.result.1, ends-last_unwritten _ c.args.bounds _ _ _ _ _ _ _ _ _ _ 0 c.session.invariant.so_far _ c.answer-reply.result.0 some _ took (c.in-Ok-None.ensures.end c.in-Ok-None.field-0-is) (search rules) (search rules) asked c.in-Err-put_reply.ensures.err)
+    (c.answer-reply.result.1, ends-last_unwritten _ c.args.bounds _ _ _ _ _ _ _ _ _ _ 0 c.session.invariant.so_far _ _ c.answer-reply.result.0 took (c.in-Ok-None.ensures.end c.in-Ok-None.field-0-is) some (search rules) (search rules) asked c.in-Err-put_reply.ensures.err)
 
 pub returns-in-Err-put_reply-2-clause-session : goal.returns-in-Err-put_reply-2-clause-session
 returns-in-Err-put_reply-2-clause-session g c =
