@@ -81,4 +81,4 @@ pub record IsShuffled (old new : Heap) : Type 0 where
 
 -- a heap as a queue
 abbrev pub queue_of : Heap → Queue
-queue_of h = record { size = h.size; keys = keys_in h; taken = 0 }
+queue_of h = record { size = h.size; keys = keys_in h; taken = 0; total = 0 }

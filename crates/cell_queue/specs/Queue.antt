@@ -8,15 +8,17 @@ use Rattle.grid_cells.specs.Grid.{flag_index}
 abbrev pub area : Extent → ℕ
 area size = size.width * size.height
 
--- a finite map from the cells of a map to keys: for each cell, row by row, its key if it is in the queue; and a counter
+-- a finite map from the cells of a map to keys: for each cell, row by row, its key if it is in the queue; and the cells
+-- taken since the last reset, and in all
 pub record Queue : Type 0 where
   pub size : Extent
   pub keys : List (Option ℕ)
   pub taken : ℕ
+  pub total : ℕ
 
 -- a queue without cells
 abbrev pub empty_queue : Extent → Queue
-empty_queue size = record { size = size; keys = replicate (area size) None; taken = 0 }
+empty_queue size = record { size = size; keys = replicate (area size) None; taken = 0; total = 0 }
 
 -- the cell's key, none where it is not in the queue; the map has the cell
 abbrev pub key_at : Queue → Point → Option ℕ
@@ -30,7 +32,7 @@ HasCell queue cell = Holds queue.size cell × IsSome (key_at queue cell)
 abbrev pub with_key : Queue → Point → Option ℕ → Queue
 with_key queue cell key = record queue { keys = slice_set queue.keys (flag_index queue.size cell) key }
 
--- the counter after one more cell was taken, held at the greatest u64
+-- a counter after one more cell was taken, held at the greatest u64
 abbrev pub one_more : ℕ → ℕ
 one_more taken = min (taken + 1) (2 ^ 64 - 1)
 

@@ -1,30 +1,33 @@
-ghost use Rattle.std.specs.Prelude.{◌≡◌, ◌↔◌, IfOk, IfSome, IfNone, Some, None, IsTrue};
+ghost use Rattle.std.specs.Prelude.{◌≡◌, ◌<◌, ◌^◌, ◌↔◌, IfOk, IfSome, IfNone, Some, None, IsTrue, length};
 ghost use Rattle.grid_cells.specs.Size.{Holds};
-ghost use Rattle.cell_queue.specs.Queue.{empty_queue, with_key, one_more, key_at, HasCell, IsLeastKey, IsEmpty};
+ghost use Rattle.cell_queue.specs.Queue.{area, empty_queue, with_key, one_more, key_at, HasCell, IsLeastKey, IsEmpty};
 
 use crate::heaps::Heap;
 use grid_cells::{Cell, OutOfMemory, Size};
 use std::alloc::Global;
 use std::marker::Model;
 
-/// Some cells of a map, each under a key, and a counter of the cells that were taken.
+/// Some cells of a map, each under a key, and two counters of the cells that were taken: one that
+/// can be set to 0, and one that can't.
 #[derive(Drop)]
 pub struct CellQueue {
     heap: Heap,
     taken: u64,
+    total: u64,
 }
 
-// Clauses see the size, the key of each cell, and the counter.
+// Clauses see the size, the key of each cell, and the counters.
 impl Model for CellQueue {
     ghost use Rattle.cell_queue.specs.Queue.{Queue};
 
     ghost Value = { Queue };
 
+    ghost use Rattle.std.specs.Prelude.{◌<◌, ◌^◌};
     ghost use Rattle.cell_queue.specs.Heap.{keys_in, IsHeap};
 
-    ghost view = { λ q. record { size = q.heap.size; keys = keys_in q.heap; taken = q.taken } };
+    ghost view = { λ q. record { size = q.heap.size; keys = keys_in q.heap; taken = q.taken; total = q.total } };
 
-    ghost invariant = { λ q. IsHeap q.heap };
+    ghost invariant = { λ q. IsHeap q.heap × (q.taken < 2 ^ 64) × (q.total < 2 ^ 64) };
 }
 
 impl CellQueue {
@@ -35,6 +38,7 @@ impl CellQueue {
         Ok(CellQueue {
             heap: Heap::new(alloc, size)?,
             taken: 0,
+            total: 0,
         })
     }
 
@@ -63,25 +67,36 @@ impl CellQueue {
 
         // It is out, and one more is counted.
         ensures after { IfSome result (λ taken.
-            self.new ≡ record (with_key self.old taken.0 None) { taken = one_more self.old.taken }) }
+            self.new ≡ record (with_key self.old taken.0 None) { taken = one_more self.old.taken; total = one_more self.old.total }) }
         ensures none { IfNone result (IsEmpty self.old) }
         ensures unchanged { IfNone result (self.new ≡ self.old) }
     {
         let least = self.heap.take_top()?;
         self.taken = self.taken.saturating_add(1);
+        self.total = self.total.saturating_add(1);
         Some(least)
     }
 
     /// How many cells were taken since the queue was made or reset, held at the greatest u64.
     pub fn taken(&self) -> u64
-        ensures { result ≡ self.now.taken }
+        ensures is { result ≡ self.now.taken }
+        ensures bound { self.now.taken < 2 ^ 64 }
+        ensures one_key_each { length self.now.keys ≡ area self.now.size }
     {
         self.taken
     }
 
-    /// Sets the counter to 0.
+    /// How many cells were taken since the queue was made, held at the greatest u64.
+    pub fn total(&self) -> u64
+        ensures { result ≡ self.now.total }
+    {
+        self.total
+    }
+
+    /// Sets the counter of the cells taken to 0; the total stays.
     pub fn reset(&mut self)
-        ensures { self.new ≡ record self.old { taken = 0 } }
+        ensures is { self.new ≡ record self.old { taken = 0 } }
+        ensures bound { self.old.total < 2 ^ 64 }
     {
         self.taken = 0;
     }

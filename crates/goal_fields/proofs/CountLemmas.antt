@@ -56,14 +56,13 @@ count_over-is (x ∷ d) (y ∷ g) long hd hg =
 -- no g is above the number that is none
 pub g-le : (s : Lifelong) → IsSettled s → (i : ℕ) → i < length s.g.items → slice_index s.g.items i ≤ far
 g-le s settled i h =
-    (let (c, held, at) = cell_at s.grid.size settled.roomy.sized i (omega (arith, settled.roomy.one_g_each)) in
-    subst (λ (n : ℕ). slice_index s.g.items n ≤ far) at (omega (arith, settled.agree c held, (settled.good c held).equation.bounded)))
+    (let (c, held, at) = cell_at s.grid.size (omega (arith, settled.roomy.sized.wide)) i (omega (arith, settled.roomy.one_g_each)) in
+    subst (λ (n : ℕ). slice_index s.g.items n ≤ far) at (settled.consistent c held).bounded)
 
 -- between two repairs g is the distance
 pub IsDistance-settled : (s : Lifelong) → IsSettled s → (c : Point) → Holds s.grid.size c → IsDistance s.grid c s.goal (distance_of (g_of s c))
 IsDistance-settled s settled =
-    IsDistance-consistent s.grid s.goal s.g.items settled.roomy.one_g_each settled.roomy.sized.cells_most
-    (λ c h. subst (λ (r : ℕ). IsRhs s.grid s.goal (g_of s) c r) (sym (settled.agree c h)) (settled.good c h).equation)
+    IsDistance-consistent s.grid s.goal s.g.items settled.roomy.one_g_each settled.roomy.sized.cells_most settled.consistent
 
 pub AreDistances-settled : (s : Lifelong) → IsSettled s → AreDistances s.grid s.goal (map distance_of s.g.items)
 AreDistances-settled s settled =

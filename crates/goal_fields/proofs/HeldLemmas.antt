@@ -20,7 +20,7 @@ use Rattle.cell_queue.proofs.Indexes.{same_coordinates}
 use Rattle.grid_cells.specs.Cell.{Point}
 use Rattle.grid_cells.specs.Grid.{Chart}
 use Rattle.grid_cells.specs.declared.sizes.TheConstants.{MOST_SIDE}
-use Rattle.goal_fields.specs.Target.{Standing}
+use Rattle.goal_fields.specs.Target.{Standing, IsSound}
 use Rattle.goal_fields.specs.Changes.{IsRepaired}
 use Rattle.goal_fields.specs.Held.{HasGoal, StandFor, rank_of, RiseByGoal, SameButGoal, IsRising}
 use Rattle.goal_fields.specs.Kept.{goal_rank, IsKept}
@@ -181,12 +181,17 @@ rising_remove xs at rising h i j d lt hj =
     high within_j same_j (inr (le_i, within_i, same_i)) = omega (arith, same_j, same_i, rising (i + 1) (j + 1) d (omega arith) within_j)
 
 -- one more field
-pub IsKept-insert : (ranks : List ℕ) (fields : List Standing) (field : Standing) (at : ℕ) → IsKept ranks fields → IsGap ranks (goal_rank field) at → field.goal.x < MOST_SIDE → field.goal.y < MOST_SIDE → IsKept (insert ranks at (goal_rank field)) (insert fields at field)
-IsKept-insert ranks fields field at kept gap column row =
+pub IsKept-insert : (ranks : List ℕ) (fields : List Standing) (field : Standing) (at : ℕ) → IsKept ranks fields → IsGap ranks (goal_rank field) at → IsSound field → field.goal.x < MOST_SIDE → field.goal.y < MOST_SIDE → IsKept (insert ranks at (goal_rank field)) (insert fields at field)
+IsKept-insert ranks fields field at kept gap sound column row =
     let room : at ≤ length fields = omega (arith, gap.room, IsKept-long ranks fields kept) in
     record {
       ranked = subst (λ (xs : List ℕ). insert xs at (goal_rank field) ≡ map goal_rank (insert fields at field)) (sym kept.ranked) (map-insert room);
       rising = rising_insert ranks at (goal_rank field) kept.rising gap;
+      sound = λ k d h. elim (insert_cases fields at field k d room h) [
+        | inl (lt, same) ↦ rw same (kept.sound k d (omega arith))
+        | inr (inl (is, same)) ↦ rw same sound
+        | inr (inr (m, is, le, within, same)) ↦ rw same (kept.sound m d within)
+      ];
       bounded = λ k d h. elim (insert_cases fields at field k d room h) [
         | inl (lt, same) ↦ rw same (kept.bounded k d (omega arith))
         | inr (inl (is, same)) ↦ rw same (column, row)
@@ -204,6 +209,10 @@ IsKept-remove ranks fields at kept h =
     record {
       ranked = subst (λ (xs : List ℕ). remove xs at ≡ map goal_rank (remove fields at)) (sym kept.ranked) map-remove;
       rising = rising_remove ranks at kept.rising h;
+      sound = λ k d hk. elim (remove_cases fields at k d within hk) [
+        | inl (lt, same) ↦ rw same (kept.sound k d (omega arith))
+        | inr (le, more, same) ↦ rw same (kept.sound (k + 1) d more)
+      ];
       bounded = λ k d hk. elim (remove_cases fields at k d within hk) [
         | inl (lt, same) ↦ rw same (kept.bounded k d (omega arith))
         | inr (le, more, same) ↦ rw same (kept.bounded (k + 1) d more)
@@ -263,6 +272,7 @@ IsKept-repaired ranks old new grid kept all =
     record {
       ranked = kept.ranked ∙ same old new all;
       rising = kept.rising;
+      sound = λ k d h. (AllZip-get_or (IsRepaired grid) old new k d d all (omega (arith, length_all_zip (IsRepaired grid) old new all))).sound;
       bounded = bound old new all kept.bounded;
     }
   where

@@ -1,24 +1,30 @@
 -- The edits before a repair, and the state in which it begins.
-use Rattle.std.specs.Prelude.{Bool, true, false, Option, Some, None, IsTrue, ◌==◌, ◌&&◌, ◌↔◌, Contains, replicate, slice_index}
+use Rattle.std.specs.Prelude.{Bool, true, false, Option, Some, None, IsTrue, ◌==◌, ◌&&◌, ◌↔◌, Contains, replicate, min}
 use Rattle.std.specs.List.{slice_get}
 use Rattle.std.proofs.Common.{◌≡◌, ℕ, ◌<◌, ◌≤◌, ◌⊎◌, inl, inr, List, [], ◌∷◌, ◌++◌, length, refl, sym, ap, subst, ◌∙◌, arith, get_or}
-use Rattle.std.proofs.lemmas.List.{ext_get_or, get_or-replicate}
+use Rattle.std.proofs.lemmas.List.{ext_get_or, get_or-replicate, length-replicate}
 use Rattle.std.proofs.lemmas.Option.{unwrap_or-slice_get, slice_get-get_or}
 use Rattle.std.specs.Option.{unwrap_or}
-use Rattle.std.proofs.lemmas.List.Elements.{Contains-append_cases}
+use Rattle.std.proofs.lemmas.List.Elements.{Contains-append_left, Contains-append_right, Contains-append_cases}
 use Rattle.std.proofs.lemmas.Grind.{common_steps}
-use Rattle.grid_cells.specs.Cell.{Point}
-use Rattle.grid_cells.specs.Size.{Extent, IsSize, Holds}
+use Rattle.std.proofs.lemmas.Bool.{cases_eq}
+use Rattle.grid_cells.specs.Cell.{Point, IsAdjacent}
+use Rattle.grid_cells.specs.Size.{Extent, Holds}
 use Rattle.grid_cells.specs.Grid.{Chart, IsOpen, flag_index}
-use Rattle.cell_queue.specs.Queue.{area, Queue, key_at, empty_queue}
+use Rattle.cell_queue.specs.Queue.{area, Queue, key_at, empty_queue, IsEmpty}
 use Rattle.cell_queue.proofs.Indexes.{index_below}
 use Rattle.goal_fields.specs.declared.lifelong.Lifelong.{Lifelong}
+use Rattle.goal_fields.specs.declared.search.Search.{Search}
+use Rattle.goal_fields.specs.Search.{IsFound, mark_of}
+use Rattle.goal_fields.specs.Repair.{IsRhs, key_for}
+use Rattle.goal_fields.proofs.RepairEnds.{IsRhs-distance}
 use Rattle.goal_fields.specs.Marks.{far, mark_at}
 use Rattle.goal_fields.specs.Target.{flag_at, Covers}
-use Rattle.goal_fields.specs.Lifelong.{g_of, r_of, IsRoomy, IsFresh, IsSameBut, IsGood, IsEditing, IsSettled, IsInRepair}
-use Rattle.goal_fields.proofs.Neighbours.{cases_cell, cell_at}
-use Rattle.goal_fields.proofs.UpdateLemmas.{key_none}
-use Rattle.goal_fields.proofs.TakeLemmas.{count_over-same}
+use Rattle.goal_fields.specs.Lifelong.{g_of, IsRoomy, IsGood, IsTouched, IsConsistent, IsSettled, IsInRepair}
+use Rattle.goal_fields.specs.Adopting.{IsAdopting}
+use Rattle.goal_fields.proofs.Neighbours.{IsAdjacent-sym, cell_at, cases_cell, cases_held, cases_adjacent}
+use Rattle.goal_fields.proofs.UpdateLemmas.{key_none, key_min}
+use Rattle.goal_fields.proofs.TakeLemmas.{count_over-same, rhs_in, rhs_in-good}
 
 -- the map has a flag for the cell
 pub flag_given : (xs : List Bool) (i : ℕ) → i < length xs → (b : Bool) × (slice_get xs i ≡ Some b)
@@ -35,21 +41,13 @@ flag_read grid cell b held whole iff = go b (flag_at grid cell) refl iff
     go false None e iff = (let (b, is) = flag_given grid.flags (flag_index grid.size cell) (omega (arith, index_below grid.size cell held)) in let x : None ≡ Some b = sym e ∙ is in cc)
 
 -- two lists of flags that agree at each cell are equal
-pub same_flags : (size : Extent) (xs ys : List Bool) → IsSize size.width size.height → length xs ≡ area size → length ys ≡ area size →
+pub same_flags : (size : Extent) (xs ys : List Bool) → 0 < size.width → length xs ≡ area size → length ys ≡ area size →
     ((c : Point) → Holds size c → slice_get xs (flag_index size c) ≡ slice_get ys (flag_index size c)) → xs ≡ ys
-same_flags size xs ys sized lx ly same =
+same_flags size xs ys wide lx ly same =
     ext_get_or false xs ys (lx ∙ sym ly) (λ i h.
-    (let (c, held, at) = cell_at size sized i (omega arith) in
+    (let (c, held, at) = cell_at size wide i (omega arith) in
     let here : slice_get xs i ≡ slice_get ys i = subst (λ (n : ℕ). slice_get xs n ≡ slice_get ys n) at (same c held) in
     sym (unwrap_or-slice_get xs i false) ∙ ap (λ (v : Option Bool). unwrap_or v false) here ∙ unwrap_or-slice_get ys i false))
-
--- an element of a list with one more at its end
-pub last_or_before : (done : List Point) (a v : Point) → Contains (done ++ a ∷ []) v → Contains done v ⊎ (v ≡ a)
-last_or_before done a v con = go (Contains-append_cases done (a ∷ []) v con)
-  where
-    go : Contains done v ⊎ Contains (a ∷ []) v → Contains done v ⊎ (v ≡ a)
-    go (inl h) = inl h
-    go (inr h) = inr (grind (arith, common_steps))
 
 -- a test is not both
 pub false≢true_at : {b : Bool} → false ≡ b → b ≡ true → ⊥
@@ -60,91 +58,178 @@ pub same_eq : (a b : Point) → a ≡ b → (a.y == b.y && a.x == b.x) ≡ true
 same_eq a b e = (let ey : a.y ≡ b.y = ap (λ (v : Point). v.y) e in let ex : a.x ≡ b.x = ap (λ (v : Point). v.x) e in
     let ty : (a.y == b.y) ≡ true = grind arith in let tx : (a.x == b.x) ≡ true = grind arith in rw (ty, tx) refl)
 
--- an element of a list without distances
-pub far_in : (n i : ℕ) (xs : List ℕ) → xs ≡ replicate n far → i < n → slice_index xs i ≡ far
-far_in n i xs e h = ap (λ (v : List ℕ). slice_index v i) e ∙ get_or-replicate n i far 0 h
-
 -- where each cell is good and nothing is taken, a repair begins
 pub IsInRepair-begin : (now : Lifelong) → IsRoomy now → ((c : Point) → Holds now.grid.size c → IsGood now c) → ((c : Point) → Holds now.grid.size c → g_of now c ≤ far) → now.queue.taken ≡ 0 → IsInRepair now.g.items now 0
 IsInRepair-begin now roomy good top taken =
     record {
       roomy = roomy;
       one_each = roomy.one_g_each;
+      rhs = rhs_in now good;
       repairing = record {
-        equation = λ c h. (good c h).equation;
+        equation = λ c h. (rhs_in-good now good c h).0;
         bounded = top;
         given = top;
         low = λ c h ne. (omega arith, omega arith);
         raised = λ c h is below. absurd (omega arith);
         settled = λ c h below ne. absurd (ne refl);
       };
-      queued = λ c h. (good c h).queued;
+      queued = λ c h. (rhs_in-good now good c h).1;
       counted = taken ∙ sym (count_over-same now.g.items);
     }
 
--- a cell other than the goal is good while no cell has a distance
-pub IsGood-fresh : (s : Lifelong) → IsFresh s → (c : Point) → Holds s.grid.size c → (c ≡ s.goal → ⊥) → IsGood s c
-IsGood-fresh s fresh c h ne =
-    let g : (v : Point) → Holds s.grid.size v → g_of s v ≡ far = (λ v hv. all_far s.g.items fresh.no_g v hv) in
-    let r : r_of s c ≡ far = all_far s.rhs.items fresh.no_rhs c h in
-    let no_key : key_at s.queue c ≡ None = (let q : key_at s.queue c ≡ key_at (empty_queue s.grid.size) c = ap (λ (v : Queue). key_at v c) fresh.no_keys in
-    q ∙ get_or-replicate (area s.grid.size) (flag_index s.grid.size c) None None (index_below s.grid.size c h)) in
+-- the state after a breadth-first search is settled
+pub IsSettled-found : (found_by : Search) (s : Lifelong) → IsFound found_by → s.grid ≡ found_by.grid → s.goal ≡ found_by.goal → s.g.items ≡ found_by.marks.items → s.queue ≡ empty_queue found_by.grid.size → IsSettled s
+IsSettled-found found_by s found grid goal g queue =
+    let size : s.grid.size ≡ found_by.grid.size = ap (λ (t : Chart). t.size) grid in
     record {
-      equation = record {
-        bounded = omega (arith, r);
-        closed = λ shut. r;
-        at_goal = λ o e. absurd (ne e);
-        upper = λ o n next adj on. omega (arith, r, g next on.0);
-        lower = λ o n below. absurd (omega (arith, r));
+      roomy = record {
+        sized = rw size found.room.sized;
+        goal_held = rw (size, goal) found.room.goal_held;
+        whole = subst (λ (t : Chart). length t.flags ≡ area t.size) (sym grid) found.room.whole;
+        one_g_each = ap (λ (xs : List ℕ). length xs) g ∙ found.room.one_mark_each ∙ ap area (sym size);
+        queue = ap (λ (q : Queue). q.size) queue ∙ sym size;
+        one_key_each = ap (λ (q : Queue). length q.keys) queue ∙ length-replicate (area found_by.grid.size) None ∙ ap area (sym size);
       };
-      queued = no_key ∙ key_none (g_of s c) (r_of s c) (g c h ∙ sym r);
+      consistent = λ c h.
+          (let held : Holds found_by.grid.size c = rw (← size) h in
+          let equation : IsRhs found_by.grid found_by.goal (mark_of found_by) c (mark_of found_by c) = IsRhs-distance found_by.grid found_by.goal (mark_of found_by) found.right found.bounded c held in
+          let same_grid : IsRhs s.grid found_by.goal (mark_at s.grid.size found_by.marks.items) c (mark_at s.grid.size found_by.marks.items c) =
+          subst (λ (t : Chart). IsRhs t found_by.goal (mark_at t.size found_by.marks.items) c (mark_at t.size found_by.marks.items c)) (sym grid) equation in
+          let same_goal : IsRhs s.grid s.goal (mark_at s.grid.size found_by.marks.items) c (mark_at s.grid.size found_by.marks.items c) =
+          subst (λ (p : Point). IsRhs s.grid p (mark_at s.grid.size found_by.marks.items) c (mark_at s.grid.size found_by.marks.items c)) (sym goal) same_grid in
+          subst (λ (xs : List ℕ). IsRhs s.grid s.goal (mark_at s.grid.size xs) c (mark_at s.grid.size xs c)) (sym g) same_goal);
+      empty = subst IsEmpty (sym queue) (λ c h. get_or-replicate (area found_by.grid.size) (flag_index found_by.grid.size c) None None (index_below found_by.grid.size c h));
+    }
+
+-- a repair whose queue is empty has come to its end
+pub IsSettled-ended : (d : List ℕ) (s : Lifelong) (floor : ℕ) → IsInRepair d s floor → IsEmpty s.queue → IsSettled s
+IsSettled-ended d s floor inv empty =
+    record {
+      roomy = inv.roomy;
+      consistent = λ c h. (let same : inv.rhs c ≡ g_of s c = agree c (sym (inv.queued c h) ∙ empty c (rw inv.roomy.queue h)) in
+          subst (λ (r : ℕ). IsRhs s.grid s.goal (g_of s) c r) same (inv.repairing.equation c h));
+      empty = empty;
     }
   where
-    all_far : (xs : List ℕ) → xs ≡ replicate (area s.grid.size) far → (v : Point) → Holds s.grid.size v → mark_at s.grid.size xs v ≡ far
-    all_far xs e v hv = far_in (area s.grid.size) (flag_index s.grid.size v) xs e (index_below s.grid.size v hv)
+    agree : (c : Point) → key_for (g_of s c) (inv.rhs c) ≡ None → inv.rhs c ≡ g_of s c
+    agree c none = elim (cases_eq (g_of s c) (inv.rhs c)) [
+      | inl e ↦ sym e
+      | inr ne ↦ (let key : Some (min (g_of s c) (inv.rhs c)) ≡ None = key_min (g_of s c) (inv.rhs c) (min (g_of s c) (inv.rhs c)) ne refl ∙ none in cc)
+    ]
 
--- once the goal is updated, the first repair begins
-pub IsInRepair-fresh : (old new : Lifelong) → IsFresh old → IsRoomy new → IsSameBut old new →
-    ((c : Point) → Holds old.grid.size c → c ≡ old.goal → IsGood new c) → ((c : Point) → Holds old.grid.size c → IsGood old c → IsGood new c) → IsInRepair new.g.items new 0
-IsInRepair-fresh old new fresh roomy same here keeps =
-    IsInRepair-begin new roomy
-    (λ c h. (let h' : Holds old.grid.size c = rw (← same.grid) h in
-    elim (cases_cell c old.goal) [ inl e ↦ here c h' e | inr ne ↦ keeps c h' (IsGood-fresh old fresh c h' ne) ]))
-    (λ c h. (let e : g_of new c ≡ far = far_in (area old.grid.size) (flag_index new.grid.size c) new.g.items (same.g ∙ fresh.no_g) (rw (← same.grid) (index_below new.grid.size c h)) in omega arith))
-    (same.taken ∙ ap (λ (q : Queue). q.taken) fresh.no_keys)
+-- the one element of a list
+only_one : (x v : Point) → Contains (x ∷ []) v → v ≡ x
+only_one x v con = grind (arith, common_steps)
 
--- once the edits are made, the repair begins: g is as before, and nothing is taken
-pub IsInRepair-edited : (start now : Lifelong) (target : Chart) (done : List Point) → IsSettled start → IsEditing start now target done → IsInRepair now.g.items now 0
-IsInRepair-edited start now target done settled e =
-    IsInRepair-begin now e.roomy (λ c h. e.good c (rw (← e.size) h))
-    (λ c h.
-    (let h' : Holds start.grid.size c = rw (← e.size) h in
-    let same : g_of now c ≡ g_of start c = ap (λ (z : Extent). mark_at z now.g.items c) e.size ∙ ap (λ (xs : List ℕ). mark_at start.grid.size xs c) e.g in
-    omega (arith, same, settled.agree c h', (settled.good c h').equation.bounded)))
-    e.taken
+-- a cell is near another: it is the same or adjacent
+abbrev Near : Point → Point → Type 0
+Near v c = (c ≡ v) ⊎ IsAdjacent v c
+
+-- whether a cell is near one of the cells that the map has
+near_some : (size : Extent) (cells : List Point) (c : Point) → ((v : Point) × Contains cells v × Holds size v × Near v c) ⊎ ((v : Point) → Contains cells v → Holds size v → Near v c → ⊥)
+near_some size [] c = inr (λ v con held near. absurd (omega (arith, con.1)))
+near_some size (x ∷ xs) c = go (cases_held size x) (cases_cell c x) (cases_adjacent x c) (near_some size xs c)
+  where
+    first : Contains (x ∷ xs) x
+    first = Contains-append_left (x ∷ []) xs x (0, omega arith, refl)
+
+    later : (Holds size x → Near x c → ⊥) → (((v : Point) × Contains xs v × Holds size v × Near v c) ⊎ ((v : Point) → Contains xs v → Holds size v → Near v c → ⊥)) →
+        ((v : Point) × Contains (x ∷ xs) v × Holds size v × Near v c) ⊎ ((v : Point) → Contains (x ∷ xs) v → Holds size v → Near v c → ⊥)
+    later apart (inl (v, con, held, near)) = inl (v, Contains-append_right (x ∷ []) xs v con, held, near)
+    later apart (inr none) = inr (λ v con held near. elim (Contains-append_cases (x ∷ []) xs v con) [
+      | inl here ↦ (let e : v ≡ x = only_one x v here in apart (subst (λ (w : Point). Holds size w) e held) (subst (λ (w : Point). Near w c) e near))
+      | inr there ↦ none v there held near
+    ])
+
+    go : (Holds size x ⊎ (Holds size x → ⊥)) → ((c ≡ x) ⊎ (c ≡ x → ⊥)) → (IsAdjacent x c ⊎ (IsAdjacent x c → ⊥)) → (((v : Point) × Contains xs v × Holds size v × Near v c) ⊎ ((v : Point) → Contains xs v → Holds size v → Near v c → ⊥)) →
+        ((v : Point) × Contains (x ∷ xs) v × Holds size v × Near v c) ⊎ ((v : Point) → Contains (x ∷ xs) v → Holds size v → Near v c → ⊥)
+    go (inr out) _ _ rest = later (λ held near. out held) rest
+    go (inl h) (inl e) _ rest = inl (x, first, h, inl e)
+    go (inl h) (inr ne) (inl adj) rest = inl (x, first, h, inr adj)
+    go (inl h) (inr ne) (inr apart) rest = later (λ held near. elim near [ inl e ↦ ne e | inr adj ↦ apart adj ]) rest
+
+-- a cell none of whose neighbours has changed, nor itself, keeps its equation
+IsRhs-unchanged : (old new : Chart) (goal : Point) (g : Point → ℕ) (c : Point) (r : ℕ) → old.size ≡ new.size →
+    ((v : Point) → Holds old.size v → Near v c → flag_at old v ≡ flag_at new v) → IsRhs old goal g c r → IsRhs new goal g c r
+IsRhs-unchanged old new goal g c r size same a =
+    record {
+      bounded = a.bounded;
+      closed = λ shut. a.closed (λ o. shut (now c (inl refl) o));
+      at_goal = λ o e. a.at_goal (before c (inl refl) o) e;
+      upper = λ o n v adj on. a.upper (before c (inl refl) o) n v adj (before v (inr (IsAdjacent-sym c v adj)) on);
+      lower = λ o n lt. (let (v, adj, on, e) = a.lower (before c (inl refl) o) n lt in (v, adj, now v (inr (IsAdjacent-sym c v adj)) on, e));
+    }
+  where
+    now : (v : Point) → Near v c → IsOpen old v → IsOpen new v
+    now v near o = (subst (λ (z : Extent). Holds z v) size o.0, sym (same v o.0 near) ∙ o.1)
+
+    before : (v : Point) → Near v c → IsOpen new v → IsOpen old v
+    before v near o = (let held : Holds old.size v = subst (λ (z : Extent). Holds z v) (sym size) o.0 in (held, same v held near ∙ o.1))
+
+-- flags are the same or differ
+cases_flag : (a b : Option Bool) → (a ≡ b) ⊎ (a ≡ b → ⊥)
+cases_flag None None = inl refl
+cases_flag None (Some b) = inr (λ e. cc)
+cases_flag (Some a) None = inr (λ e. cc)
+cases_flag (Some true) (Some true) = inl refl
+cases_flag (Some false) (Some false) = inl refl
+cases_flag (Some true) (Some false) = inr (λ e. cc)
+cases_flag (Some false) (Some true) = inr (λ e. cc)
+
+-- once the changed cells are touched, each cell is good, and a repair begins
+pub IsInRepair-touched : (old : Chart) (start now : Lifelong) (changed : List Point) → old.size ≡ start.grid.size → Covers changed old start.grid → IsConsistent old start →
+    IsRoomy start → IsEmpty start.queue → IsTouched start now changed → IsInRepair now.g.items now 0
+IsInRepair-touched old start now changed size covers consistent roomy empty t =
+    IsInRepair-begin now t.roomy (λ c h. good c (subst (λ (z : Chart). Holds z.size c) t.grid h)) top t.taken
+  where
+    at_start : (c : Point) → Holds start.grid.size c → IsRhs old start.goal (g_of start) c (g_of start c)
+    at_start c h = (let held : Holds old.size c = rw size h in subst (λ (z : Extent). IsRhs old start.goal (mark_at z start.g.items) c (mark_at z start.g.items c)) size (consistent c held))
+
+    top : (c : Point) → Holds now.grid.size c → g_of now c ≤ far
+    top c h =
+        let held : Holds start.grid.size c = subst (λ (z : Chart). Holds z.size c) t.grid h in
+        let same : g_of now c ≡ g_of start c = ap (λ (z : Chart). mark_at z.size now.g.items c) t.grid ∙ ap (λ (xs : List ℕ). mark_at start.grid.size xs c) t.g in
+        omega (arith, same, (at_start c held).bounded)
+
+    unchanged : (c v : Point) → ((w : Point) → Contains changed w → Holds start.grid.size w → Near w c → ⊥) → Holds old.size v → Near v c → flag_at old v ≡ flag_at start.grid v
+    unchanged c v none held near = elim (cases_flag (flag_at old v) (flag_at start.grid v)) [ inl same ↦ same | inr differ ↦ absurd (none v (covers v held differ) (rw (← size) held) near) ]
+
+    good : (c : Point) → Holds start.grid.size c → IsGood now c
+    good c h = elim (near_some start.grid.size changed c) [
+      | inl (v, con, hv, near) ↦ t.near v con hv c h near
+      | inr none ↦ t.keeps c h (record {
+        rhs = g_of start c;
+        equation = IsRhs-unchanged old start.grid start.goal (g_of start) c (g_of start c) size
+            (λ v hv near. unchanged c v none hv near) (at_start c h);
+        queued = empty c (rw roomy.queue h) ∙ key_none (g_of start c) (g_of start c) refl;
+      })
+    ]
 
 -- once all changed cells are looked at, the flags are those of the new grid
-pub flags_made : (start now : Lifelong) (target : Chart) (changed : List Point) → IsEditing start now target changed → Covers changed start.grid target →
-    target.size ≡ start.grid.size → length target.flags ≡ area target.size → now.grid ≡ target
-flags_made start now target changed e covers size whole =
-    let flags : now.grid.flags ≡ target.flags =
-    same_flags start.grid.size now.grid.flags target.flags (rw (← e.size) e.roomy.sized) (rw e.size at e.roomy.whole) (rw size at whole)
-    (λ c h. (let s : flag_at now.grid c ≡ flag_at target c = each c h (e.either c h) (cases_flag (flag_at start.grid c) (flag_at target c)) in
-    sym (ap (λ (z : Extent). slice_get now.grid.flags (flag_index z c)) e.size) ∙ s ∙ ap (λ (z : Extent). slice_get target.flags (flag_index z c)) size)) in
-    let sizes : now.grid.size ≡ target.size = e.size ∙ sym size in
+pub flags_made : (start now target : Chart) (changed : List Point) → 0 < start.size.width → IsAdopting start now target changed → Covers changed start target →
+    target.size ≡ start.size → length target.flags ≡ area target.size → now ≡ target
+flags_made start now target changed wide e covers size whole =
+    let flags : now.flags ≡ target.flags =
+    same_flags start.size now.flags target.flags wide (rw e.size at e.whole) (rw size at whole)
+    (λ c h. (let s : flag_at now c ≡ flag_at target c = each c h (e.either c h) (cases_flag (flag_at start c) (flag_at target c)) in
+    sym (ap (λ (z : Extent). slice_get now.flags (flag_index z c)) e.size) ∙ s ∙ ap (λ (z : Extent). slice_get target.flags (flag_index z c)) size)) in
+    let sizes : now.size ≡ target.size = e.size ∙ sym size in
     λ i. record { size = sizes i; flags = flags i }
   where
-    cases_flag : (a b : Option Bool) → (a ≡ b) ⊎ (a ≡ b → ⊥)
-    cases_flag None None = inl refl
-    cases_flag None (Some b) = inr (λ e. cc)
-    cases_flag (Some a) None = inr (λ e. cc)
-    cases_flag (Some true) (Some true) = inl refl
-    cases_flag (Some false) (Some false) = inl refl
-    cases_flag (Some true) (Some false) = inr (λ e. cc)
-    cases_flag (Some false) (Some true) = inr (λ e. cc)
-
-    each : (c : Point) → Holds start.grid.size c → ((flag_at now.grid c ≡ flag_at target c) ⊎ (flag_at now.grid c ≡ flag_at start.grid c)) →
-        ((flag_at start.grid c ≡ flag_at target c) ⊎ (flag_at start.grid c ≡ flag_at target c → ⊥)) → flag_at now.grid c ≡ flag_at target c
+    each : (c : Point) → Holds start.size c → ((flag_at now c ≡ flag_at target c) ⊎ (flag_at now c ≡ flag_at start c)) →
+        ((flag_at start c ≡ flag_at target c) ⊎ (flag_at start c ≡ flag_at target c → ⊥)) → flag_at now c ≡ flag_at target c
     each c h (inl s) _ = s
     each c h (inr o) (inl s) = o ∙ s
     each c h (inr o) (inr ne) = e.made c h (covers c h ne)
+
+-- maps of one size of which no cell differs are equal
+pub same_map : (old new : Chart) (changed : List Point) → length changed ≡ 0 → Covers changed old new → new.size ≡ old.size → 0 < old.size.width → length old.flags ≡ area old.size → length new.flags ≡ area new.size → old ≡ new
+same_map old new changed none covers size wide long_old long_new =
+    flags_made old old new changed wide
+    (record {
+      size = refl;
+      whole = long_old;
+      made = λ c h con. absurd (omega (arith, con.1, none));
+      either = λ c h. inr refl;
+    })
+    covers size long_new

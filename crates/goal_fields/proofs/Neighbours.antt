@@ -5,15 +5,14 @@ use Rattle.std.proofs.Math.Nat.{mul_comm}
 use Rattle.std.proofs.lemmas.Nat.{div_below}
 use Rattle.std.proofs.lemmas.Bool.{cases_eq, cases_lt}
 use Rattle.grid_cells.specs.Cell.{Point, point, steps_between, IsAdjacent}
-use Rattle.grid_cells.specs.Size.{Extent, IsSize, Holds, held}
+use Rattle.grid_cells.specs.Size.{Extent, Holds, held}
 use Rattle.grid_cells.specs.Grid.{flag_index}
 use Rattle.cell_queue.specs.Queue.{area}
 use Rattle.cell_queue.proofs.Indexes.{same_coordinates}
 
 -- each place of a list of all cells is a cell's
-pub cell_at : (size : Extent) → IsSize size.width size.height → (i : ℕ) → i < area size → (c : Point) × Holds size c × (flag_index size c ≡ i)
-cell_at size sized i h =
-    let wide : 0 < size.width = omega (arith, sized.wide) in
+pub cell_at : (size : Extent) → 0 < size.width → (i : ℕ) → i < area size → (c : Point) × Holds size c × (flag_index size c ≡ i)
+cell_at size wide i h =
     let whole : i < size.height * size.width = omega (arith, mul_comm size.height size.width) in
     let column : i % size.width < size.width = omega arith in
     let row : i / size.width < size.height = div_below i size.width size.height wide whole in
@@ -28,6 +27,15 @@ cases_cell a b = go (cases_eq a.x b.x) (cases_eq a.y b.y)
     go (inl p) (inl q) = inl (same_coordinates a b p q)
     go (inr n) _ = inr (λ e. n (ap (λ (v : Point). v.x) e))
     go (inl p) (inr n) = inr (λ e. n (ap (λ (v : Point). v.y) e))
+
+-- whether the map has a cell
+pub cases_held : (size : Extent) (c : Point) → Holds size c ⊎ (Holds size c → ⊥)
+cases_held size c = go (cases_lt c.x size.width) (cases_lt c.y size.height)
+  where
+    go : ((c.x < size.width) ⊎ (size.width ≤ c.x)) → ((c.y < size.height) ⊎ (size.height ≤ c.y)) → Holds size c ⊎ (Holds size c → ⊥)
+    go (inl p) (inl q) = inl (p, q)
+    go (inr n) _ = inr (λ h. absurd (omega (arith, h.0)))
+    go (inl p) (inr n) = inr (λ h. absurd (omega (arith, h.1)))
 
 -- whether two cells are adjacent
 pub cases_adjacent : (a b : Point) → IsAdjacent a b ⊎ (IsAdjacent a b → ⊥)

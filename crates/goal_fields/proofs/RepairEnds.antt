@@ -1,5 +1,5 @@
 use Rattle.std.specs.Prelude.{◌==◌, nat_lt, if◌then◌else◌, true, false, slice_index, sum_by}
-use Rattle.std.proofs.Common.{◌≡◌, ◌≢◌, ℕ, zero, suc, ◌+◌, ◌<◌, ◌≤◌, ◌⊎◌, List, [], ◌∷◌, length, refl, sym, ◌∙◌, inl, inr, arith}
+use Rattle.std.proofs.Common.{Some, None, ◌≡◌, ◌≢◌, ℕ, zero, suc, ◌+◌, ◌<◌, ◌≤◌, ◌⊎◌, List, [], ◌∷◌, length, refl, sym, ◌∙◌, inl, inr, arith}
 use Rattle.std.proofs.lemmas.Bool.{cases_eq, cases_lt}
 use Rattle.std.proofs.lemmas.List.Sums.{sum_by-cons}
 use Rattle.grid_cells.specs.Cell.{Point, IsAdjacent}
@@ -160,3 +160,39 @@ IsDistance-consistent grid goal marks len limit eq c h = go (cases_lt (mark_at g
         let b : mark_at grid.size marks c ≤ far = (eq c h).bounded in
         let none : (mark_at grid.size marks c == far) ≡ true = far_yes (mark_at grid.size marks c) b above in
         rw none (λ m w. (let q : (mark_at grid.size marks c < far) × (mark_at grid.size marks c ≤ m) = Walk-least grid goal (mark_at grid.size marks) eq (mark_at-lt grid goal marks len eq) limit m c w in absurd (omega (arith, q.0))))
+
+-- the distances meet the equation of rhs
+module _ (grid : Chart) (goal : Point) (g : Point → ℕ) (right : (c : Point) → Holds grid.size c → IsDistance grid c goal (distance_of (g c))) (bounded : (c : Point) → Holds grid.size c → g c ≤ far) where
+  walk_of : (c : Point) → Holds grid.size c → g c < far → Walk grid (g c) c goal
+  walk_of c h below = (let given : (g c == far) ≡ false = far_no (g c) below in let at : IsDistance grid c goal (Some (g c)) = rw given at (right c h) in at.0)
+
+  no_less : (c : Point) → Holds grid.size c → (m : ℕ) → Walk grid m c goal → (g c < far) × (g c ≤ m)
+  no_less c h m w = elim (cases_lt (g c) far) [
+    | inl below ↦ (let given : (g c == far) ≡ false = far_no (g c) below in let at : IsDistance grid c goal (Some (g c)) = rw given at (right c h) in (below, at.1 m w))
+    | inr above ↦ (let none : (g c == far) ≡ true = far_yes (g c) (bounded c h) above in let at : IsDistance grid c goal None = rw none at (right c h) in absurd (at m w))
+  ]
+
+  from_open : (m : ℕ) (c : Point) → Walk grid m c goal → IsOpen grid c
+  from_open zero c w = w.0
+  from_open (suc m) c w = w.0
+
+  above_next : (c next : Point) → IsOpen grid c → IsAdjacent c next → IsOpen grid next → g c ≤ g next + 1
+  above_next c next o adj on = elim (cases_lt (g next) far) [
+    | inl below ↦ omega (arith, (no_less c o.0 (suc (g next)) (o, (next, adj, walk_of next on.0 below))).1)
+    | inr above ↦ omega (arith, bounded c o.0)
+  ]
+
+  first_step : (c : Point) → (c ≡ goal → ⊥) → (n : ℕ) → g c ≡ n → Walk grid n c goal → (next : Point) × IsAdjacent c next × IsOpen grid next × (g c ≡ g next + 1)
+  first_step c ne zero e w = absurd (ne w.1)
+  first_step c ne (suc n) e (o, (next, adj, rest)) =
+      let on : IsOpen grid next = from_open n next rest in
+      (next, adj, on, omega (arith, e, above_next c next o adj on, (no_less next on.0 n rest).1))
+
+  pub IsRhs-distance : (c : Point) → Holds grid.size c → IsRhs grid goal g c (g c)
+  IsRhs-distance c h = record {
+    bounded = bounded c h;
+    closed = λ shut. elim (cases_lt (g c) far) [ inl below ↦ absurd (shut (from_open (g c) c (walk_of c h below))) | inr above ↦ omega (arith, bounded c h) ];
+    at_goal = λ o e. omega (arith, (no_less c h 0 (o, e)).1);
+    upper = λ o ne next adj on. above_next c next o adj on;
+    lower = λ o ne below. first_step c ne (g c) refl (walk_of c h below);
+  }

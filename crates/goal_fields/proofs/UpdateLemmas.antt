@@ -11,36 +11,33 @@ use Rattle.goal_fields.proofs.Neighbours.{up_of, left_of, right_of, down_of, nei
 use Rattle.goal_fields.specs.Repair.{IsRhs, key_for}
 use Rattle.cell_queue.proofs.Indexes.{index_below, same_place}
 
--- the cell's rhs and key are right
-pub record IsRight (grid : Chart) (goal : Point) (g : Point → ℕ) (rhs : List ℕ) (keys : List (Option ℕ)) (c : Point) : Type 0 where
-  pub equation : IsRhs grid goal g c (mark_at grid.size rhs c)
-  pub queued : slice_index_or keys (flag_index grid.size c) None ≡ key_for (g c) (mark_at grid.size rhs c)
+-- the cell's key is right
+pub record IsRight (grid : Chart) (goal : Point) (g : Point → ℕ) (keys : List (Option ℕ)) (c : Point) : Type 0 where
+  pub rhs : ℕ
+  pub equation : IsRhs grid goal g c rhs
+  pub queued : slice_index_or keys (flag_index grid.size c) None ≡ key_for (g c) rhs
 
 -- after the update of a cell that cell is right, and each that was
-pub IsRight-update : (grid : Chart) (goal : Point) (g : Point → ℕ) (rhs : List ℕ) (keys : List (Option ℕ)) (a : Point) (n r : ℕ) (v : Option ℕ) →
-    length rhs ≡ area grid.size → length keys ≡ area grid.size → Holds grid.size a → n ≡ flag_index grid.size a → IsRhs grid goal g a r → v ≡ key_for (g a) r →
-    (c : Point) → Holds grid.size c → ((c ≡ a) ⊎ IsRight grid goal g rhs keys c) → IsRight grid goal g (set rhs n r) (set keys n v) c
-IsRight-update grid goal g rhs keys a n r v lr lk ha is eq key c hc old =
-    let r_in : n < length rhs = omega (arith, index_below grid.size a ha) in
+pub IsRight-update : (grid : Chart) (goal : Point) (g : Point → ℕ) (keys : List (Option ℕ)) (a : Point) (n r : ℕ) (v : Option ℕ) →
+    length keys ≡ area grid.size → Holds grid.size a → n ≡ flag_index grid.size a → IsRhs grid goal g a r → v ≡ key_for (g a) r →
+    (c : Point) → Holds grid.size c → ((c ≡ a) ⊎ IsRight grid goal g keys c) → IsRight grid goal g (set keys n v) c
+IsRight-update grid goal g keys a n r v lk ha is eq key c hc old =
     let k_in : n < length keys = omega (arith, index_below grid.size a ha) in
-    let r_at : slice_index (set rhs n r) n ≡ r = get_or-set_same rhs n r 0 r_in in
-    let k_at : slice_index_or (set keys n v) n None ≡ v = get_or-set_same keys n v None k_in in
-    go r_at k_at (cases_cell c a) old
+    go (get_or-set_same keys n v None k_in) (cases_cell c a) old
   where
-    go : slice_index (set rhs n r) n ≡ r → slice_index_or (set keys n v) n None ≡ v → ((c ≡ a) ⊎ (c ≡ a → ⊥)) → ((c ≡ a) ⊎ IsRight grid goal g rhs keys c) → IsRight grid goal g (set rhs n r) (set keys n v) c
-    go r_at k_at (inl e) _ =
+    go : slice_index_or (set keys n v) n None ≡ v → ((c ≡ a) ⊎ (c ≡ a → ⊥)) → ((c ≡ a) ⊎ IsRight grid goal g keys c) → IsRight grid goal g (set keys n v) c
+    go k_at (inl e) _ =
         let number : flag_index grid.size c ≡ n = ap (λ (w : Point). flag_index grid.size w) e ∙ sym is in
-        let r_c : mark_at grid.size (set rhs n r) c ≡ r = rw number r_at in
         let k_c : slice_index_or (set keys n v) (flag_index grid.size c) None ≡ v = rw number k_at in
-        let eq_c : IsRhs grid goal g c r = subst (λ (w : Point). IsRhs grid goal g w r) (sym e) eq in
-        let key_c : v ≡ key_for (g c) r = subst (λ (w : Point). v ≡ key_for (g w) r) (sym e) key in
-        record { equation = subst (λ (x : ℕ). IsRhs grid goal g c x) (sym r_c) eq_c; queued = k_c ∙ subst (λ (x : ℕ). v ≡ key_for (g c) x) (sym r_c) key_c }
-    go r_at k_at (inr ne) (inl e) = absurd (ne e)
-    go r_at k_at (inr ne) (inr old_c) =
+        record {
+          rhs = r;
+          equation = subst (λ (w : Point). IsRhs grid goal g w r) (sym e) eq;
+          queued = k_c ∙ subst (λ (w : Point). v ≡ key_for (g w) r) (sym e) key;
+        }
+    go k_at (inr ne) (inl e) = absurd (ne e)
+    go k_at (inr ne) (inr old_c) =
         let apart : flag_index grid.size c ≢ n = (λ e. ne (same_place grid.size c a hc ha (e ∙ is))) in
-        let r_c : mark_at grid.size (set rhs n r) c ≡ mark_at grid.size rhs c = get_or-set_other rhs n (flag_index grid.size c) r 0 apart in
-        let k_c : slice_index_or (set keys n v) (flag_index grid.size c) None ≡ slice_index_or keys (flag_index grid.size c) None = get_or-set_other keys n (flag_index grid.size c) v None apart in
-        record { equation = subst (λ (x : ℕ). IsRhs grid goal g c x) (sym r_c) old_c.equation; queued = k_c ∙ subst (λ (x : ℕ). slice_index_or keys (flag_index grid.size c) None ≡ key_for (g c) x) (sym r_c) old_c.queued }
+        record { rhs = old_c.rhs; equation = old_c.equation; queued = get_or-set_other keys n (flag_index grid.size c) v None apart ∙ old_c.queued }
 
 pub key_none : (g r : ℕ) → g ≡ r → None ≡ key_for g r
 key_none g r e = (let yes : (g == r) ≡ true = grind arith in rw yes refl)

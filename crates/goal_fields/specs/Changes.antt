@@ -7,7 +7,7 @@ use Rattle.grid_cells.specs.Size.{Holds}
 use Rattle.grid_cells.specs.Grid.{Chart, flag_index}
 use Rattle.grid_cells.specs.Walks.{IsDistance}
 use Rattle.cell_queue.specs.Queue.{area}
-use Rattle.goal_fields.specs.Target.{Standing}
+use Rattle.goal_fields.specs.Target.{Standing, IsSound, HaveCounted}
 
 -- the old distance is given, and the new one is greater or none
 abbrev pub grew : Option ℕ × Option ℕ → Bool
@@ -43,3 +43,5 @@ pub record IsRepaired (grid : Chart) (old new : Standing) : Type 0 where
   pub stands : new.grid ≡ grid
   pub goal : new.goal ≡ old.goal
   pub count : IsChangeCount old.grid grid old.goal new.taken
+  pub total : HaveCounted new.taken old.total new.total
+  pub sound : IsSound new

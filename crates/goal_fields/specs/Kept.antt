@@ -1,7 +1,7 @@
 -- How the fields of the goals that are held are kept.
 use Rattle.std.specs.Prelude.{◌≡◌, ℕ, ◌<◌, List, All, map}
 use Rattle.grid_cells.specs.declared.sizes.TheConstants.{MOST_SIDE}
-use Rattle.goal_fields.specs.Target.{Standing}
+use Rattle.goal_fields.specs.Target.{Standing, IsSound}
 use Rattle.goal_fields.specs.Held.{rank_of, IsRising}
 
 -- the rank of a field's goal
@@ -12,4 +12,5 @@ goal_rank field = rank_of field.goal
 pub record IsKept (ranks : List ℕ) (fields : List Standing) : Type 0 where
   pub ranked : ranks ≡ map goal_rank fields
   pub rising : IsRising ranks
+  pub sound : All IsSound fields
   pub bounded : All (λ field. (field.goal.x < MOST_SIDE) × (field.goal.y < MOST_SIDE)) fields

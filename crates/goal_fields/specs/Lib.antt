@@ -1,5 +1,7 @@
 pub mod Target
+pub mod Adopting
 pub mod Changes
+pub mod Laws
 pub mod Held
 pub mod Kept
 pub mod Marks

@@ -1,21 +1,16 @@
 -- The state of Lifelong Planning A* (Koenig, Likhachev, Furcy 2004), and what holds of it.
-use Rattle.std.specs.Prelude.{◌≡◌, ◌⊎◌, ℕ, ◌+◌, List, [], ◌∷◌, length, replicate, Contains}
-use Rattle.grid_cells.specs.Cell.{Point}
+use Rattle.std.specs.Prelude.{◌≡◌, ◌⊎◌, ℕ, ◌+◌, List, [], ◌∷◌, length, Contains}
+use Rattle.grid_cells.specs.Cell.{Point, IsAdjacent}
 use Rattle.grid_cells.specs.Size.{IsSize, Holds}
 use Rattle.grid_cells.specs.Grid.{Chart}
-use Rattle.cell_queue.specs.Queue.{area, empty_queue, key_at}
+use Rattle.cell_queue.specs.Queue.{area, key_at, IsEmpty}
 use Rattle.goal_fields.specs.declared.lifelong.Lifelong.{Lifelong}
-use Rattle.goal_fields.specs.Marks.{far, IsWhole, mark_at}
-use Rattle.goal_fields.specs.Target.{flag_at}
+use Rattle.goal_fields.specs.Marks.{IsWhole, mark_at}
 use Rattle.goal_fields.specs.Repair.{IsRhs, IsRepairing, change, key_for}
 
 -- a cell's g
 abbrev pub g_of : Lifelong → Point → ℕ
 g_of s cell = mark_at s.grid.size s.g.items cell
-
--- a cell's rhs
-abbrev pub r_of : Lifelong → Point → ℕ
-r_of s cell = mark_at s.grid.size s.rhs.items cell
 
 -- there is room for each cell
 pub record IsRoomy (s : Lifelong) : Type 0 where
@@ -23,28 +18,22 @@ pub record IsRoomy (s : Lifelong) : Type 0 where
   pub goal_held : Holds s.grid.size s.goal
   pub whole : IsWhole s.grid
   pub one_g_each : length s.g.items ≡ area s.grid.size
-  pub one_rhs_each : length s.rhs.items ≡ area s.grid.size
   pub queue : s.queue.size ≡ s.grid.size
   pub one_key_each : length s.queue.keys ≡ area s.grid.size
 
--- no cell has a distance yet, and none is in the queue
-pub record IsFresh (s : Lifelong) : Type 0 where
-  pub roomy : IsRoomy s
-  pub no_g : s.g.items ≡ replicate (area s.grid.size) far
-  pub no_rhs : s.rhs.items ≡ replicate (area s.grid.size) far
-  pub no_keys : s.queue ≡ empty_queue s.grid.size
-
--- the cell's rhs meets its equation, and the cell is in the queue as it should be
+-- the cell is in the queue as its rhs, the number that meets its equation, wants it
 pub record IsGood (s : Lifelong) (cell : Point) : Type 0 where
-  pub equation : IsRhs s.grid s.goal (g_of s) cell (r_of s cell)
-  pub queued : key_at s.queue cell ≡ key_for (g_of s cell) (r_of s cell)
+  pub rhs : ℕ
+  pub equation : IsRhs s.grid s.goal (g_of s) cell rhs
+  pub queued : key_at s.queue cell ≡ key_for (g_of s cell) rhs
 
--- grid, goal, g and counter are the same
+-- grid, goal, g and counters are the same
 pub record IsSameBut (old new : Lifelong) : Type 0 where
   pub grid : new.grid ≡ old.grid
   pub goal : new.goal ≡ old.goal
   pub g : new.g.items ≡ old.g.items
   pub taken : new.queue.taken ≡ old.queue.taken
+  pub total : new.queue.total ≡ old.queue.total
 
 -- the change count between the distances before and the g of now, which the queue has counted
 abbrev pub count_over : List ℕ → List ℕ → ℕ
@@ -56,26 +45,31 @@ count_over (old ∷ olds) (new ∷ news) = change old new + count_over olds news
 pub record IsInRepair (d : List ℕ) (s : Lifelong) (floor : ℕ) : Type 0 where
   pub roomy : IsRoomy s
   pub one_each : length d ≡ area s.grid.size
-  pub repairing : IsRepairing s.grid s.goal (mark_at s.grid.size d) (g_of s) (r_of s) floor
-  pub queued : (c : Point) → Holds s.grid.size c → key_at s.queue c ≡ key_for (g_of s c) (r_of s c)
+  pub rhs : Point → ℕ
+  pub repairing : IsRepairing s.grid s.goal (mark_at s.grid.size d) (g_of s) rhs floor
+  pub queued : (c : Point) → Holds s.grid.size c → key_at s.queue c ≡ key_for (g_of s c) (rhs c)
   pub counted : s.queue.taken ≡ count_over d s.g.items
 
--- between two repairs: g and rhs agree and meet the equations, and the queue is empty
+-- between two repairs: g meets the equations of rhs, and the queue is empty
 pub record IsSettled (s : Lifelong) : Type 0 where
   pub roomy : IsRoomy s
-  pub good : (c : Point) → Holds s.grid.size c → IsGood s c
-  pub agree : (c : Point) → Holds s.grid.size c → g_of s c ≡ r_of s c
+  pub consistent : (c : Point) → Holds s.grid.size c → IsRhs s.grid s.goal (g_of s) c (g_of s c)
+  pub empty : IsEmpty s.queue
 
--- some of the edits are made: `old` is the state before the first, `done` are the cells looked at
-pub record IsEditing (old now : Lifelong) (target : Chart) (done : List Point) : Type 0 where
+-- the distances are those on the map: g meets its equations of rhs
+abbrev pub IsConsistent : Chart → Lifelong → Type 0
+IsConsistent grid s = (c : Point) → Holds grid.size c → IsRhs grid s.goal (mark_at grid.size s.g.items) c (mark_at grid.size s.g.items c)
+
+-- a repair has begun: the cells near those that are done are good, and each that was good
+pub record IsTouched (old now : Lifelong) (done : List Point) : Type 0 where
   pub roomy : IsRoomy now
-  pub size : now.grid.size ≡ old.grid.size
+  pub grid : now.grid ≡ old.grid
   pub goal : now.goal ≡ old.goal
   pub g : now.g.items ≡ old.g.items
   pub taken : now.queue.taken ≡ 0
-  pub good : (c : Point) → Holds old.grid.size c → IsGood now c
-  pub made : (c : Point) → Holds old.grid.size c → Contains done c → flag_at now.grid c ≡ flag_at target c
-  pub either : (c : Point) → Holds old.grid.size c → (flag_at now.grid c ≡ flag_at target c) ⊎ (flag_at now.grid c ≡ flag_at old.grid c)
+  pub total : now.queue.total ≡ old.queue.total
+  pub near : (v : Point) → Contains done v → Holds old.grid.size v → (c : Point) → Holds old.grid.size c → ((c ≡ v) ⊎ IsAdjacent v c) → IsGood now c
+  pub keeps : (c : Point) → Holds old.grid.size c → IsGood old c → IsGood now c
 
 -- grid and goal are the same
 pub record KeepsTarget (old new : Lifelong) : Type 0 where

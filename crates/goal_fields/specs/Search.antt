@@ -73,3 +73,4 @@ IsBlank s = (k : ℕ) → k < length s.marks.items → slice_index s.marks.items
 pub record IsFound (s : Search) : Type 0 where
   pub room : HasRoom s
   pub right : (cell : Point) → Holds s.grid.size cell → IsDistance s.grid cell s.goal (distance_of (mark_of s cell))
+  pub bounded : (cell : Point) → Holds s.grid.size cell → mark_of s cell ≤ far

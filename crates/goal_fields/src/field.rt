@@ -2,7 +2,7 @@ ghost use Rattle.std.specs.Prelude.{◌≡◌, ◌*◌, ◌≤◌, IfOk, None};
 ghost use Rattle.grid_cells.specs.Size.{Holds};
 ghost use Rattle.grid_cells.specs.Walks.{IsDistance};
 ghost use Rattle.grid_cells.specs.declared.sizes.TheConstants.{MOST_CELLS};
-ghost use Rattle.goal_fields.specs.Target.{Covers};
+ghost use Rattle.goal_fields.specs.Target.{Covers, IsSound};
 ghost use Rattle.goal_fields.specs.Changes.{IsRepaired};
 
 use crate::lifelong::Lifelong;
@@ -17,7 +17,8 @@ pub struct Field {
     state: Lifelong,
 }
 
-// Clauses see the grid that the field stands for, the goal, and what its queue has counted.
+// Clauses see the grid that the field stands for, the goal, and what its queue has counted since the
+// last repair began, and in all.
 impl Model for Field {
     ghost use Rattle.goal_fields.specs.Target.{Standing};
 
@@ -29,6 +30,7 @@ impl Model for Field {
       grid = field.state.grid;
       goal = field.state.goal;
       taken = field.state.queue.taken;
+      total = field.state.queue.total;
     } };
 
     ghost invariant = { λ field. IsSettled field.state };
@@ -40,6 +42,7 @@ impl Field {
         requires { Holds grid.now.size goal }
         ensures stands { IfOk result (λ field. field.grid ≡ grid.now) }
         ensures goal { IfOk result (λ field. field.goal ≡ goal) }
+        ensures sound { IfOk result IsSound }
     {
         Ok(Field {
             state: Lifelong::new(alloc, grid, goal)?,
@@ -63,6 +66,7 @@ impl Field {
     pub fn distance(&self, cell: Cell) -> Option<u32>
         ensures inside { Holds self.now.grid.size cell → IsDistance self.now.grid cell self.now.goal result }
         ensures outside { (Holds self.now.grid.size cell → ⊥) → result ≡ None }
+        ensures sound { IsSound self.now }
     {
         self.state.distance(cell)
     }

@@ -1,7 +1,7 @@
 ghost use Rattle.std.specs.Prelude.{◌≡◌, ◌+◌, ◌*◌, ◌<◌, ◌≤◌, ℕ, [], All, Contains, IfOk, IfErr, IfSome, IfNone, sum_by, slice_index, length};
 ghost use Rattle.std.specs.List.{AllZip};
 ghost use Rattle.grid_cells.specs.Size.{Holds};
-ghost use Rattle.goal_fields.specs.Target.{Covers};
+ghost use Rattle.goal_fields.specs.Target.{Covers, IsSound};
 ghost use Rattle.goal_fields.specs.Changes.{IsRepaired};
 ghost use Rattle.goal_fields.specs.Held.{HasGoal, StandFor, RiseByGoal, SameButGoal, rank_of, IsRising};
 
@@ -97,6 +97,15 @@ impl Fields {
         ensures sum { result ≡ sum_by (λ field. field.taken) self.new }
     {
         repair_each(&mut self.fields, grid, changed)
+    }
+
+    /// How many goals are held.
+    pub fn count(&self) -> usize
+        ensures is { result ≡ length self.now }
+        ensures sound { All IsSound self.now }
+        ensures one_each { RiseByGoal self.now }
+    {
+        self.fields.len()
     }
 
     /// The field of the goal, if it is held.

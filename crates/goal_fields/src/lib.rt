@@ -3,11 +3,14 @@
 
 mod field;
 mod fields;
+mod laws;
 mod lifelong;
+mod maps;
 mod places;
 mod plain;
 mod search;
 
 pub use field::Field;
 pub use fields::Fields;
+pub use laws::one_change_count;
 pub use plain::PlainField;

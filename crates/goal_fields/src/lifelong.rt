@@ -1,17 +1,19 @@
-ghost use Rattle.std.specs.Prelude.{◌≡◌, ◌+◌, ◌*◌, ◌≤◌, ◌<◌, ◌⊎◌, ℕ, List, [], ◌∷◌, ◌++◌, IfOk, Some, None};
+ghost use Rattle.std.specs.Prelude.{◌≡◌, ◌+◌, ◌*◌, ◌^◌, ◌≤◌, ◌<◌, ◌⊎◌, ℕ, List, [], ◌∷◌, ◌++◌, IfOk, Some, None};
 ghost use Rattle.std.specs.Option.{ForSome};
 ghost use Rattle.std.specs.Bool.{OnTrue, OnFalse};
 ghost use Rattle.grid_cells.specs.Cell.{Point, IsAdjacent};
 ghost use Rattle.grid_cells.specs.Size.{Holds};
-ghost use Rattle.grid_cells.specs.Grid.{IsOpen, with_cell};
-ghost use Rattle.cell_queue.specs.Queue.{IsEmpty};
-ghost use Rattle.goal_fields.specs.Marks.{far, IsWhole, distance_of};
-ghost use Rattle.goal_fields.specs.Target.{Covers};
+ghost use Rattle.grid_cells.specs.Grid.{Chart, IsOpen};
+ghost use Rattle.cell_queue.specs.Queue.{IsEmpty, one_more};
+ghost use Rattle.goal_fields.specs.Marks.{far, distance_of};
+ghost use Rattle.goal_fields.specs.Target.{Covers, HaveCounted};
 ghost use Rattle.goal_fields.specs.Repair.{IsRhs};
 ghost use Rattle.goal_fields.specs.declared.lifelong.Lifelong.{Lifelong};
-ghost use Rattle.goal_fields.specs.Lifelong.{IsRoomy, IsFresh, IsGood, IsSameBut, IsInRepair, IsSettled, IsEditing, KeepsTarget, g_of, count_over};
+ghost use Rattle.goal_fields.specs.Lifelong.{IsRoomy, IsGood, IsSameBut, IsInRepair, IsSettled, IsConsistent, IsTouched, KeepsTarget, g_of, count_over};
 
+use crate::maps::adopt;
 use crate::places::{around, place_of};
+use crate::search::Search;
 use cell_queue::CellQueue;
 use grid_cells::{Cell, Grid, OutOfMemory, Size};
 use std::alloc::Global;
@@ -26,28 +28,10 @@ pub struct Lifelong {
     pub grid: Grid,
     pub goal: Cell,
     pub g: Vec<u32>,
-    pub rhs: Vec<u32>,
     pub queue: CellQueue,
 }
 
 impl Lifelong {
-    // Room for each cell; no cell has a distance yet.
-    fn bare(alloc: Global, grid: &Grid, goal: Cell) -> Result<Lifelong, OutOfMemory>
-        requires { Holds grid.now.size goal }
-        ensures fresh { IfOk result IsFresh }
-        ensures target { IfOk result (λ s. (s.grid ≡ grid.now) × (s.goal ≡ goal)) }
-    {
-        let size = grid.size();
-        let room = size.width() as usize * size.height() as usize;
-        Ok(Lifelong {
-            grid: grid.copy()?,
-            goal,
-            g: vec![in alloc; FAR; room]?,
-            rhs: vec![in alloc; FAR; room]?,
-            queue: CellQueue::new(alloc, size)?,
-        })
-    }
-
     // One more than the g of the neighbour, none where there is none or it is closed.
     fn through(&self, next: Option<Cell>) -> u32
         requires roomy { IsRoomy self.now }
@@ -80,7 +64,7 @@ impl Lifelong {
         above.min(self.through(right)).min(self.through(down))
     }
 
-    // Gives the cell its rhs, and puts it into the queue or takes it out.
+    // Puts the cell into the queue or takes it out, as its rhs wants it.
     fn update(&mut self, cell: Option<Cell>)
         requires roomy { IsRoomy self.old }
         requires held { ForSome cell (Holds self.old.grid.size) }
@@ -93,7 +77,6 @@ impl Lifelong {
         let index = place_of(&self.grid, cell);
         let rhs = self.equation(cell);
         let g = self.g[index];
-        self.rhs[index] = rhs;
         if g == rhs {
             self.queue.remove(cell);
         } else {
@@ -125,16 +108,16 @@ impl Lifelong {
         ensures goes_on { OnTrue result ((d : List ℕ) (floor : ℕ) → IsInRepair d self.old floor →
             (next : ℕ) × IsInRepair d self.new next
             × (self.new.queue.taken ≡ self.old.queue.taken + 1)) }
+        ensures all_told { OnTrue result (self.new.queue.total ≡ one_more self.old.queue.total) }
         ensures kept { KeepsTarget self.old self.new }
         ensures ended { OnFalse result (IsEmpty self.new.queue × (self.new ≡ self.old)) }
     {
         let Some(least) = self.queue.take_least() else {
             return false
         };
-        let cell = least.0;
+        let (cell, key) = least;
         let index = place_of(&self.grid, cell);
-        let rhs = self.rhs[index];
-        let value = if self.g[index] > rhs { rhs } else { FAR };
+        let value = if self.g[index] > key { key } else { FAR };
         self.g[index] = value;
         self.spread(cell);
         true
@@ -143,58 +126,70 @@ impl Lifelong {
     // Takes cells until none is left, and tells how many.
     fn settle(&mut self) -> u64
         requires begun { IsInRepair self.old.g.items self.old 0 }
+        requires bound { self.old.queue.total < 2 ^ 64 }
         ensures settled { IsSettled self.new }
         ensures kept { KeepsTarget self.old self.new }
         ensures count { result ≡ count_over self.old.g.items self.new.g.items }
         ensures counted { result ≡ self.new.queue.taken }
+        ensures all_told { HaveCounted result self.old.queue.total self.new.queue.total }
     {
         while self.step() {}
         self.queue.taken()
     }
 
-    // Opens or closes a cell, and mends what hangs on it but for the distances.
-    fn edit(&mut self, cell: Cell, free: bool)
-        requires roomy { IsRoomy self.old }
-        requires held { Holds self.old.grid.size cell }
+    // Updates the cell and its neighbours, where the map has the cell.
+    fn touch(&mut self, cell: Cell)
+        requires { IsRoomy self.old }
+        ensures touched { (start : Lifelong) (done : List Point) → IsTouched start self.old done → IsTouched start self.new (done ++ cell ∷ []) }
         ensures roomy { IsRoomy self.new }
-        ensures grid { self.new.grid ≡ with_cell self.old.grid cell free }
-        ensures goal { self.new.goal ≡ self.old.goal }
-        ensures g { self.new.g.items ≡ self.old.g.items }
-        ensures taken { self.new.queue.taken ≡ self.old.queue.taken }
-        ensures good { (c : Point) → Holds self.old.grid.size c → IsGood self.old c → IsGood self.new c }
     {
-        self.grid.set(cell, free);
-        self.spread(cell);
-    }
-
-    // Gives the cell the state that it has in the grid of that size, where the map has the cell.
-    fn edit_from(&mut self, grid: &Grid, size: Size, cell: Cell)
-        requires roomy { IsRoomy self.old }
-        requires size { size ≡ grid.now.size }
-        requires same_size { grid.now.size ≡ self.old.grid.size }
-        requires whole { IsWhole grid.now }
-        ensures editing { (start : Lifelong) (done : List Point) → IsEditing start self.old grid.now done →
-            IsEditing start self.new grid.now (done ++ cell ∷ []) }
-        ensures roomy { IsRoomy self.new }
-        ensures size { self.new.grid.size ≡ self.old.grid.size }
-    {
-        if size.holds(cell) {
-            self.edit(cell, grid.is_open(cell));
+        if self.grid.size().holds(cell) {
+            self.spread(cell);
         }
     }
 }
 
 impl Lifelong {
-    // The distances on the grid.
+    // The distances on the grid, by breadth-first search.
     pub fn new(alloc: Global, grid: &Grid, goal: Cell) -> Result<Lifelong, OutOfMemory>
         requires { Holds grid.now.size goal }
         ensures settled { IfOk result IsSettled }
         ensures target { IfOk result (λ s. (s.grid ≡ grid.now) × (s.goal ≡ goal)) }
     {
-        let mut state = Lifelong::bare(alloc, grid, goal)?;
-        state.update(Some(goal));
-        state.settle();
-        Ok(state)
+        let mut search = Search::new(alloc, grid, goal)?;
+        search.run();
+        let Search {
+            grid,
+            goal,
+            marks,
+            ..
+        } = search;
+        let queue = CellQueue::new(alloc, grid.size())?;
+        Ok(Lifelong {
+            grid,
+            goal,
+            g: marks,
+            queue,
+        })
+    }
+
+    // Mends the distances, which are those on a map that differs at most at the changed cells, and
+    // tells how many cells were taken.
+    pub fn mend(&mut self, changed: &[Cell]) -> u64
+        requires roomy { IsRoomy self.old }
+        requires empty { IsEmpty self.old.queue }
+        requires consistent { (old : Chart) × (old.size ≡ self.old.grid.size) × Covers changed.now old self.old.grid × IsConsistent old self.old }
+        ensures settled { IsSettled self.new }
+        ensures kept { KeepsTarget self.old self.new }
+        ensures count { result ≡ count_over self.old.g.items self.new.g.items }
+        ensures counted { result ≡ self.new.queue.taken }
+        ensures all_told { HaveCounted result self.old.queue.total self.new.queue.total }
+    {
+        self.queue.reset();
+        for cell in changed {
+            self.touch(*cell);
+        }
+        self.settle()
     }
 
     // Mends the distances for a grid of the same size that differs at most at the changed cells, and
@@ -208,13 +203,10 @@ impl Lifelong {
         ensures goal { self.new.goal ≡ self.old.goal }
         ensures count { result ≡ count_over self.old.g.items self.new.g.items }
         ensures counted { result ≡ self.new.queue.taken }
+        ensures all_told { HaveCounted result self.old.queue.total self.new.queue.total }
     {
-        let size = grid.size();
-        self.queue.reset();
-        for cell in changed {
-            self.edit_from(grid, size, *cell);
-        }
-        self.settle()
+        adopt(&mut self.grid, grid, changed);
+        self.mend(changed)
     }
 
     // The distance of the cell, where the map has it.

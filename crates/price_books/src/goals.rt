@@ -1,4 +1,4 @@
-ghost use Rattle.std.specs.Prelude.{◌≡◌, [], All, IfOk};
+ghost use Rattle.std.specs.Prelude.{◌≡◌, [], All, IfOk, length};
 ghost use Rattle.grid_cells.specs.Size.{Holds};
 ghost use Rattle.grid_cells.specs.Grid.{Chart};
 ghost use Rattle.goal_fields.specs.Target.{Covers};
@@ -84,6 +84,21 @@ impl Goals {
         ensures stand { StandFor grid.now self.new.fields }
         ensures held { HoldAimed self.new.aims self.new.fields }
     {
+        if cells.is_empty() {
+            stay(&self.fields, grid, cells);
+            return;
+        }
         let _taken = self.fields.repair(grid, cells);
     }
+}
+
+// Where no cell differs the fields stand for the grid as they are, and none is looked at.
+fn stay(fields: &Fields, grid: &Grid, cells: &[Cell])
+    requires none { length cells.now ≡ 0 }
+    requires same_size { All (λ field. grid.now.size ≡ field.grid.size) fields.now }
+    requires covered { All (λ field. Covers cells.now field.grid grid.now) fields.now }
+    ensures { StandFor grid.now fields.now }
+{
+    let _size = grid.size();
+    let _count = fields.count();
 }

@@ -22,7 +22,7 @@ invariant_of-result c =
     let gap : IsGap c.self.inside.ranks.items (goal_rank c.in_ok-field.field) c.in-Err.at =
     IsGap-from c.self.inside.ranks.items c.deref.result.now c.rank-rank.result (goal_rank c.in_ok-field.field) c.in-Err.at c.deref.ensures.value is_rank c.in-Err.ensures.room c.in-Err.ensures.below c.in-Err.ensures.above in
     rw (c.in_ok-insert.ensures.items, c.in_ok-insert-2.ensures.items, is_rank)
-    (IsKept-insert c.self.inside.ranks.items c.self.inside.fields.items c.in_ok-field.field c.in-Err.at c.self.invariant gap (rw c.in_ok-field.ensures.goal c.rank-rank.ensures.column) (rw c.in_ok-field.ensures.goal c.rank-rank.ensures.row))
+    (IsKept-insert c.self.inside.ranks.items c.self.inside.fields.items c.in_ok-field.field c.in-Err.at c.self.invariant gap c.in_ok-field.ensures.sound (rw c.in_ok-field.ensures.goal c.rank-rank.ensures.column) (rw c.in_ok-field.ensures.goal c.rank-rank.ensures.row))
 
 pub returns-clause-stands : goal.returns-clause-stands
 returns-clause-stands c =
@@ -48,7 +48,7 @@ returns-clause-one_each c =
     let gap : IsGap c.self.inside.ranks.items (goal_rank c.in_ok-field.field) c.in-Err.at =
     IsGap-from c.self.inside.ranks.items c.deref.result.now c.rank-rank.result (goal_rank c.in_ok-field.field) c.in-Err.at c.deref.ensures.value is_rank c.in-Err.ensures.room c.in-Err.ensures.below c.in-Err.ensures.above in
     rw c.in_ok-insert-2.ensures.items
-    (RiseByGoal-kept _ _ (IsKept-insert c.self.inside.ranks.items c.self.inside.fields.items c.in_ok-field.field c.in-Err.at c.self.invariant gap (rw c.in_ok-field.ensures.goal c.rank-rank.ensures.column) (rw c.in_ok-field.ensures.goal c.rank-rank.ensures.row)))
+    (RiseByGoal-kept _ _ (IsKept-insert c.self.inside.ranks.items c.self.inside.fields.items c.in_ok-field.field c.in-Err.at c.self.invariant gap c.in_ok-field.ensures.sound (rw c.in_ok-field.ensures.goal c.rank-rank.ensures.column) (rw c.in_ok-field.ensures.goal c.rank-rank.ensures.row)))
 
 pub returns-clause-again : goal.returns-clause-again
 returns-clause-again c held =

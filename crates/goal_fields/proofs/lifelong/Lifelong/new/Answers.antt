@@ -1,12 +1,9 @@
-use Rattle.std.specs.Prelude.{Some}
-use Rattle.std.proofs.Common.{ap, sym, ◌∙◌}
-use Rattle.grid_cells.specs.Cell.{Point}
-use Rattle.goal_fields.proofs.LastLemmas.{IsInRepair-fresh}
+use Rattle.std.proofs.Common.{refl, ◌∙◌}
+use Rattle.goal_fields.proofs.LastLemmas.{IsSettled-found}
 use Rattle.goal_fields.proofs.lifelong.Lifelong.new.Goals as goal
 
-pub settle-requires : goal.settle-requires
-settle-requires c = record {
-  begun = IsInRepair-fresh c.in_ok-state.state c.update.new.self c.in_ok-state.ensures.fresh c.update.ensures.roomy c.update.ensures.same
-      (λ v h e. c.update.ensures.here v (ap (λ (w : Point). Some w) (sym (e ∙ c.in_ok-state.ensures.target.1))))
-      c.update.ensures.keeps;
-}
+pub returns-clause-settled : goal.returns-clause-settled
+returns-clause-settled c = IsSettled-found c.run.new.self _ c.run.ensures.found refl refl refl (rw c.size.ensures.is at c.in_ok-queue.ensures)
+
+pub returns-clause-target : goal.returns-clause-target
+returns-clause-target c = (c.run.ensures.same_map.grid ∙ c.in_ok-search.ensures.target.0, c.run.ensures.same_map.goal ∙ c.in_ok-search.ensures.target.1)

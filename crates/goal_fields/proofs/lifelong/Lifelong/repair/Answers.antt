@@ -1,19 +1,21 @@
-use Rattle.std.proofs.Common.{take, ◌≡◌, ◌∙◌}
-use Rattle.std.proofs.lemmas.List.{take_more, take_all}
-use Rattle.goal_fields.specs.Lifelong.{IsEditing}
-use Rattle.goal_fields.proofs.LastLemmas.{IsInRepair-edited, flags_made}
+use Rattle.std.proofs.Common.{◌≡◌, ap, sym, ◌∙◌}
+use Rattle.grid_cells.specs.Grid.{Chart}
+use Rattle.cell_queue.specs.Queue.{area}
 use Rattle.goal_fields.proofs.lifelong.Lifelong.repair.Goals as goal
 
-pub loop-cell-preserved : goal.loop-cell-preserved
-loop-cell-preserved c =
-    rw (take_more c.args.changed.now c.loop-cell.cell-index c.cell-item.result c.loop-cell-test.true, ← c.cell-item.is)
-    (c.edit_from.ensures.editing c.args.self.now (take c.loop-cell.cell-index c.args.changed.now) c.loop-cell.invariant)
-
-pub settle-requires : goal.settle-requires
-settle-requires c = record { begun = IsInRepair-edited c.args.self.now c.loop-cell.self c.args.grid.now _ c.requires.settled c.loop-cell.invariant }
-
-pub returns-clause-grid : goal.returns-clause-grid
-returns-clause-grid c =
-    let whole : take c.loop-cell.cell-index c.args.changed.now ≡ c.args.changed.now = take_all c.loop-cell.cell-index c.args.changed.now c.loop-cell-test.false in
-    let editing : IsEditing c.args.self.now c.loop-cell.self c.args.grid.now c.args.changed.now = rw whole at c.loop-cell.invariant in
-    c.settle.ensures.kept.grid ∙ flags_made c.args.self.now c.loop-cell.self c.args.grid.now c.args.changed.now editing c.requires.covered c.requires.same_size c.size-size.ensures.whole
+pub mend-requires : goal.mend-requires
+mend-requires c =
+    let size : c.adopt.new.map.size ≡ c.args.self.now.grid.size = ap (λ (t : Chart). t.size) c.adopt.ensures.is ∙ c.requires.same_size in
+    let roomy = c.requires.settled.roomy in
+    record {
+      roomy = record {
+        sized = rw size roomy.sized;
+        goal_held = rw size roomy.goal_held;
+        whole = c.adopt.ensures.whole;
+        one_g_each = roomy.one_g_each ∙ ap area (sym size);
+        queue = roomy.queue ∙ sym size;
+        one_key_each = roomy.one_key_each ∙ ap area (sym size);
+      };
+      empty = c.requires.settled.empty;
+      consistent = (c.args.self.now.grid, sym size, rw c.adopt.ensures.is c.requires.covered, c.requires.settled.consistent);
+    }

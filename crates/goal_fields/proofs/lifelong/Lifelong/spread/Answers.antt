@@ -21,3 +21,11 @@ returns-clause-near c v held near =
         | inr (inr (inr e)) ↦ c.update-5.ensures.here v (rw c.around.ensures e)
       ]
     ]
+
+pub returns-clause-keeps : goal.returns-clause-keeps
+returns-clause-keeps c v held good =
+    let h1 : Holds c.update.new.self.grid.size v = rw c.update.ensures.same.grid held in
+    let h2 : Holds c.update-2.new.self.grid.size v = rw c.update-2.ensures.same.grid h1 in
+    let h3 : Holds c.update-3.new.self.grid.size v = rw c.update-3.ensures.same.grid h2 in
+    let h4 : Holds c.update-4.new.self.grid.size v = rw c.update-4.ensures.same.grid h3 in
+    c.update-5.ensures.keeps v h4 (c.update-4.ensures.keeps v h3 (c.update-3.ensures.keeps v h2 (c.update-2.ensures.keeps v h1 (c.update.ensures.keeps v held good))))

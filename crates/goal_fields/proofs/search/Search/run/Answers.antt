@@ -13,4 +13,5 @@ returns-clause-found c =
         one_slot_each = c.loop-self.invariant.searching.one_slot_each;
       };
       right = IsDistance-marked c.loop-self.self.grid c.loop-self.self.goal c.loop-self.self.marks.items c.loop-self.self.queue.items c.loop-self.self.head c.loop-self.self.tail c.loop-self.invariant.searching c.loop-self-test.false;
+      bounded = c.loop-self.invariant.searching.bounded;
     }

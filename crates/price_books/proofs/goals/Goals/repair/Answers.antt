@@ -9,3 +9,6 @@ returns-clause-stand c = stand_repaired c.args.grid.now c.self.inside.fields c.r
 
 pub returns-clause-held : goal.returns-clause-held
 returns-clause-held c = held_repaired c.args.grid.now c.self.inside.fields c.repair-taken.new.self c.repair-taken.ensures.each c.self.inside.aims c.self.invariant
+
+pub returns-then-is_empty-clause-held : goal.returns-then-is_empty-clause-held
+returns-then-is_empty-clause-held c = rw (← c.self.view_is) c.self.invariant
