@@ -41,15 +41,15 @@ fn stand_there(
 
 // What the index tells of the two agents.
 fn check_two(rt: &impl Abort, trial: &mut Trial, index: &WhereIndex) {
-    let both = [agent(rt, 0), agent(rt, 1)];
-    assert!(rt; stand_there(rt, trial, index, 1, at(rt, 1, 0), &both));
-    assert!(rt; stand_there(rt, trial, index, 9, at(rt, 2, 0), &both[1..]));
+    let (first, second) = (agent(rt, 0), agent(rt, 1));
+    assert!(rt; stand_there(rt, trial, index, 1, at(rt, 1, 0), &[first, second]));
+    assert!(rt; stand_there(rt, trial, index, 9, at(rt, 2, 0), &[second]));
     let moves = [Move {
-        agent: both[1],
+        agent: second,
         to: at(rt, 1, 0),
     }];
     assert!(rt; index.movers(Step::new(0), at(rt, 0, 0)) == moves.as_slice());
-    assert!(rt; index.horizon() == 2 && index.leaves(both[1]) == Some(false));
+    assert!(rt; index.horizon() == 2 && index.leaves(second) == Some(false));
 }
 
 // What it tells of agent 0 alone.

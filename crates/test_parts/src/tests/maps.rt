@@ -20,94 +20,94 @@ fn map_letters_and_what_is_written(rt: HostRuntime) {
 }
 
 // Texts of maps that are refused, why, and what is said of that.
-const FAULTY: [(&str, MapFault, &str); 20] = [
-    ("", MapFault::NotOctile, "not octile"),
-    ("type tile\n", MapFault::NotOctile, "not octile"),
-    ("\ntype octile\n", MapFault::NotOctile, "not octile"),
+const FAULTY: [(&[u8], MapFault, &[u8]); 20] = [
+    (b"", MapFault::NotOctile, b"not octile"),
+    (b"type tile\n", MapFault::NotOctile, b"not octile"),
+    (b"\ntype octile\n", MapFault::NotOctile, b"not octile"),
     (
-        "type octile\nwidth 3\n",
+        b"type octile\nwidth 3\n",
         MapFault::BadHeader { line: 2 },
-        "bad header in line 2",
+        b"bad header in line 2",
     ),
     (
-        "type octile\nheight 4294967296\n",
+        b"type octile\nheight 4294967296\n",
         MapFault::BadHeader { line: 2 },
-        "bad header in line 2",
+        b"bad header in line 2",
     ),
     (
-        "type octile\nheight +1\n",
+        b"type octile\nheight +1\n",
         MapFault::BadHeader { line: 2 },
-        "bad header in line 2",
+        b"bad header in line 2",
     ),
     (
-        "type octile\nheight 1\nwidth 3 3\n",
+        b"type octile\nheight 1\nwidth 3 3\n",
         MapFault::BadHeader { line: 3 },
-        "bad header in line 3",
+        b"bad header in line 3",
     ),
     (
-        "type octile\nheight 0\nwidth 3\n",
+        b"type octile\nheight 0\nwidth 3\n",
         MapFault::BadHeader { line: 4 },
-        "bad header in line 4",
+        b"bad header in line 4",
     ),
     (
-        "type octile\nheight 0\nwidth 3\nmap\n",
+        b"type octile\nheight 0\nwidth 3\nmap\n",
         MapFault::BadSize,
-        "bad size",
+        b"bad size",
     ),
     (
-        "type octile\nheight 4294967295\nwidth 3\nmap\n",
+        b"type octile\nheight 4294967295\nwidth 3\nmap\n",
         MapFault::BadSize,
-        "bad size",
+        b"bad size",
     ),
     (
-        "type octile\nheight 2048\nwidth 513\nmap\n",
+        b"type octile\nheight 2048\nwidth 513\nmap\n",
         MapFault::BadSize,
-        "bad size",
+        b"bad size",
     ),
     (
-        "type octile\nheight 1\nwidth 2\nmap\n.x\n",
+        b"type octile\nheight 1\nwidth 2\nmap\n.x\n",
         MapFault::BadLetter { row: 0, col: 1 },
-        "bad letter in row 0, column 1",
+        b"bad letter in row 0, column 1",
     ),
     (
-        "type octile\nheight 1\nwidth 2\nmap\n...\n",
+        b"type octile\nheight 1\nwidth 2\nmap\n...\n",
         MapFault::LongRow { row: 0 },
-        "long row 0",
+        b"long row 0",
     ),
     (
-        "type octile\nheight 1\nwidth 2\nmap\n .\n",
+        b"type octile\nheight 1\nwidth 2\nmap\n .\n",
         MapFault::BadLetter { row: 0, col: 0 },
-        "bad letter in row 0, column 0",
+        b"bad letter in row 0, column 0",
     ),
     (
-        "type octile\nheight 2\nwidth 3\nmap\n...\n..",
+        b"type octile\nheight 2\nwidth 3\nmap\n...\n..",
         MapFault::ShortRow { row: 1 },
-        "short row 1",
+        b"short row 1",
     ),
     (
-        "type octile\nheight 2\nwidth 3\nmap\n...\n",
+        b"type octile\nheight 2\nwidth 3\nmap\n...\n",
         MapFault::MissingRow { row: 1 },
-        "missing row 1",
+        b"missing row 1",
     ),
     (
-        "type octile\nheight 2\nwidth 3\nmap\n\n...\n",
+        b"type octile\nheight 2\nwidth 3\nmap\n\n...\n",
         MapFault::ShortRow { row: 0 },
-        "short row 0",
+        b"short row 0",
     ),
     (
-        "type octile\nheight 1\nwidth 3\nmap\n...\nx\n",
+        b"type octile\nheight 1\nwidth 3\nmap\n...\nx\n",
         MapFault::ExtraLine { line: 6 },
-        "extra line 6",
+        b"extra line 6",
     ),
     (
-        "type octile\nheight 1\nwidth 3\nmap\n...\n \t\r\n...",
+        b"type octile\nheight 1\nwidth 3\nmap\n...\n \t\r\n...",
         MapFault::ExtraLine { line: 7 },
-        "extra line 7",
+        b"extra line 7",
     ),
     (
-        "type octile\n",
+        b"type octile\n",
         MapFault::BadHeader { line: 2 },
-        "bad header in line 2",
+        b"bad header in line 2",
     ),
 ];
 
@@ -115,11 +115,11 @@ const FAULTY: [(&str, MapFault, &str); 20] = [
 fn header_edges_and_map_faults(rt: HostRuntime) {
     for (text, fault, said) in FAULTY {
         assert!(rt;
-            read_map(rt.alloc(), text.as_bytes()).err() == Some(fault),
-            "{text}"
+            read_map(rt.alloc(), text).err() == Some(fault),
+            "{fault:?}"
         );
         let shown = format!(in rt.alloc(); "{fault}").expect(&rt, "memory");
-        assert!(rt; shown.as_str() == said, "{said}");
+        assert!(rt; shown.as_bytes() == said, "{fault:?}");
     }
 }
 

@@ -21,7 +21,7 @@ fn faults_of_plans(rt: HostRuntime) {
     for (many, lawful) in [(131_072, true), (131_073, false)] {
         match Plan::new(vec![in alloc; corner; many].expect(&rt, "memory")) {
             Ok(plan) => assert!(rt; lawful && plan.last() == 0),
-            Err((fault, _)) => assert!(rt; !lawful && fault == PlanFault::TooLong),
+            Err((fault, _cells)) => assert!(rt; !lawful && fault == PlanFault::TooLong),
         }
     }
 }

@@ -2,7 +2,7 @@
 //! all agents, times and pairs.
 use super::changes::{Fleet, Kept, change, flip};
 use conflict_ledger::{Conflict, Kind, conflicts, last, position};
-use cost_ledger::{blocked_visits, is_finished, makespan, settle_time, sum_of_costs};
+use cost_ledger::{CostLedger, blocked_visits, is_finished, makespan, settle_time, sum_of_costs};
 use grid_cells::{Agent, Cell, Step};
 use plan_table::{Mode, Row};
 use std::alloc::Global;
@@ -80,17 +80,22 @@ fn compare_index(rt: &impl Abort, alloc: Global, index: &WhereIndex, fleet: &Fle
     assert!(rt; index.count() == fleet.plans.count() as usize);
 }
 
-// Compares what is told of an agent with that row.
-fn compare_agent(rt: &impl Abort, kept: &Kept, mode: Mode, agent: Agent, row: &Row) {
-    let end = row.plan.last();
+// Compares where the agent of that row ends.
+fn compare_end(rt: &impl Abort, index: &WhereIndex, mode: Mode, agent: Agent, row: &Row) {
+    let last = row.plan.last();
     let leaves = row.track(mode).leaves;
-    assert!(rt; kept.costs.settle(agent) == Some(settle_time(&row.plan)));
-    assert!(rt; kept.costs.finished(agent) == is_finished(row));
-    assert!(rt; kept.index.end(agent) == Some((end, row.plan.at(Step::new(end)))));
-    assert!(rt; kept.index.leaves(agent) == Some(leaves));
-    assert!(rt; kept.index.has_position(agent, Step::new(end)));
-    let after = Step::new(end.saturating_add(1));
-    assert!(rt; kept.index.has_position(agent, after) != leaves);
+    assert!(rt; index.end(agent) == Some((last, row.plan.at(Step::new(last)))));
+    assert!(rt; index.leaves(agent) == Some(leaves));
+    for time in 0..last.saturating_add(3) {
+        let given = time <= last || !leaves;
+        assert!(rt; index.has_position(agent, Step::new(time)) == given);
+    }
+}
+
+// Compares what the agent of that row costs.
+fn compare_cost(rt: &impl Abort, costs: &CostLedger, agent: Agent, row: &Row) {
+    assert!(rt; costs.settle(agent) == Some(settle_time(&row.plan)));
+    assert!(rt; costs.finished(agent) == is_finished(row));
 }
 
 // Compares what is told of each of the six agents. Answers how many aren't finished.
@@ -100,7 +105,8 @@ fn compare_agents(rt: &impl Abort, kept: &Kept, fleet: &Fleet) -> u32 {
         let agent = Agent::new(number).expect(rt, "an agent");
         match fleet.plans.row(agent) {
             Some(row) => {
-                compare_agent(rt, kept, fleet.mode, agent, row);
+                compare_end(rt, &kept.index, fleet.mode, agent, row);
+                compare_cost(rt, &kept.costs, agent, row);
                 unfinished = unfinished.saturating_add(u32::from(!is_finished(row)));
             }
             None => {

@@ -24,64 +24,64 @@ fn counts_of_tasks(rt: HostRuntime) {
 }
 
 // Texts of scenarios for a map of 3 x 2 cells that are refused, why, and what is said of that.
-const FAULTY: [(&str, ScenFault, &str); 14] = [
-    ("", ScenFault::BadVersion, "bad version"),
-    ("version 2\n", ScenFault::BadVersion, "bad version"),
-    ("version 1.00\n", ScenFault::BadVersion, "bad version"),
+const FAULTY: [(&[u8], ScenFault, &[u8]); 14] = [
+    (b"", ScenFault::BadVersion, b"bad version"),
+    (b"version 2\n", ScenFault::BadVersion, b"bad version"),
+    (b"version 1.00\n", ScenFault::BadVersion, b"bad version"),
     (
-        "version 1\n0 m 3 2 3 0 2 1 1\n",
+        b"version 1\n0 m 3 2 3 0 2 1 1\n",
         ScenFault::OutOfMap { line: 2, field: 5 },
-        "out of map in line 2, field 5",
+        b"out of map in line 2, field 5",
     ),
     (
-        "version 1\n0 m 3 2 0 -1 2 1 1\n",
+        b"version 1\n0 m 3 2 0 -1 2 1 1\n",
         ScenFault::BadNumber { line: 2, field: 6 },
-        "bad number in line 2, field 6",
+        b"bad number in line 2, field 6",
     ),
     (
-        "version 1\n0 m 3 2 0 0 2 1\n",
+        b"version 1\n0 m 3 2 0 0 2 1\n",
         ScenFault::FieldCount { line: 2 },
-        "field count in line 2",
+        b"field count in line 2",
     ),
     (
-        "version 1\n0 m 3 2 0 0 2 1 1 1\n",
+        b"version 1\n0 m 3 2 0 0 2 1 1 1\n",
         ScenFault::FieldCount { line: 2 },
-        "field count in line 2",
+        b"field count in line 2",
     ),
     (
-        "version 1\n0 m 4 2 0 0 2 1 1\n",
+        b"version 1\n0 m 4 2 0 0 2 1 1\n",
         ScenFault::SizeMismatch { line: 2 },
-        "size mismatch in line 2",
+        b"size mismatch in line 2",
     ),
     (
-        "version 1\n0 m 3 3 9 0 2 1 1\n",
+        b"version 1\n0 m 3 3 9 0 2 1 1\n",
         ScenFault::SizeMismatch { line: 2 },
-        "size mismatch in line 2",
+        b"size mismatch in line 2",
     ),
     (
-        "version 1\n4294967296 m 4 2 0 x 2 1 1\n",
+        b"version 1\n4294967296 m 4 2 0 x 2 1 1\n",
         ScenFault::BadNumber { line: 2, field: 1 },
-        "bad number in line 2, field 1",
+        b"bad number in line 2, field 1",
     ),
     (
-        "version 1\n0 m 3 2 0 2 3 1 1\n",
+        b"version 1\n0 m 3 2 0 2 3 1 1\n",
         ScenFault::OutOfMap { line: 2, field: 6 },
-        "out of map in line 2, field 6",
+        b"out of map in line 2, field 6",
     ),
     (
-        "version 1\n0 m 3 2 0 0 3 2 1\n",
+        b"version 1\n0 m 3 2 0 0 3 2 1\n",
         ScenFault::OutOfMap { line: 2, field: 7 },
-        "out of map in line 2, field 7",
+        b"out of map in line 2, field 7",
     ),
     (
-        "version 1\n0 m 3 2 0 0 2 2 1\n",
+        b"version 1\n0 m 3 2 0 0 2 2 1\n",
         ScenFault::OutOfMap { line: 2, field: 8 },
-        "out of map in line 2, field 8",
+        b"out of map in line 2, field 8",
     ),
     (
-        "version 1\n0 m 3 2 0 0 2 1 1\n\n0 m 3 2 0 0 2 1",
+        b"version 1\n0 m 3 2 0 0 2 1 1\n\n0 m 3 2 0 0 2 1",
         ScenFault::FieldCount { line: 4 },
-        "field count in line 4",
+        b"field count in line 4",
     ),
 ];
 
@@ -89,10 +89,10 @@ const FAULTY: [(&str, ScenFault, &str); 14] = [
 fn faults_of_scenarios(rt: HostRuntime) {
     let size = Size::new(3, 2).expect(&rt, "a size");
     for (text, fault, said) in FAULTY {
-        let found = read_scen(rt.alloc(), text.as_bytes(), size).err();
-        assert!(rt; found == Some(fault), "{text}");
+        let found = read_scen(rt.alloc(), text, size).err();
+        assert!(rt; found == Some(fault), "{fault:?}");
         let shown = format!(in rt.alloc(); "{fault}").expect(&rt, "memory");
-        assert!(rt; shown.as_str() == said, "{said}");
+        assert!(rt; shown.as_bytes() == said, "{fault:?}");
     }
 }
 
