@@ -29,6 +29,3 @@ fn take_size(alloc: Global, blocks: &mut Vec<Vec<u8>>, size: usize) {
         }
     }
 }
-
-#[cfg(test)]
-mod tests;

@@ -1,0 +1,6 @@
+//! Tests of desks, shared desks, sessions and audits by calls: worked examples, ample memory and too
+//! little, several planners, threads, and random commits beside plain programs.
+#![tactic(auto)]
+
+#[cfg(test)]
+mod tests;

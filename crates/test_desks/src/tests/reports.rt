@@ -1,0 +1,117 @@
+//! The report of a ring with a second mover, and how often a desk builds its indexes for it.
+use super::build::{commit, drought, leave, planner};
+use desk_core::{Desk, EditFault, Limit, Refusal};
+use desk_report::{Spout, write_report};
+use std::alloc::Global;
+use std::process::Abort;
+use test_support::scene;
+use want_of_memory::Drought;
+
+// Agents 0 to 3 go round in step 0, and agent 4 goes along with agent 0. Each has the end of its
+// path as its goal.
+const RING_WITH_SECOND_MOVER: &[&str] = &[
+    "agent 0 0,0 1,0",
+    "agent 1 1,0 1,1",
+    "agent 2 1,1 0,1",
+    "agent 3 0,1 0,0",
+    "agent 4 0,0 1,0",
+    "path 0 0,0 1,0",
+    "path 1 1,0 1,1",
+    "path 2 1,1 0,1",
+    "path 3 0,1 0,0",
+    "path 4 0,0 1,0",
+];
+
+const TEXT: &str =
+    "agents 5\nagent 0 settle 1 goal yes bound 1 gap 0\nagent 1 settle 1 goal yes bound 1 gap 0\nagent 2 settle 1 goal yes bound 1 gap 0\nagent 3 settle 1 goal yes bound 1 gap 0\nagent 4 settle 1 goal yes bound 1 gap 0\nconflicts 9\nvertex 0 0 4 0,0\nparked 1 0 4 1,0\nedge 0 0 4 0,0 1,0\nfollow 0 0 1 1,0\nfollow 0 1 2 1,1\nfollow 0 2 3 0,1\nfollow 0 3 0 0,0\nfollow 0 3 4 0,0\nfollow 0 4 1 1,0\nblocked 0\nsum 5\nmakespan 1\nbounds 5\ngap 0\nend\n";
+
+// The same after agent 4 has left.
+const AFTER: &str =
+    "agents 4\nagent 0 settle 1 goal yes bound 1 gap 0\nagent 1 settle 1 goal yes bound 1 gap 0\nagent 2 settle 1 goal yes bound 1 gap 0\nagent 3 settle 1 goal yes bound 1 gap 0\nconflicts 5\nfollow 0 0 1 1,0\nfollow 0 1 2 1,1\nfollow 0 2 3 0,1\nfollow 0 3 0 0,0\ncycle 0 0 1 2 3\nblocked 0\nsum 4\nmakespan 1\nbounds 4\ngap 0\nend\n";
+
+// The desk's report has that text.
+fn reads(rt: &impl Abort, alloc: Global, desk: &mut Desk, text: &str) {
+    let reading = desk.reading().expect(rt, "memory");
+    let mut sink = Spout::new(Vec::new(alloc));
+    assert!(rt; write_report(&reading.report, &mut sink).is_ok());
+    let told: Vec<u8> = sink.into_inner();
+    assert!(rt; told.as_slice() == text.as_bytes(), "{told:?}");
+}
+
+// A desk of the ring on a map of 2 x 2 open cells, which was read once.
+fn read_desk(rt: &impl Abort, alloc: Global) -> Desk {
+    let scene = scene(alloc, 2, 2, RING_WITH_SECOND_MOVER).expect(rt, "a scene");
+    let mut desk = Desk::open(alloc, scene, Limit::new(10).expect(rt, "a limit"));
+    assert!(rt; desk.rebuilds() == 0);
+    reads(rt, alloc, &mut desk, TEXT);
+    desk
+}
+
+// How often the indexes were built after a reading, a commit that drops agent 4 with so many bytes,
+// and a reading. None where the commit is accepted; then they were built once.
+fn built(rt: &impl Abort, alloc: Global, drought: &mut Drought, bytes: usize) -> Option<u64> {
+    let mut desk = read_desk(rt, alloc);
+    let commit = commit(rt, alloc, planner(rt, 0), 0, &["drop 4"]);
+    leave(rt, drought, Some(bytes));
+    let answer = desk.commit(commit);
+    drought.relieve();
+    let mut builds = None;
+    if let Err((why, back)) = answer {
+        assert!(rt; why == Refusal::OutOfMemory);
+        reads(rt, alloc, &mut desk, TEXT);
+        builds = Some(desk.rebuilds());
+        assert!(rt; desk.commit(back).is_ok());
+    } else {
+        assert!(rt; desk.rebuilds() == 1);
+    }
+    reads(rt, alloc, &mut desk, AFTER);
+    builds
+}
+
+#[test]
+fn refused_growth_keeps_the_report_and_ring_again_after_a_drop(rt: HostRuntime) {
+    let alloc = rt.alloc();
+    let mut drought = drought(&rt, alloc);
+    let (mut once, mut twice) = (false, false);
+    for step in 0..1_000 {
+        match built(&rt, alloc, &mut drought, 16 * step) {
+            Some(1) => once = true,
+            Some(2) => twice = true,
+            Some(builds) => panic!(rt; "built {builds} times"),
+            None => {
+                assert!(rt; once && twice);
+                return;
+            }
+        }
+    }
+    panic!(rt; "refused with 16,000 bytes");
+}
+
+#[test]
+fn faulty_commit_keeps_indexes(rt: HostRuntime) {
+    let alloc = rt.alloc();
+    let mut desk = read_desk(&rt, alloc);
+    let lines = &["goal 4 1,0", "path 0 0,0 2,0"];
+    let faulty = commit(&rt, alloc, planner(&rt, 0), 0, lines);
+    let why = EditFault::OutOfMap;
+    let wanted = Refusal::Faulty { index: 1, why };
+    match desk.commit(faulty) {
+        Ok(_) => panic!(rt; "a fault"),
+        Err((why, _back)) => assert!(rt; why == wanted),
+    }
+    reads(&rt, alloc, &mut desk, TEXT);
+    assert!(rt; desk.rebuilds() == 1);
+}
+
+// Three times an accepted commit and a reading.
+#[test]
+fn indexes_built_once(rt: HostRuntime) {
+    let alloc = rt.alloc();
+    let mut desk = read_desk(&rt, alloc);
+    for base in 0..3 {
+        let goal = commit(&rt, alloc, planner(&rt, 0), base, &["goal 4 1,0"]);
+        assert!(rt; desk.commit(goal).is_ok());
+        reads(&rt, alloc, &mut desk, TEXT);
+    }
+    assert!(rt; desk.rebuilds() == 1);
+}

@@ -1,0 +1,148 @@
+//! Worked examples of calls of a desk. Each is made call by call and in one list, with ample memory,
+//! and with too little for one call or for all.
+use super::calls::{About, Ask, Told};
+use super::drives::drives;
+use super::runs::each_call_refused;
+use desk_core::EditFault;
+use std::alloc::Global;
+use std::process::Abort;
+
+/// A call, its answer, and whether it takes memory.
+pub type Line = (Ask, Told, bool);
+
+/// The lines that make the scene on an open map of 3 x 1 cells, the desk's limit, and the calls.
+pub struct Row {
+    pub scene: &'static [&'static str],
+    pub limit: u32,
+    pub calls: &'static [Line],
+}
+
+const STALE_SECOND_PLANNER: Row = Row {
+    scene: &["agent 3 0,0 2,0"],
+    limit: 10,
+    calls: &[
+        (Ask::Commit(1, 0, &["path 3 0,0 1,0"]), Told::Done(1), true),
+        (
+            Ask::Commit(2, 0, &["goal 3 1,0"]),
+            Told::Stale(1, About::Agent(3), 1),
+            false,
+        ),
+        (Ask::Snapshot, Told::Copied(1, true, 1, (2, 0), 1), true),
+    ],
+};
+
+// Agents 0 and 1 rest at (0,0), which is one conflict. Each is 2 steps from its goal, and 1 step
+// once a commit has changed it.
+const WATCH_MAKES_STALE: Row = Row {
+    scene: &["agent 0 0,0 2,0", "agent 1 0,0 2,0"],
+    limit: 10,
+    calls: &[
+        (Ask::Commit(1, 0, &["goal 0 1,0"]), Told::Done(1), true),
+        (
+            Ask::Commit(2, 0, &["watch agent 0", "goal 1 1,0"]),
+            Told::Stale(1, About::Agent(0), 1),
+            false,
+        ),
+        (Ask::Commit(2, 0, &["goal 1 1,0"]), Told::Done(2), true),
+        (Ask::Read, Told::Shown(2, Some(2), 1), true),
+        (Ask::Snapshot, Told::Copied(2, true, 2, (1, 0), 0), true),
+    ],
+};
+
+const ALL_OR_NONE_AND_REFUSAL_ORDER: Row = Row {
+    scene: &["agent 0 0,0 2,0"],
+    limit: 2,
+    calls: &[
+        (Ask::Read, Told::Shown(0, Some(2), 0), true),
+        (
+            Ask::Commit(0, 0, &["close 1,0", "goal 0 1,0", "path 0 0,0 2,0"]),
+            Told::Faulty(2, EditFault::NotAStep { at: 1 }),
+            true,
+        ),
+        (Ask::Read, Told::Shown(0, Some(2), 0), true),
+        (Ask::Commit(0, 1, &["goal 0 1,0"]), Told::Ahead(0), false),
+        (Ask::Commit(0, 0, &[]), Told::NoEdits, false),
+        (Ask::Commit(0, 0, &["goal 0 1,0"]), Told::Done(1), true),
+        (Ask::Commit(0, 1, &["goal 0 0,0"]), Told::Done(2), true),
+        (Ask::Commit(0, 9, &["goal 0 1,0"]), Told::Full(2), false),
+    ],
+};
+
+const ALL_OR_NONE_WITHOUT_A_CELL_EDIT: Row = Row {
+    scene: &["agent 0 0,0 2,0"],
+    limit: 2,
+    calls: &[
+        (
+            Ask::Commit(0, 0, &["goal 0 1,0", "path 0 0,0 2,0"]),
+            Told::Faulty(1, EditFault::NotAStep { at: 1 }),
+            true,
+        ),
+        (Ask::Snapshot, Told::Copied(0, true, 1, (2, 0), 0), true),
+        (Ask::Commit(0, 1, &["goal 0 1,0"]), Told::Ahead(0), false),
+        (Ask::Commit(0, 0, &[]), Told::NoEdits, false),
+        (Ask::Commit(0, 0, &["goal 0 1,0"]), Told::Done(1), true),
+        (Ask::Commit(0, 1, &["goal 0 0,0"]), Told::Done(2), true),
+        (Ask::Commit(0, 9, &["goal 0 1,0"]), Told::Full(2), false),
+    ],
+};
+
+const EDITS_IN_A_ROW: Row = Row {
+    scene: &["agent 3 0,0 2,0"],
+    limit: 10,
+    calls: &[(Ask::Snapshot, Told::Copied(0, true, 1, (2, 0), 0), true)],
+};
+
+const DRIVE_WITH_WATCH_OF_THE_MAP: Row = Row {
+    scene: &["agent 0 0,0 2,0"],
+    limit: 2,
+    calls: &[
+        (Ask::Distance(0, (0, 0)), Told::Far(Some(2)), true),
+        (Ask::Commit(4, 0, &["close 1,0"]), Told::Done(1), true),
+        (Ask::Distance(0, (0, 0)), Told::Far(None), false),
+        (Ask::Distance(9, (0, 0)), Told::UnknownAgent, false),
+        (Ask::Distance(0, (0, 1)), Told::OutOfMap, false),
+        (Ask::Snapshot, Told::Copied(1, false, 1, (2, 0), 0), true),
+        (
+            Ask::Commit(5, 0, &["watch map", "goal 0 1,0"]),
+            Told::Stale(1, About::Map, 1),
+            false,
+        ),
+    ],
+};
+
+// The example holds call by call and in one list.
+fn holds(rt: &impl Abort, alloc: Global, row: &Row) {
+    each_call_refused(rt, alloc, row);
+    drives(rt, alloc, row);
+}
+
+#[test]
+fn stale_second_planner(rt: HostRuntime) {
+    holds(&rt, rt.alloc(), &STALE_SECOND_PLANNER);
+}
+
+#[test]
+fn watch_makes_stale(rt: HostRuntime) {
+    holds(&rt, rt.alloc(), &WATCH_MAKES_STALE);
+}
+
+#[test]
+fn all_or_none_and_refusal_order(rt: HostRuntime) {
+    holds(&rt, rt.alloc(), &ALL_OR_NONE_AND_REFUSAL_ORDER);
+}
+
+#[test]
+fn all_or_none_without_a_cell_edit(rt: HostRuntime) {
+    holds(&rt, rt.alloc(), &ALL_OR_NONE_WITHOUT_A_CELL_EDIT);
+}
+
+#[test]
+fn drive_with_watch_of_the_map_and_drive_refused_its_room(rt: HostRuntime) {
+    holds(&rt, rt.alloc(), &DRIVE_WITH_WATCH_OF_THE_MAP);
+}
+
+// A snapshot of a desk as it was opened.
+#[test]
+fn edits_in_a_row(rt: HostRuntime) {
+    holds(&rt, rt.alloc(), &EDITS_IN_A_ROW);
+}

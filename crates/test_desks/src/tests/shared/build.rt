@@ -1,0 +1,28 @@
+//! Shared desks for the tests.
+ghost use Rattle.desk_shared.specs.Passes.{Owns};
+
+use desk_core::Desk;
+use desk_shared::{Pass, SharedDesk};
+use std::alloc::Global;
+use std::process::Abort;
+
+/// The desk, shared by so many planners, and the first pass.
+pub fn share(rt: &impl Abort, alloc: Global, desk: Desk, planners: u32) -> (SharedDesk, Pass)
+    ensures { Owns result.0 result.1 }
+{
+    match SharedDesk::open(alloc, desk, planners) {
+        Ok(shared) => shared,
+        Err(_) => panic!(rt; "lawful planners"),
+    }
+}
+
+pub fn split(rt: &impl Abort, shared: &SharedDesk, pass: &mut Pass) -> Pass
+    requires { Owns shared.now pass.old }
+    ensures old { Owns shared.now pass.new }
+    ensures new { Owns shared.now result }
+{
+    match shared.split(pass) {
+        Ok(other) => other,
+        Err(_) => panic!(rt; "a number that is kept"),
+    }
+}

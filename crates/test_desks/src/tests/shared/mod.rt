@@ -1,0 +1,5 @@
+//! Planners who share a desk.
+mod build;
+mod calls;
+mod rows;
+mod threads;

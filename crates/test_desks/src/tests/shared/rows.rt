@@ -1,0 +1,118 @@
+//! One thread, and one pass or several.
+use super::super::build::{agent, cell, commit, desk};
+use super::build::{share, split};
+use desk_core::{AskFault, Refusal};
+use desk_shared::{PassLost, ShareFault, SharedDesk, SplitFault};
+
+const SCENE: &[&str] = &["agent 3 0,0 2,0"];
+
+#[test]
+fn shared_by_none_and_by_too_many(rt: HostRuntime) {
+    let alloc = rt.alloc();
+    for planners in [0, 257] {
+        match SharedDesk::open(alloc, desk(&rt, alloc, SCENE, 10), planners) {
+            Ok(_) => panic!(rt; "too many planners, or none"),
+            Err((fault, _back)) => assert!(rt; fault == ShareFault::BadPlanners),
+        }
+    }
+}
+
+// A refused call gives the turn back too.
+#[test]
+fn refusals_through_a_pass(rt: HostRuntime) {
+    let alloc = rt.alloc();
+    let (shared, mut pass) = share(&rt, alloc, desk(&rt, alloc, SCENE, 10), 1);
+    let ahead = commit(&rt, alloc, pass.planner(), 1, &["goal 3 1,0"]);
+    match shared.commit(&rt, &mut pass, ahead) {
+        Ok(_) => panic!(rt; "a base above the version"),
+        Err((why, back)) => {
+            assert!(rt; why == Refusal::Ahead { now: 0 } && back.base() == 1);
+        }
+    }
+    let (nine, corner) = (agent(&rt, 9), cell(&rt, 0, 0));
+    let unknown = shared.distance(&rt, &mut pass, nine, corner);
+    assert!(rt; unknown == Err(AskFault::UnknownAgent) && shared.front(&mut pass) == 0);
+}
+
+#[test]
+fn shared_by_one_and_shared_distance(rt: HostRuntime) {
+    let alloc = rt.alloc();
+    let (shared, mut pass) = share(&rt, alloc, desk(&rt, alloc, SCENE, 10), 1);
+    let planner = pass.planner();
+    assert!(rt; shared.owns(&pass) && planner.number() == 0);
+    let path = commit(&rt, alloc, planner, 0, &["path 3 0,0 1,0"]);
+    assert!(rt; matches!(shared.commit(&rt, &mut pass, path), Ok(1)));
+    let reading = shared.reading(&rt, &mut pass).expect(&rt, "memory");
+    let line = reading.report.lines.items().first().expect(&rt, "a line");
+    assert!(rt; reading.version == 1 && line.settle == 1);
+    assert!(rt; shared.front(&mut pass) == 1);
+    let full = SplitFault::PassesFull { planners: 1 };
+    assert!(rt; shared.split(&mut pass).err() == Some(full));
+    let (three, corner) = (agent(&rt, 3), cell(&rt, 0, 0));
+    assert!(rt; shared.distance(&rt, &mut pass, three, corner) == Ok(Some(2)));
+    let closed = shared.close(pass).expect(&rt, "the desk");
+    assert!(rt; closed.journal().len() == 1);
+}
+
+#[test]
+fn split_until_full(rt: HostRuntime) {
+    let alloc = rt.alloc();
+    let (shared, mut first) = share(&rt, alloc, desk(&rt, alloc, SCENE, 10), 3);
+    let full = SplitFault::PassesFull { planners: 3 };
+    let mut second = split(&rt, &shared, &mut first);
+    assert!(rt; second.planner().number() == 1);
+    assert!(rt; shared.split(&mut second).err() == Some(full));
+    let third = split(&rt, &shared, &mut first);
+    assert!(rt; third.planner().number() == 2);
+    shared.join(&mut first, third);
+    assert!(rt; shared.split(&mut first).err() == Some(full));
+}
+
+#[test]
+fn join_hands_on_numbers(rt: HostRuntime) {
+    let alloc = rt.alloc();
+    let (shared, mut first) = share(&rt, alloc, desk(&rt, alloc, SCENE, 10), 3);
+    let mut second = split(&rt, &shared, &mut first);
+    shared.join(&mut second, first);
+    let third = split(&rt, &shared, &mut second);
+    assert!(rt; second.planner().number() == 1 && third.planner().number() == 2);
+}
+
+// The first pass has asked, and then the second commits. Front, reading, distance and snapshot of
+// the first all follow.
+#[test]
+fn reads_follow_an_unjoined_commit(rt: HostRuntime) {
+    let alloc = rt.alloc();
+    let (shared, mut first) = share(&rt, alloc, desk(&rt, alloc, SCENE, 10), 2);
+    let mut second = split(&rt, &shared, &mut first);
+    let (three, corner, middle) = (agent(&rt, 3), cell(&rt, 0, 0), cell(&rt, 1, 0));
+    let far = shared.distance(&rt, &mut first, three, corner);
+    let before = shared.snapshot(&rt, &mut first).expect(&rt, "memory");
+    assert!(rt; far == Ok(Some(2)) && before.version == 0);
+    let close = commit(&rt, alloc, second.planner(), 0, &["close 1,0"]);
+    assert!(rt; matches!(shared.commit(&rt, &mut second, close), Ok(1)));
+    let far = shared.distance(&rt, &mut first, three, corner);
+    let after = shared.snapshot(&rt, &mut first).expect(&rt, "memory");
+    assert!(rt; far == Ok(None) && after.version == 1);
+    let grid = after.scene.grid();
+    assert!(rt; grid.size().holds(middle));
+    assert!(rt; !grid.is_open(middle) && shared.front(&mut first) == 1);
+    let reading = shared.reading(&rt, &mut first).expect(&rt, "memory");
+    shared.join(&mut first, second);
+    let joined = shared.reading(&rt, &mut first).expect(&rt, "memory");
+    assert!(rt; reading.version == 1 && joined == reading);
+    assert!(rt; shared.front(&mut first) == 1);
+}
+
+#[test]
+fn texts_of_faults(rt: HostRuntime) {
+    let alloc = rt.alloc();
+    let full = SplitFault::PassesFull { planners: 3 };
+    let texts = format!(in alloc;
+        "{}; {}; {full}; {PassLost}",
+        ShareFault::BadPlanners,
+        ShareFault::OutOfMemory
+    );
+    let texts = texts.expect(&rt, "memory");
+    assert!(rt; texts.as_str() == "bad planners; out of memory; passes full, 3; pass lost");
+}
