@@ -8,8 +8,8 @@ use std::process::Abort;
 use std::sync::atomic::{AtomicU64, Ordering};
 use std::sync::{Mutex, Wait};
 use std::thread::Threads;
+use test_droughts::take_all;
 use test_support::scene;
-use want_of_memory::take_all;
 
 // Each agent goes from its cell to the next one, which is its goal.
 const RING_OF_FOUR: &[&str] = &[

@@ -6,7 +6,7 @@ use super::runs::{Answers, are_refused, are_wanted};
 use desk_core::{Answer, Call, drive};
 use std::alloc::Global;
 use std::process::Abort;
-use want_of_memory::Drought;
+use test_droughts::Drought;
 
 fn calls(rt: &impl Abort, alloc: Global, row: &Row) -> Vec<Call> {
     let mut calls = Vec::new(alloc);

@@ -2,7 +2,7 @@
 use super::build::drought;
 use std::alloc::Global;
 use std::process::Abort;
-use want_of_memory::Drought;
+use test_droughts::Drought;
 
 // Takes a thousand blocks of 24 bytes, or as many as can be had.
 fn take(alloc: Global, blocks: &mut Vec<Vec<u8>>) {

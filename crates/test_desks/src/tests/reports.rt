@@ -4,8 +4,8 @@ use desk_core::{Desk, EditFault, Limit, Refusal};
 use desk_report::{Spout, write_report};
 use std::alloc::Global;
 use std::process::Abort;
+use test_droughts::Drought;
 use test_support::scene;
-use want_of_memory::Drought;
 
 // Agents 0 to 3 go round in step 0, and agent 4 goes along with agent 0. Each has the end of its
 // path as its goal.

@@ -4,7 +4,7 @@ use super::calls::{Told, asked};
 use super::rows::Row;
 use std::alloc::Global;
 use std::process::Abort;
-use want_of_memory::Drought;
+use test_droughts::Drought;
 
 /// The answers to a row's calls, of which there are at most eight.
 pub type Answers = [Told; 8];

@@ -5,7 +5,7 @@ ghost use Rattle.std.specs.Result.{result_ok};
 use grid_cells::OutOfMemory;
 use std::alloc::Global;
 use std::process::Abort;
-use want_of_memory::Drought;
+use test_droughts::Drought;
 
 /// The most calls of a script.
 const MOST_CALLS: usize = 8;

@@ -3,7 +3,7 @@ use super::samples::{FIRST, SECOND, one};
 use desk_journal::{JournalFault, read_journal, upgrade_journal};
 use std::alloc::Global;
 use std::process::Abort;
-use want_of_memory::Drought;
+use test_droughts::Drought;
 
 // Whether the text is read with so many bytes, as the journal of both.
 fn is_read(

@@ -7,7 +7,7 @@ use desk_shared::{Pass, ShareFault, SharedDesk};
 use std::alloc::Global;
 use std::process::Abort;
 use std::sync::Wait;
-use want_of_memory::Drought;
+use test_droughts::Drought;
 
 // The call that has too little memory, the bytes that it has, and whether it is made again and the
 // others follow, or the desk is closed at once.
@@ -243,7 +243,7 @@ fn refusals<R: Wait + Abort>(
 }
 
 #[test]
-fn want_of_memory_at_a_shared_desk(rt: HostRuntime) {
+fn test_droughts_at_a_shared_desk(rt: HostRuntime) {
     let alloc = rt.alloc();
     let mut drought = drought(&rt, alloc);
     for goes_on in [true, false] {

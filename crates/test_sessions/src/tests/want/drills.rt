@@ -10,7 +10,7 @@ use std::process::Abort;
 use std::sync::Wait;
 use std::sync::atomic::{AtomicU64, Ordering};
 use std::thread::Threads;
-use want_of_memory::take_all;
+use test_droughts::take_all;
 
 // The drill's text where both scripts' edits were accepted, where one was and the other found no
 // memory, and where neither found any.
