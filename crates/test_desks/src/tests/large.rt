@@ -113,6 +113,7 @@ fn turns(rt: &impl Abort, alloc: Global, desk: &mut Desk) {
     }
 }
 
+// The wrong body report_over_all_pairs isn't done in the time that a test has.
 #[test]
 fn ten_thousand_readings(rt: HostRuntime) {
     let alloc = rt.alloc();

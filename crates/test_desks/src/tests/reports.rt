@@ -104,6 +104,7 @@ fn faulty_commit_keeps_indexes(rt: HostRuntime) {
 }
 
 // Three times an accepted commit and a reading.
+// The wrong body rebuild_at_each_commit builds them four times.
 #[test]
 fn indexes_built_once(rt: HostRuntime) {
     let alloc = rt.alloc();

@@ -201,6 +201,7 @@ fn gathered_commit_in_a_session(rt: HostRuntime) {
     each_line_refused(&rt, rt.alloc(), &GATHERED_COMMIT_IN_A_SESSION);
 }
 
+// The wrong body always_out_of_memory answers nothing else, with ample memory too.
 #[test]
 fn meets_a_resting_agent(rt: HostRuntime) {
     each_line_refused(&rt, rt.alloc(), &MEETS_A_RESTING_AGENT);

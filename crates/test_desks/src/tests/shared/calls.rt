@@ -243,7 +243,7 @@ fn refusals<R: Wait + Abort>(
 }
 
 #[test]
-fn test_droughts_at_a_shared_desk(rt: HostRuntime) {
+fn want_of_memory_at_a_shared_desk(rt: HostRuntime) {
     let alloc = rt.alloc();
     let mut drought = drought(&rt, alloc);
     for goes_on in [true, false] {

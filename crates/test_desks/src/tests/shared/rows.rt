@@ -34,6 +34,8 @@ fn refusals_through_a_pass(rt: HostRuntime) {
     assert!(rt; unknown == Err(AskFault::UnknownAgent) && shared.front(&mut pass) == 0);
 }
 
+// The wrong body close_always_lost gives no desk back. The wrong body one_lock_round_everything
+// can't be written: `front` has no bound by which it could wait.
 #[test]
 fn shared_by_one_and_shared_distance(rt: HostRuntime) {
     let alloc = rt.alloc();
@@ -80,6 +82,7 @@ fn join_hands_on_numbers(rt: HostRuntime) {
 
 // The first pass has asked, and then the second commits. Front, reading, distance and snapshot of
 // the first all follow.
+// The wrong body pass_answers_from_its_past tells what it last saw.
 #[test]
 fn reads_follow_an_unjoined_commit(rt: HostRuntime) {
     let alloc = rt.alloc();

@@ -67,6 +67,8 @@ fn plan<R: Wait + Abort>(
     }
 }
 
+// The wrong body turn_held_from_snapshot waits here for ever, and the wrong body
+// close_drops_unjoined_entries gives a journal without one of the two.
 #[test]
 fn two_threads_commit(rt: HostRuntime) {
     let alloc = rt.alloc();
