@@ -2,7 +2,7 @@
 """Says which names of names.txt stand nowhere in the repository, and ends with status 1 if one doesn't.
 
 A name stands where a worked example (crates/*/data/*.txt, a line `== NAME` or `== NAME, remark`), a test
-function, an entry of a test's table (`(KIND, "NAME", ..`) or a wrong body (crates/*/must-fail/NAME.edit) has it, alone or as a whole part of a longer one that
+function, an entry of a test's table (`(KIND, "NAME, NAME", ..`) or a wrong body (crates/*/must-fail/NAME.edit) has it, alone or as a whole part of a longer one that
 is joined by `_and_`, `_of_` and the like. A wrong body that tests refuse is named in a remark beside its test:
 `wrong body NAME`.
 """
@@ -15,7 +15,7 @@ HERE = Path(__file__).resolve().parent
 CRATES = HERE.parent / "crates"
 EXAMPLE = re.compile(r"^== (\w+)", re.MULTILINE)
 TEST = re.compile(r"#\[test\]\s+fn (\w+)")
-ENTRY = re.compile(r'\((?:\w+::)?\w+,\s+"(\w+)')
+ENTRY = re.compile(r'\(\s*(?:\w+::)?\w+,\s+"([^"]*)"')
 REMARK = re.compile(r"wrong body\s+(?://\s*)?(\w+)")
 
 
@@ -34,7 +34,7 @@ def found(pattern, form):
 def standing():
     names = found("*/data/*.txt", EXAMPLE)
     for form in (TEST, ENTRY, REMARK):
-        names |= found("test_*/src/**/*.rt", form)
+        names |= {word for text in found("test_*/src/**/*.rt", form) for word in re.findall(r"\w+", text)}
     return names | {path.stem for path in own_files("*/must-fail/*.edit")}
 
 
