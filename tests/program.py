@@ -339,6 +339,42 @@ def demo_drill():
     want("the report", said, report + "audit same\n")
 
 
+CLIENT = """agent 0 0,0 6,0 -> version 1
+agent 1 6,0 0,0 -> version 2
+path 0 0,0 1,0 2,0 3,0 4,0 5,0 6,0 -> version 3
+path 1 6,0 5,0 4,0 3,0 2,0 1,0 0,0 -> version 4
+solves vertex swap -> solves no
+in the way: vertex 3 0 1 3,0
+commit -> version 5
+solves vertex swap -> solves yes
+"""
+
+
+def demo_client():
+    """The client of demo/ drives a live desk."""
+    words = [sys.executable, f"{TOP}/demo/client.py", PROGRAM, f"{TOP}/demo/corridor.map"]
+    ran = subprocess.run(words, capture_output=True, timeout=PATIENCE, text=True)
+    want("standard output", ran.stdout, CLIENT)
+    want("the status", ran.returncode, 0)
+
+
+def demo_check():
+    """The recipe for authors of solvers: right, wrong, and no paths at all."""
+    for paths, kinds, status, first in (
+        ("path 0 0,0 1,0 2,0\n", [], 0, "right"),
+        ("path 0 0,0 1,0 2,0\n", ["vertex", "edge", "follow", "swap", "cycle"], 0, "right"),
+        ("path 0 0,0 1,0\n", [], 1, "agents 1"),
+        ("path 0 0,0 2,0\n", [], 2, ""),
+        ("path 7 0,0\n", [], 2, ""),
+    ):
+        with open("paths", "w") as file:
+            file.write(paths)
+        words = [sys.executable, f"{TOP}/demo/check.py", PROGRAM, "m", "s", "1", "paths", *kinds]
+        ran = subprocess.run(words, capture_output=True, timeout=PATIENCE, text=True)
+        want(f"the status for {paths!r}", ran.returncode, status)
+        want("the first line", ran.stdout.partition("\n")[0], first)
+
+
 def demo_audit():
     """The report from scratch is the one of a session, byte for byte."""
     words = ["--map", f"{TOP}/demo/warehouse.map", "--scen", f"{TOP}/demo/warehouse.scen", "--agents", "100"]
@@ -361,7 +397,7 @@ def tests():
     yield "no_audit_goes_out_whole", lambda: full_output(["audit", "--map", "m"], b"")
     yield "no_drill_goes_out_whole", lambda: full_output(["drill", "--map", "m", "one"], b"")
     for test in (full_help, full_refusal, word_that_is_no_text, version, bare_on_a_terminal, full_error, closed_pipe, folder_as_input, many_lines, many_bytes, answers_before_more_input, a_line_in_two_pieces,
-                 broken_off, stopped, demo_session, demo_drill, demo_audit):
+                 broken_off, stopped, demo_session, demo_drill, demo_client, demo_check, demo_audit):
         yield test.__name__, test
 
 
