@@ -14,7 +14,7 @@ no_more pass made [] is on same = sym is ∙ append-nil pass.made
 no_more pass made (first ∷ later) is on same =
     let others : All (λ (entry : Entry). IsOfAnother pass entry.planner) (first ∷ later) = subst (All (λ (entry : Entry). IsOfAnother pass entry.planner)) (after_prefix pass.made made (first ∷ later, is)) on.others in
     let numbered : All (λ (entry : Entry). entry.planner < pass.planners) (first ∷ later) =
-        subst (All (λ (entry : Entry). entry.planner < pass.planners)) (after_prefix pass.made made (first ∷ later, is)) (All-drop (λ (entry : Entry). entry.planner < pass.planners) (length pass.made) made on.numbered) in
+    subst (All (λ (entry : Entry). entry.planner < pass.planners)) (after_prefix pass.made made (first ∷ later, is)) (All-drop (λ (entry : Entry). entry.planner < pass.planners) (length pass.made) made on.numbered) in
     let none = own_rest first.planner pass.made made (first ∷ later, is) (same first.planner (All-head (λ (entry : Entry). entry.planner < pass.planners) first later numbered) (All-head (λ (entry : Entry). IsOfAnother pass entry.planner) first later others)) in
     absurd (All-head (λ (entry : Entry). entry.planner ≢ first.planner) first later (none_own first.planner (first ∷ later) none) refl)
 

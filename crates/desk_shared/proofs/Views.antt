@@ -95,16 +95,19 @@ fronts slots id k cs live s r deep at small =
       floored k n,
       keeps,
       tt,
-      loaded s r 0 id k (floored k n) at (λ b. b) (λ _. (record {
-        same = mine.same;
-        shared = mine.shared;
-        seen = mine.seen;
-        floor = omega arith;
-        number = mine.number;
-        own = mine.own;
-        unused = mine.unused;
-        past = All-weaker (IsPast r.start r.planners r.log r.owner id k) (IsPast r.start r.planners r.log r.owner id (floored k n)) (λ z p. record { beside = p.beside; kept = p.kept; whole = p.whole; seen = p.seen }) k.past mine.past;
-      }, stands)),
+      loaded s r 0 id k (floored k n) at (λ b. b) (λ _. (
+        record {
+          same = mine.same;
+          shared = mine.shared;
+          seen = mine.seen;
+          floor = omega arith;
+          number = mine.number;
+          own = mine.own;
+          unused = mine.unused;
+          past = All-weaker (IsPast r.start r.planners r.log r.owner id k) (IsPast r.start r.planners r.log r.owner id (floored k n)) (λ z p. record { beside = p.beside; kept = p.kept; whole = p.whole; seen = p.seen }) k.past mine.past;
+        },
+        stands,
+      )),
       ((r.log, found s r id k mine, count ∙ ap (λ (z : DeskState). version_at z r.log) (sym mine.same)), refl),
     )
 
@@ -119,16 +122,19 @@ compares slots id k cs live busy s r deep at small =
       w,
       keeps,
       tt,
-      loaded s r 0 id k w at (λ b. absurd (busy b)) (λ _. (record {
-        same = mine.same;
-        shared = mine.shared;
-        seen = mine.seen;
-        floor = mine.floor;
-        number = mine.number;
-        own = mine.own;
-        unused = mine.unused;
-        past = All-weaker (IsPast r.start r.planners r.log r.owner id k) (IsPast r.start r.planners r.log r.owner id w) (λ z p. record { beside = p.beside; kept = p.kept; whole = p.whole; seen = p.seen }) k.past mine.past;
-      }, tt)),
+      loaded s r 0 id k w at (λ b. absurd (busy b)) (λ _. (
+        record {
+          same = mine.same;
+          shared = mine.shared;
+          seen = mine.seen;
+          floor = mine.floor;
+          number = mine.number;
+          own = mine.own;
+          unused = mine.unused;
+          past = All-weaker (IsPast r.start r.planners r.log r.owner id k) (IsPast r.start r.planners r.log r.owner id w) (λ z p. record { beside = p.beside; kept = p.kept; whole = p.whole; seen = p.seen }) k.past mine.past;
+        },
+        tt,
+      )),
       λ a b p q o is. let h = subst (Stands r.start r.log (turn_of s) s.homes r.holder id k.made) is stands in (
         (h.0, h.1, h.2, h.3, h.4 ∙ sym mine.same),
         subst (λ (n : ℕ). AreOfPlanners n k.made) (sym mine.shared) (All-prefix (λ (e : Entry). e.planner < r.planners) k.made r.log mine.seen r.numbered),
@@ -151,31 +157,37 @@ splits id k live may s r at =
     let kept : (u : ℕ) → MayGive (shown (giver k)) u → (u ≢ n) × MayGive (shown k) u = λ u give. dite (ℕ_discrete u n)
     (λ is. absurd (true≢false (sym give ∙ off k.unused n u is)))
     (λ other. (other, sym (get_or-set_other k.unused n u false false other) ∙ give)) in
-    let giver_lives : K id (giver k) = λ _. (record {
-      same = mine.same;
-      shared = mine.shared;
-      seen = mine.seen;
-      floor = mine.floor;
-      number = (mine.number.0, put_else r.owner n new k.planner (λ e. lent.0.1 (sym e)) ∙ mine.number.1);
-      own = mine.own;
-      unused = λ u give. let h = kept u give in let m = mine.unused u h.1 in ((m.0.0, m.0.1, put_else r.owner n new u h.0 ∙ m.0.2), m.1);
-      past = All-weaker (IsPast r.start r.planners r.log r.owner id k) (IsPast r.start r.planners r.log owner' id (giver k)) (λ z p. record {
-        beside = (p.beside.0, p.beside.1, put_else r.owner n new z.0 (λ e. p.kept (subst (MayGive (shown k)) (sym e) may)) ∙ p.beside.2);
-        kept = λ give. p.kept (kept z.0 give).1;
-        whole = p.whole;
-        seen = p.seen;
-      }) k.past mine.past;
-    }, stands) in
-    let given_lives : (j : ℕ) → j ≡ new → K j (given k) = λ j is _. (record {
-      same = mine.same;
-      shared = mine.shared;
-      seen = mine.seen;
-      floor = mine.floor;
-      number = (lent.0.0, put_here r.owner n new ∙ sym is);
-      own = lent.1 ∙ sym (own_none n k.made r.log mine.seen lent.1);
-      unused = λ u give. absurd (true≢false (sym give ∙ blank 256 u));
-      past = All-nil (IsPast r.start r.planners r.log owner' j (given k));
-    }, tt) in
+    let giver_lives : K id (giver k) = λ _. (
+      record {
+        same = mine.same;
+        shared = mine.shared;
+        seen = mine.seen;
+        floor = mine.floor;
+        number = (mine.number.0, put_else r.owner n new k.planner (λ e. lent.0.1 (sym e)) ∙ mine.number.1);
+        own = mine.own;
+        unused = λ u give. let h = kept u give in let m = mine.unused u h.1 in ((m.0.0, m.0.1, put_else r.owner n new u h.0 ∙ m.0.2), m.1);
+        past = All-weaker (IsPast r.start r.planners r.log r.owner id k) (IsPast r.start r.planners r.log owner' id (giver k)) (λ z p. record {
+          beside = (p.beside.0, p.beside.1, put_else r.owner n new z.0 (λ e. p.kept (subst (MayGive (shown k)) (sym e) may)) ∙ p.beside.2);
+          kept = λ give. p.kept (kept z.0 give).1;
+          whole = p.whole;
+          seen = p.seen;
+        }) k.past mine.past;
+      },
+      stands,
+    ) in
+    let given_lives : (j : ℕ) → j ≡ new → K j (given k) = λ j is _. (
+      record {
+        same = mine.same;
+        shared = mine.shared;
+        seen = mine.seen;
+        floor = mine.floor;
+        number = (lent.0.0, put_here r.owner n new ∙ sym is);
+        own = lent.1 ∙ sym (own_none n k.made r.log mine.seen lent.1);
+        unused = λ u give. absurd (true≢false (sym give ∙ blank 256 u));
+        past = All-nil (IsPast r.start r.planners r.log owner' j (given k));
+      },
+      tt,
+    ) in
     let others : (j : ℕ) (v : Known) → j ≢ id → get_elem? s.views j ≡ some v → K j v = λ j v other there alive. let h = r.each j v there alive in
     (live_owned r.start r.planners r.log r.owner owner' j v (λ u by. put_else r.owner n new u (λ e. other (sym by ∙ (ap r.owner e ∙ lent.0.2))) ∙ by) h.0, h.1) in
     viewed s r owner' (vs ++ given k ∷ []) (λ j v there. ⊎_elim (each_stays K s.views id (giver k) giver_lives others j v)
@@ -227,17 +239,20 @@ joins id k other l live live' idle idle' s r at apart there =
       whole = p.whole;
       seen = own_between z.0 l.made w.made r.log three.1 three.2 (p.whole ∙ sym p.seen) ∙ p.seen;
     }) l.past theirs.past)) in
-    let both_live : K id w = λ _ _. (record {
-      same = mine.same;
-      shared = mine.shared;
-      seen = three.2;
-      floor = omega arith;
-      number = (mine.number.0, stays k.planner id not mine.number.1);
-      own = mine.own ∙ sym own_k;
-      unused = λ u give. ⊎_elim (λ (a : MayGive (shown k) u). let m = mine.unused u a in ((m.0.0, m.0.1, stays u id not m.0.2), m.1))
-          (λ (b : MayGive (shown l) u). let m = theirs.unused u b in ((m.0.0, unlike u m.0.2, moved_here r.owner other id u m.0.2), m.1)) (either_at k.unused l.unused u give);
-      past = new_past;
-    }, (three.0, three.1, own_k, own_l, theirs.same)) in
+    let both_live : K id w = λ _ _. (
+      record {
+        same = mine.same;
+        shared = mine.shared;
+        seen = three.2;
+        floor = omega arith;
+        number = (mine.number.0, stays k.planner id not mine.number.1);
+        own = mine.own ∙ sym own_k;
+        unused = λ u give. ⊎_elim (λ (a : MayGive (shown k) u). let m = mine.unused u a in ((m.0.0, m.0.1, stays u id not m.0.2), m.1))
+            (λ (b : MayGive (shown l) u). let m = theirs.unused u b in ((m.0.0, unlike u m.0.2, moved_here r.owner other id u m.0.2), m.1)) (either_at k.unused l.unused u give);
+        past = new_past;
+      },
+      (three.0, three.1, own_k, own_l, theirs.same),
+    ) in
     let others : (j : ℕ) (v : Known) → j ≢ id → get_elem? s.views j ≡ some v → K j v = λ j v _ at' not' alive. let h = r.each j v at' alive in
     (live_owned r.start r.planners r.log r.owner owner' j v (λ u by. stays u j not' by) h.0, h.1) in
     viewed s r owner' (set vs other nobody) (each_stays (Stays r.start r.planners r.log (turn_of s) s.homes r.holder owner') vs other nobody (λ alive. absurd (true≢false (sym alive)))
