@@ -21,9 +21,18 @@ pub fn audit_files<'a, R: Files + AllocGlobal + Print + Threads + Wait>(
     if words.agents > 0 && words.scen.is_none() {
         return Err(Fault::AgentsWithoutScen);
     }
-    let map = file_bytes(rt, words.map)?;
-    let scen = named_bytes(rt, words.scen)?;
-    let journal = named_bytes(rt, words.journal)?;
+    let map = match file_bytes(rt, words.map) {
+        Ok(map) => map,
+        Err(fault) => return Err(fault),
+    };
+    let scen = match named_bytes(rt, words.scen) {
+        Ok(scen) => scen,
+        Err(fault) => return Err(fault),
+    };
+    let journal = match named_bytes(rt, words.journal) {
+        Ok(journal) => journal,
+        Err(fault) => return Err(fault),
+    };
     let alloc = rt.alloc();
     let Ok(buffered) = BufWriter::new(alloc, io::writer(rt)) else {
         return Err(Fault::Run(RunFault::OutOfMemory));

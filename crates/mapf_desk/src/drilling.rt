@@ -17,7 +17,10 @@ fn bytes_of_all<'a, R: Files + AllocGlobal>(
 ) -> Result<Vec<Vec<u8>>, Fault<'a>> {
     let mut all = Vec::new(rt.alloc());
     for file in files {
-        let bytes = file_bytes(rt, file)?;
+        let bytes = match file_bytes(rt, file) {
+            Ok(bytes) => bytes,
+            Err(fault) => return Err(fault),
+        };
         if let Err(_refused) = all.push(bytes) {
             return Err(Fault::Run(RunFault::OutOfMemory));
         }
@@ -38,9 +41,18 @@ pub fn drill_files<'a, R: Files + AllocGlobal + Print + Threads + Wait + Sync>(
     if words.agents > 0 && words.scen.is_none() {
         return Err(Fault::AgentsWithoutScen);
     }
-    let map = file_bytes(rt, words.map)?;
-    let scen = named_bytes(rt, words.scen)?;
-    let scripts = bytes_of_all(rt, words.scripts.as_slice())?;
+    let map = match file_bytes(rt, words.map) {
+        Ok(map) => map,
+        Err(fault) => return Err(fault),
+    };
+    let scen = match named_bytes(rt, words.scen) {
+        Ok(scen) => scen,
+        Err(fault) => return Err(fault),
+    };
+    let scripts = match bytes_of_all(rt, words.scripts.as_slice()) {
+        Ok(scripts) => scripts,
+        Err(fault) => return Err(fault),
+    };
     let alloc = rt.alloc();
     let Ok(buffered) = BufWriter::new(alloc, io::writer(rt)) else {
         return Err(Fault::Run(RunFault::OutOfMemory));

@@ -40,21 +40,19 @@ fn obey<'a, R: Files + AllocGlobal + Print + Input + Threads + Wait + Sync>(
             Ok(()) => Ok(ExitCode::SUCCESS),
             Err(_) => Err(Fault::Run(RunFault::WriteFailed)),
         },
-        Words::Serve(serve) => {
-            serve_streams(rt, serve)?;
-            Ok(ExitCode::SUCCESS)
-        }
-        Words::Audit(audit) => {
-            audit_files(rt, audit)?;
-            Ok(ExitCode::SUCCESS)
-        }
-        Words::Drill(drill) => {
-            if drill_files(rt, drill)? {
-                Ok(ExitCode::SUCCESS)
-            } else {
-                Ok(ExitCode::from(DIFFERS))
-            }
-        }
+        Words::Serve(serve) => match serve_streams(rt, serve) {
+            Ok(()) => Ok(ExitCode::SUCCESS),
+            Err(fault) => Err(fault),
+        },
+        Words::Audit(audit) => match audit_files(rt, audit) {
+            Ok(()) => Ok(ExitCode::SUCCESS),
+            Err(fault) => Err(fault),
+        },
+        Words::Drill(drill) => match drill_files(rt, drill) {
+            Ok(true) => Ok(ExitCode::SUCCESS),
+            Ok(false) => Ok(ExitCode::from(DIFFERS)),
+            Err(fault) => Err(fault),
+        },
     }
 }
 

@@ -24,8 +24,14 @@ pub fn serve_streams<'a, R: Files + AllocGlobal + Print + Input>(
     if words.agents > 0 && words.scen.is_none() {
         return Err(Fault::AgentsWithoutScen);
     }
-    let map = named_bytes(rt, words.map)?;
-    let scen = named_bytes(rt, words.scen)?;
+    let map = match named_bytes(rt, words.map) {
+        Ok(map) => map,
+        Err(fault) => return Err(fault),
+    };
+    let scen = match named_bytes(rt, words.scen) {
+        Ok(scen) => scen,
+        Err(fault) => return Err(fault),
+    };
     let texts = Texts {
         map: map.as_deref(),
         scen: scen.as_deref(),
