@@ -94,7 +94,7 @@ ARRIVED = "agents 1\nagent 0 settle 2 goal yes bound 2 gap 0\nconflicts 0\nblock
 RESTING = "agents 1\nagent 0 settle 0 goal no bound 2 gap none\nconflicts 0\nblocked 0\nsum none\nmakespan none\nbounds 2\ngap none\nend\n"
 TWO = ("agents 2\nagent 0 settle 0 goal yes bound 0 gap 0\nagent 1 settle 0 goal yes bound 0 gap 0\nconflicts 0\nblocked 0\nsum 0\n"
        "makespan 0\nbounds 0\ngap 0\nend\n")
-# One agent comes to its goal, and another to the same cell a step later; only in mode stay it rests there before.
+# One agent rests at its goal, and another comes to that cell; only in mode stay somebody is there to be met and followed.
 MEETING = b"agent 0 1,0 1,0\nagent 1 0,0 1,0\npath 1 0,0 1,0\nreport\n"
 MET = "agents 2\nagent 0 settle 0 goal yes bound 0 gap 0\nagent 1 settle 1 goal yes bound 1 gap 0\n"
 TAIL = "blocked 0\nsum 1\nmakespan 1\nbounds 1\ngap 0\nend\n"
@@ -110,8 +110,8 @@ ANSWERS = [
     ("scenario_for_a_map_on_standard_input", "serve --scen s --agents 1", MAP + b"report\n", "version 0\n" + RESTING),
     ("limit_of_one", "serve --map m --limit 1", b"agent 0 0,0 2,0\nagent 1 1,0 1,0\n", "version 1\nrefused journal-full 1\n"),
     ("limit_of_two", "serve --map m --limit 2", b"agent 0 0,0 2,0\nagent 1 1,0 1,0\n", "version 1\nversion 2\n"),
-    ("stays_where_no_mode_is_named", "serve --map m", MEETING, COMMITS + MET + "conflicts 1\nparked 1 0 1 1,0\n" + TAIL),
-    ("stays", "serve --map m --mode stay", MEETING, COMMITS + MET + "conflicts 1\nparked 1 0 1 1,0\n" + TAIL),
+    ("stays_where_no_mode_is_named", "serve --map m", MEETING, COMMITS + MET + "conflicts 2\nparked 1 0 1 1,0\nfollow 0 1 0 1,0\n" + TAIL),
+    ("stays", "serve --map m --mode stay", MEETING, COMMITS + MET + "conflicts 2\nparked 1 0 1 1,0\nfollow 0 1 0 1,0\n" + TAIL),
     ("disappears", "serve --map m --mode disappear", MEETING, COMMITS + MET + "conflicts 0\n" + TAIL),
     ("audit_of_a_map", "audit --map m", b"", "version 0\n" + EMPTY),
     ("audit_of_a_scenario", "audit --map m --scen s --agents 1", b"", "version 0\n" + RESTING),
