@@ -20,17 +20,19 @@ pub struct Opening<'a> {
 }
 
 // What was written, and the line of the fault, if there is one.
-fn printed<T: Drop>(
+fn printed(
     alloc: Global,
-    written: Vec<u8>,
-    ended: Result<T, RunFault>,
+    mut written: Vec<u8>,
+    fault: Option<RunFault>,
 ) -> Result<Vec<u8>, AllocError> {
-    let mut written = written;
-    if let Err(fault) = ended {
-        let line = format!(in alloc; "mapf_desk: {fault}\n")?;
-        written.extend_from_slice(line.as_bytes())?;
+    match fault {
+        None => Ok(written),
+        Some(fault) => {
+            let line = format!(in alloc; "mapf_desk: {fault}\n")?;
+            written.extend_from_slice(line.as_bytes())?;
+            Ok(written)
+        }
     }
-    Ok(written)
 }
 
 /// What `run_audit` prints.
@@ -53,7 +55,11 @@ pub fn audited<R: Threads + Wait>(
         workers.clamp(1, 64),
         &mut writer,
     );
-    printed(alloc, writer.into_inner(), ended)
+    let fault = match ended {
+        Ok(()) => None,
+        Err(fault) => Some(fault),
+    };
+    printed(alloc, writer.into_inner(), fault)
 }
 
 /// What `run_drill` prints.
@@ -76,7 +82,11 @@ pub fn drilled<R: Threads + Wait + Sync>(
         &NoGate,
         &mut writer,
     );
-    printed(alloc, writer.into_inner(), ended)
+    let fault = match ended {
+        Ok(_same) => None,
+        Err(fault) => Some(fault),
+    };
+    printed(alloc, writer.into_inner(), fault)
 }
 
 // What `run_serve` prints, and how many lines the session had, if it came to its end. Where there is
@@ -99,18 +109,19 @@ fn served(
         &mut reader,
         &mut writer,
     );
-    let text = printed(alloc, writer.into_inner(), ended)?;
-    Ok((text, ended.ok()))
+    let (lines, fault) = match ended {
+        Ok(lines) => (Some(lines), None),
+        Err(fault) => (None, Some(fault)),
+    };
+    let text = printed(alloc, writer.into_inner(), fault)?;
+    Ok((text, lines))
 }
 
 // The journal's text in version 2, or the fault's line.
 fn upgraded(alloc: Global, journal: &[u8]) -> Result<Vec<u8>, AllocError> {
     match upgrade_journal(alloc, journal) {
         Ok(text) => Ok(text),
-        Err(fault) => {
-            let ended: Result<(), _> = Err(RunFault::from(fault));
-            printed(alloc, Vec::new(alloc), ended)
-        }
+        Err(fault) => printed(alloc, Vec::new(alloc), Some(RunFault::from(fault))),
     }
 }
 
