@@ -1,37 +1,54 @@
 #!/usr/bin/env python3
 """Says whether a solver's paths are right: check.py DESK MAP SCEN AGENTS PATHS [KIND..]
 
-PATHS has a line `path A X,Y X,Y ..` for each agent, from 0: what solvers print, in the desk's form. KIND is one or more of
-vertex, edge, follow, swap and cycle; vertex and swap where none is named, the classical check. Status 0: every agent comes
-to its goal and rests there, no path crosses a closed cell, and there is no conflict of these kinds. Status 1: something is
-wrong, and the report says what. Status 2: the files are no map, scenario or paths.
+    demo/check.py ./desk demo/corridor.map demo/corridor.scen 2 demo/corridor.paths
+
+PATHS has a line `path A X,Y X,Y ..` for each agent, from 0: X is the column, Y the row, the first cell is the agent's
+start of SCEN, one cell a time step. KIND is one or more of vertex, edge, follow, swap and cycle; vertex and swap where
+none is named, the classical check.
+
+Status 0, and `right`: every agent comes to its goal and rests there, no path crosses a closed cell, and there is no
+conflict of these kinds. Status 1, and the report: something of that is wrong. Status 2: a file is no map, scenario or
+paths, or a path is refused; standard error says which line, and what the desk answered.
 """
 import subprocess
 import sys
 
+WRONG, NO_VERDICT = 1, 2
 
-def main():
-    program, grid, tasks, agents, paths, *kinds = sys.argv[1:]
-    with open(paths) as file:
-        lines = [line.strip() for line in file if line.strip()]
+
+def main(words):
+    if len(words) < 5:
+        print(__doc__, end="", file=sys.stderr)
+        return NO_VERDICT
+    program, grid, tasks, agents, paths, *kinds = words
+    try:
+        with open(paths) as file:
+            lines = [line.strip() for line in file if line.strip()]
+    except (OSError, UnicodeDecodeError) as why:
+        print(f"{paths}: {why}", file=sys.stderr)
+        return NO_VERDICT
     question = "solves " + " ".join(kinds or ["vertex", "swap"])
     session = "\n".join([*lines, question, "report"]) + "\n"
-    words = [program, "serve", "--map", grid, "--scen", tasks, "--agents", agents]
-    ran = subprocess.run(words, input=session, capture_output=True, text=True)
+    ran = subprocess.run(
+        [program, "serve", "--map", grid, "--scen", tasks, "--agents", agents],
+        input=session, capture_output=True, text=True,
+    )
     if ran.returncode:
         print(ran.stderr, end="", file=sys.stderr)
-        return 2
+        return NO_VERDICT
     answers = ran.stdout.splitlines()
-    for line, answer in zip(lines, answers):
-        if not answer.startswith("version "):
+    for line, answer in zip([*lines, question], answers):
+        if not answer.startswith(("version ", "solves ")):
             print(f"{line:.60}: {answer}", file=sys.stderr)
-            return 2
+            return NO_VERDICT
     if answers[len(lines)] == "solves yes":
         print("right")
         return 0
+    # (the report begins with the desk's version)
     print("\n".join(answers[len(lines) + 2 :]))
-    return 1
+    return WRONG
 
 
 if __name__ == "__main__":
-    sys.exit(main())
+    sys.exit(main(sys.argv[1:]))

@@ -358,21 +358,30 @@ def demo_client():
     want("the status", ran.returncode, 0)
 
 
+def checked(*words):
+    ran = subprocess.run([sys.executable, f"{TOP}/demo/check.py", PROGRAM, *words], capture_output=True, timeout=PATIENCE, text=True)
+    return ran.returncode, ran.stdout.partition("\n")[0], ran.stderr.partition("\n")[0]
+
+
 def demo_check():
     """The recipe for authors of solvers: right, wrong, and no paths at all."""
-    for paths, kinds, status, first in (
-        ("path 0 0,0 1,0 2,0\n", [], 0, "right"),
-        ("path 0 0,0 1,0 2,0\n", ["vertex", "edge", "follow", "swap", "cycle"], 0, "right"),
-        ("path 0 0,0 1,0\n", [], 1, "agents 1"),
-        ("path 0 0,0 2,0\n", [], 2, ""),
-        ("path 7 0,0\n", [], 2, ""),
+    corridor = f"{TOP}/demo/corridor"
+    want("the corridor", checked(f"{corridor}.map", f"{corridor}.scen", "2", f"{corridor}.paths"), (0, "right", ""))
+    for paths, kinds, verdict in (
+        ("path 0 0,0 1,0 2,0\n", [], (0, "right", "")),
+        ("path 0 0,0 1,0 2,0\n", ["vertex", "edge", "follow", "swap", "cycle"], (0, "right", "")),
+        ("path 0 0,0 1,0\n", [], (1, "agents 1", "")),
+        ("path 0 0,0 2,0\n", [], (2, "", "path 0 0,0 2,0: refused faulty 0 not-a-step 1")),
+        ("path 7 0,0\n", [], (2, "", "path 7 0,0: refused faulty 0 unknown-agent")),
+        ("version\n0,0\n", [], (2, "", "0,0: bad 2 word")),
+        ("path 0 0,0 1,0 2,0\n", ["crash"], (2, "", "solves crash: bad 2 shape")),
     ):
         with open("paths", "w") as file:
             file.write(paths)
-        words = [sys.executable, f"{TOP}/demo/check.py", PROGRAM, "m", "s", "1", "paths", *kinds]
-        ran = subprocess.run(words, capture_output=True, timeout=PATIENCE, text=True)
-        want(f"the status for {paths!r}", ran.returncode, status)
-        want("the first line", ran.stdout.partition("\n")[0], first)
+        want(f"the verdict on {paths!r}", checked("m", "s", "1", "paths", *kinds), verdict)
+    want("the verdict on no file", checked("m", "s", "1", "none"), (2, "", "none: [Errno 2] No such file or directory: 'none'"))
+    want("the verdict on no map", checked("none", "s", "1", "paths"), (2, "", "mapf_desk: can't read none"))
+    want("the verdict on no words", checked("m")[0], 2)
 
 
 def demo_audit():
