@@ -3,8 +3,8 @@
 
     demo/check.py ./desk demo/corridor.map demo/corridor.scen 2 demo/corridor.paths
 
-PATHS has a line `path A X,Y X,Y ..` for each agent, from 0: X is the column, Y the row, the first cell is the agent's
-start of SCEN, one cell a time step. KIND is one or more of vertex, edge, follow, swap and cycle; vertex and swap where
+PATHS has a line `path A X,Y X,Y ..` for each agent, from 0; blank lines and those that begin with # don't count. X
+is the column, Y the row, one cell for each time from 0, the first the agent's start of SCEN. KIND is one or more of vertex, edge, follow, swap and cycle; vertex and swap where
 none is named, the classical check.
 
 Status 0, and `right`: every agent comes to its goal and rests there, no path crosses a closed cell, and there is no
@@ -24,10 +24,14 @@ def main(words):
     program, grid, tasks, agents, paths, *kinds = words
     try:
         with open(paths) as file:
-            lines = [line.strip() for line in file if line.strip()]
+            lines = [line.strip() for line in file if line.strip() and not line.strip().startswith("#")]
     except (OSError, UnicodeDecodeError) as why:
         print(f"{paths}: {why}", file=sys.stderr)
         return NO_VERDICT
+    for line in lines:
+        if line.split()[0] != "path":
+            print(f"{line:.60}: no path", file=sys.stderr)
+            return NO_VERDICT
     question = "solves " + " ".join(kinds or ["vertex", "swap"])
     session = "\n".join([*lines, question, "report"]) + "\n"
     ran = subprocess.run(

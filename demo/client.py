@@ -41,7 +41,7 @@ def main():
     for entry in desk.ask("report"):
         if entry.split()[0] in ("vertex", "parked", "edge", "follow", "swap", "cycle"):
             print("in the way:", entry)
-    # Both change in one commit, which is stale where somebody else's commit named one of them meanwhile.
+    # Both change in one commit, or neither does.
     desk.ask("begin")
     desk.ask(path_line(0, east[:2] + [(1, 0), (1, 0)] + east[2:]))
     desk.ask(path_line(1, east[:2:-1] + [(3, 1)] * 3 + east[3::-1]))

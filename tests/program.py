@@ -373,7 +373,9 @@ def demo_check():
         ("path 0 0,0 1,0\n", [], (1, "agents 1", "")),
         ("path 0 0,0 2,0\n", [], (2, "", "path 0 0,0 2,0: refused faulty 0 not-a-step 1")),
         ("path 7 0,0\n", [], (2, "", "path 7 0,0: refused faulty 0 unknown-agent")),
-        ("version\n0,0\n", [], (2, "", "0,0: bad 2 word")),
+        ("# a remark\n\npath 0 0,0 1,0 2,0\n", [], (0, "right", "")),
+        ("goal 0 0,0\n", [], (2, "", "goal 0 0,0: no path")),
+        ("path 0 0,0 1,0 x\n", [], (2, "", "path 0 0,0 1,0 x: bad 1 shape")),
         ("path 0 0,0 1,0 2,0\n", ["crash"], (2, "", "solves crash: bad 2 shape")),
     ):
         with open("paths", "w") as file:
