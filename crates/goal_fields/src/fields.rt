@@ -1,4 +1,4 @@
-ghost use Rattle.std.specs.Prelude.{◌≡◌, ◌+◌, ◌*◌, ◌<◌, ◌≤◌, ℕ, [], Some, None, All, Contains, IfOk, IfErr, IfSome, IfNone, sum_by, slice_index, length};
+ghost use Rattle.std.specs.Prelude.{◌≡◌, ◌+◌, ◌*◌, ◌<◌, ◌≤◌, ℕ, [], All, Contains, IfOk, IfErr, IfSome, IfNone, sum_by, slice_index, length};
 ghost use Rattle.std.specs.List.{AllZip};
 ghost use Rattle.grid_cells.specs.Size.{Holds};
 ghost use Rattle.goal_fields.specs.Target.{Covers, IsSound};
@@ -7,6 +7,7 @@ ghost use Rattle.goal_fields.specs.Rest.{IsRoomOn};
 ghost use Rattle.goal_fields.specs.Held.{HasGoal, StandFor, RiseByGoal, SameButGoal, rank_of, IsRising};
 
 use crate::field::Field;
+use crate::lending::{give_back, let_go, made};
 use crate::lifelong::Lifelong;
 use crate::maps::adopt;
 use crate::rooms::Lent;
@@ -158,39 +159,6 @@ fn place(ranks: &[u32], rank: u32) -> Result<usize, usize>
     ensures above { IfErr result (λ at. (k : ℕ) → at ≤ k → k < length ranks.now → rank < slice_index ranks.now k) }
 {
     ranks.binary_search(&rank)
-}
-
-// The room, which is made for the grid where there is none.
-fn made(
-    alloc: Global,
-    room: Option<Lifelong>,
-    grid: &Grid,
-    goal: Cell,
-) -> Result<Lifelong, OutOfMemory>
-    requires { IfSome room (IsRoomOn grid.now) }
-    ensures { IfOk result (IsRoomOn grid.now) }
-{
-    match room {
-        Some(room) => Ok(room),
-        None => Lifelong::new(alloc, grid, goal),
-    }
-}
-
-// Lets the room go where no field is left.
-fn let_go(room: &mut Option<Lifelong>, fields: &[Field<Lent>])
-    ensures none { length fields.now ≡ 0 → room.new ≡ None }
-    ensures some { 0 < length fields.now → room.new ≡ room.old }
-{
-    if fields.is_empty() {
-        *room = None;
-    }
-}
-
-// Puts the room back.
-fn give_back(place: &mut Option<Lifelong>, room: Lifelong)
-    ensures { place.new ≡ Some room }
-{
-    *place = Some(room);
 }
 
 // Repairs each of the fields for the map of the room, which is lent to one after another.

@@ -4,6 +4,7 @@
 mod field;
 mod fields;
 mod laws;
+mod lending;
 mod lifelong;
 mod maps;
 mod places;
