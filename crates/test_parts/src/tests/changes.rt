@@ -1,42 +1,19 @@
-//! A fleet on a map, what is kept of it, and its changes by chance.
+//! What is kept of a fleet, and its changes by chance.
 ghost use Rattle.std.specs.Prelude.{◌≡◌, ◌<◌, ℕ};
 ghost use Rattle.plan_table.specs.Route.{route_of, position};
 
+use super::fleets::Fleet;
 use super::records::check_touched;
 use super::walks::{any_agent, any_cell, new_row, other_row};
 use conflict_ledger::ConflictLedger;
 use cost_ledger::CostLedger;
 use grid_cells::{Agent, Grid};
-use plan_table::{Mode, Plans, Row, Track};
+use plan_table::{Mode, Row, Track};
 use scene_edits::first_difference;
 use std::alloc::Global;
 use std::process::Abort;
-use test_support::{Chain, open_grid};
+use test_support::Chain;
 use where_index::WhereIndex;
-
-#[derive(Drop)]
-pub struct Fleet {
-    pub plans: Plans,
-    pub grid: Grid,
-    pub mode: Mode,
-}
-
-impl Fleet {
-    /// Nobody, on an open map of 3 x 2 cells.
-    pub fn new(rt: &impl Abort, alloc: Global, mode: Mode) -> Fleet {
-        Fleet {
-            plans: Plans::new(alloc),
-            grid: open_grid(alloc, 3, 2).expect(rt, "a map"),
-            mode,
-        }
-    }
-
-    fn set(&mut self, rt: &impl Abort, agent: Agent, row: Row) {
-        let _ = self.plans.remove(agent);
-        self.plans.make_room().expect(rt, "memory");
-        self.plans.insert(agent, row);
-    }
-}
 
 #[derive(Drop)]
 pub struct Kept {
@@ -148,9 +125,10 @@ pub fn change(
     fleet: &mut Fleet,
     chain: &mut Chain,
 ) -> Kept {
-    let (agent, mode) = (any_agent(rt, chain), fleet.mode);
+    let agent = any_agent(rt, chain, fleet.agents);
+    let (mode, size) = (fleet.mode, fleet.grid.size());
     let Some(old) = fleet.plans.remove(agent) else {
-        let row = new_row(rt, alloc, chain);
+        let row = new_row(rt, alloc, chain, size);
         let kept = entered(rt, kept, agent, &row, mode, &fleet.grid);
         fleet.set(rt, agent, row);
         return kept;
@@ -158,28 +136,32 @@ pub fn change(
     if chain.roll(4) == 0 {
         return left(rt, kept, agent, &old, mode);
     }
-    let new = other_row(rt, alloc, &old, chain);
+    let new = other_row(rt, alloc, &old, chain, size);
     let kept = revised(rt, kept, agent, &old, &new, mode, &fleet.grid);
     fleet.set(rt, agent, new);
     kept
 }
 
-/// A cell by chance opens or closes, in every third draw.
-pub fn flip(rt: &impl Abort, kept: Kept, fleet: &mut Fleet, chain: &mut Chain) -> Kept {
-    let cell = any_cell(rt, chain);
+/// A cell by chance opens or closes, in every third draw. Answers how many agents come through it,
+/// where that changes it.
+pub fn flip(rt: &impl Abort, kept: Kept, fleet: &mut Fleet, chain: &mut Chain) -> (Kept, usize) {
+    let cell = any_cell(rt, chain, fleet.grid.size());
     if chain.roll(3) > 0 || !fleet.grid.size().holds(cell) {
-        return kept;
+        return (kept, 0);
     }
-    fleet.grid.set(cell, chain.roll(2) == 0);
+    let (was, is) = (fleet.grid.is_open(cell), chain.roll(2) == 0);
+    fleet.grid.set(cell, is);
     let Kept {
         index,
         ledger,
         costs,
     } = kept;
     let costs = costs.flip(cell, &fleet.grid).expect(rt, "memory");
-    Kept {
+    let kept = Kept {
         index,
         ledger,
         costs,
-    }
+    };
+    let visitors = if was == is { 0 } else { fleet.visitors(cell) };
+    (kept, visitors)
 }

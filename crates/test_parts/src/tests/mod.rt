@@ -1,10 +1,13 @@
 //! By crates, from the lowest on.
 mod changes;
+mod comparisons;
 mod edits;
 mod fields;
+mod fleets;
 mod followers;
 mod formers;
 mod maps;
+mod orders;
 mod plans;
 mod random;
 mod records;

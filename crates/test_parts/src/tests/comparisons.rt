@@ -1,0 +1,160 @@
+//! The index and both ledgers beside plain programs, which go over all agents, times and pairs.
+use super::changes::Kept;
+use super::fleets::Fleet;
+use conflict_ledger::{Conflict, Kind, conflicts, last, position};
+use cost_ledger::{CostLedger, blocked_visits, is_finished, makespan, settle_time, sum_of_costs};
+use grid_cells::{Agent, Cell, Step};
+use plan_table::{Mode, Row};
+use std::alloc::Global;
+use std::process::Abort;
+use where_index::{Move, Passing, WhereIndex};
+
+// Compares who is in the cell at the time, and who moves out of it.
+fn compare_at(
+    rt: &impl Abort,
+    alloc: Global,
+    index: &WhereIndex,
+    fleet: &Fleet,
+    time: u32,
+    cell: Cell,
+) {
+    let (plans, mode, step) = (&fleet.plans, fleet.mode, Step::new(time));
+    let mut standing = Vec::new(alloc);
+    let mut moving = Vec::new(alloc);
+    for rank in 0..plans.count() {
+        let (agent, _) = plans.entry_at(rank);
+        let here = position(plans, mode, agent, time) == Some(cell);
+        assert!(rt; index.is_at(agent, step, cell) == here);
+        if here {
+            standing.push(agent).expect(rt, "memory");
+            let next = position(plans, mode, agent, time.saturating_add(1));
+            if let Some(to) = next
+                && to != cell
+            {
+                moving.push(Move { agent, to }).expect(rt, "memory");
+            }
+        }
+    }
+    let found = index.standing_at(step, cell).expect(rt, "memory");
+    assert!(rt; found.items() == standing.as_slice());
+    assert!(rt; index.movers(step, cell) == moving.as_slice());
+}
+
+// Compares who comes through the cell from the time on.
+fn compare_coming(
+    rt: &impl Abort,
+    alloc: Global,
+    index: &WhereIndex,
+    fleet: &Fleet,
+    from: u32,
+    cell: Cell,
+) {
+    let (plans, mode) = (&fleet.plans, fleet.mode);
+    let mut passing = Vec::new(alloc);
+    for time in from..=index.horizon() {
+        for rank in 0..plans.count() {
+            let (agent, _) = plans.entry_at(rank);
+            let comes = time <= last(plans, mode, agent);
+            if comes && position(plans, mode, agent, time) == Some(cell) {
+                passing.push(Passing { time, agent }).expect(rt, "memory");
+            }
+        }
+    }
+    let coming = index
+        .coming_through(cell, Step::new(from))
+        .expect(rt, "memory");
+    assert!(rt; coming.items() == passing.as_slice());
+}
+
+/// Compares who is where, and when.
+pub fn compare_index(rt: &impl Abort, alloc: Global, index: &WhereIndex, fleet: &Fleet) {
+    let size = fleet.grid.size();
+    for time in 0..=index.horizon().saturating_add(1) {
+        for x in 0..size.width() {
+            for y in 0..size.height() {
+                let cell = Cell::new(x, y).expect(rt, "a cell");
+                compare_at(rt, alloc, index, fleet, time, cell);
+                compare_coming(rt, alloc, index, fleet, time, cell);
+            }
+        }
+    }
+    assert!(rt; index.count() == fleet.plans.count() as usize);
+}
+
+// Compares where the agent of that row ends.
+fn compare_end(rt: &impl Abort, index: &WhereIndex, mode: Mode, agent: Agent, row: &Row) {
+    let last = row.plan.last();
+    let leaves = row.track(mode).leaves;
+    assert!(rt; index.end(agent) == Some((last, row.plan.at(Step::new(last)))));
+    assert!(rt; index.leaves(agent) == Some(leaves));
+    for time in 0..last.saturating_add(3) {
+        let given = time <= last || !leaves;
+        assert!(rt; index.has_position(agent, Step::new(time)) == given);
+    }
+}
+
+// Compares what the agent of that row costs.
+fn compare_cost(rt: &impl Abort, costs: &CostLedger, agent: Agent, row: &Row) {
+    assert!(rt; costs.settle(agent) == Some(settle_time(&row.plan)));
+    assert!(rt; costs.finished(agent) == is_finished(row));
+}
+
+// Compares what is told of each agent there may be. Answers how many aren't finished.
+fn compare_agents(rt: &impl Abort, kept: &Kept, fleet: &Fleet) -> u32 {
+    let mut unfinished = 0u32;
+    for number in 0..fleet.agents {
+        let agent = Agent::new(number).expect(rt, "an agent");
+        match fleet.plans.row(agent) {
+            Some(row) => {
+                compare_end(rt, &kept.index, fleet.mode, agent, row);
+                compare_cost(rt, &kept.costs, agent, row);
+                unfinished = unfinished.saturating_add(u32::from(!is_finished(row)));
+            }
+            None => {
+                assert!(rt; kept.costs.settle(agent).is_none() && !kept.costs.finished(agent));
+                assert!(rt; kept.index.end(agent).is_none() && kept.index.leaves(agent).is_none());
+            }
+        }
+    }
+    unfinished
+}
+
+/// Compares costs and blocked visits.
+pub fn compare_costs(rt: &impl Abort, alloc: Global, kept: &Kept, fleet: &Fleet) {
+    let (costs, plans) = (&kept.costs, &fleet.plans);
+    assert!(rt; costs.unfinished() == compare_agents(rt, kept, fleet));
+    assert!(rt; costs.sum() == sum_of_costs(alloc, plans).expect(rt, "memory"));
+    assert!(rt; costs.makespan() == makespan(alloc, plans).expect(rt, "memory"));
+    let told = costs.blocked_visits().expect(rt, "memory");
+    let plain = blocked_visits(alloc, &fleet.grid, plans).expect(rt, "memory");
+    assert!(rt; told.items() == plain.items());
+}
+
+// How many of the entries are of that kind.
+fn many(entries: &[Conflict], kind: Kind) -> u64 {
+    let mut count = 0u64;
+    for entry in entries {
+        if entry.kind() == kind {
+            count = count.saturating_add(1);
+        }
+    }
+    count
+}
+
+/// Compares the conflicts. Answers how many rings there are.
+pub fn compare_conflicts(rt: &impl Abort, alloc: Global, kept: &Kept, fleet: &Fleet) -> u64 {
+    let listed = kept.ledger.listed().expect(rt, "memory");
+    let plain = conflicts(alloc, &fleet.plans, fleet.mode).expect(rt, "memory");
+    assert!(rt; listed.items() == plain.items());
+    for kind in [
+        Kind::Vertex,
+        Kind::Parked,
+        Kind::Edge,
+        Kind::Following,
+        Kind::Swapping,
+        Kind::Cycle,
+    ] {
+        assert!(rt; kept.ledger.count(kind) == many(plain.items(), kind));
+    }
+    kept.ledger.count(Kind::Cycle)
+}

@@ -1,0 +1,52 @@
+//! A fleet on a map.
+use grid_cells::{Agent, Cell, Grid};
+use plan_table::{Mode, Plans, Row};
+use std::alloc::Global;
+use std::process::Abort;
+use test_support::open_grid;
+
+/// A fleet on its map, of which the agents' numbers are below that of `agents`.
+#[derive(Drop)]
+pub struct Fleet {
+    pub plans: Plans,
+    pub grid: Grid,
+    pub mode: Mode,
+    pub agents: u32,
+}
+
+impl Fleet {
+    /// Nobody, on an open map of that width and height.
+    pub fn new(
+        rt: &impl Abort,
+        alloc: Global,
+        mode: Mode,
+        (width, height): (u32, u32),
+        agents: u32,
+    ) -> Fleet {
+        Fleet {
+            plans: Plans::new(alloc),
+            grid: open_grid(alloc, width, height).expect(rt, "a map"),
+            mode,
+            agents,
+        }
+    }
+
+    /// How many agents come through the cell.
+    pub fn visitors(&self, cell: Cell) -> usize {
+        let mut count = 0usize;
+        for rank in 0..self.plans.count() {
+            let (_, row) = self.plans.entry_at(rank);
+            if row.plan.cells().contains(&cell) {
+                count = count.saturating_add(1);
+            }
+        }
+        count
+    }
+
+    /// Gives the agent the row.
+    pub fn set(&mut self, rt: &impl Abort, agent: Agent, row: Row) {
+        let _ = self.plans.remove(agent);
+        self.plans.make_room().expect(rt, "memory");
+        self.plans.insert(agent, row);
+    }
+}
