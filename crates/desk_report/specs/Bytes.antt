@@ -1,6 +1,11 @@
 -- What one call at a source gave, and what one call at a sink took (this project's choice).
 use Rattle.std.specs.Prelude.{◌≡◌, ℕ, List, [], ◌∷◌, ◌++◌, take, Option, Some, None, Result, Ok, Err}
 use Rattle.std.specs.Io.KnownBytes.{Appends}
+use Rattle.desk_report.specs.declared.bytes.source.ReadFailed.{ReadFailed}
+
+-- what a call at a source may give, and the source that it then leaves
+abbrev pub Giving : Type 0 → Type 1
+Giving S = S → Result (Option ℕ) ReadFailed → S → Type 0
 
 -- the bytes that a call gave: one, or none at the end and where it failed
 abbrev pub bytes_got : {E : Type 0} → Result (Option ℕ) E → List ℕ

@@ -1,5 +1,5 @@
 //! Sources and sinks that fail, or that count their calls.
-ghost use Rattle.std.specs.Prelude.{◌≡◌, None, Some, false};
+ghost use Rattle.std.specs.Prelude.{◌≡◌, None, Some, false, ⊤};
 
 use desk_report::{ReadFailed, Sink, Source, WriteFailed};
 use std::alloc::Global;
@@ -32,6 +32,8 @@ impl Source for Repeated {
     ghost left = { λ _. None };
 
     ghost failed = { λ _. false };
+
+    ghost gives = { λ _ _ _. ⊤ };
 
     fn next_byte(&mut self) -> Result<Option<u8>, ReadFailed> {
         self.calls = self.calls.saturating_add(1);
@@ -75,6 +77,8 @@ impl<'a> Source for Torn<'a> {
     ghost left = { λ _. None };
 
     ghost failed = { λ t. t.failed };
+
+    ghost gives = { λ _ _ _. ⊤ };
 
     fn next_byte(&mut self) -> Result<Option<u8>, ReadFailed> {
         self.calls = self.calls.saturating_add(1);

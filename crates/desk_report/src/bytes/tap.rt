@@ -1,4 +1,6 @@
 ghost use Rattle.std.specs.Prelude.{◌≡◌, false};
+ghost use Rattle.std.specs.Io.KnownBytes.{Consumes};
+ghost use Rattle.desk_report.specs.Bytes.{bytes_got};
 
 use crate::bytes::source::{ReadFailed, Source};
 use std::io::{ErrorKind, Read};
@@ -35,6 +37,8 @@ impl<R: Read> Source for Tap<R> {
     ghost left = { λ t. R.remaining t.inner };
 
     ghost failed = { λ t. t.failed };
+
+    ghost gives = { λ old got new. Consumes (R.remaining old.inner) (R.remaining new.inner) (bytes_got got) };
 
     fn next_byte(&mut self) -> Result<Option<u8>, ReadFailed> {
         let mut one = [0u8; 1];
