@@ -1,4 +1,7 @@
 pub mod AllLines
+pub mod Pieces
 pub mod Progress
+pub mod Endings
+pub mod Reading
 pub mod MapLines
 pub mod MapDesk

@@ -11,7 +11,7 @@ use Rattle.bench_reader.specs.Lines.{lines_of}
 use Rattle.desk_session.specs.LinesOf.{complete_lines, last_piece}
 use Rattle.desk_session.specs.Start.{HearsMap, Stops, IsFinished}
 use Rattle.desk_session.proofs.AllLines.{piece_lines, lines_of-split}
-use Rattle.desk_session.proofs.Progress.{complete-feed, piece-feed}
+use Rattle.desk_session.proofs.Pieces.{complete-feed, piece-feed}
 
 -- after a line feed, the complete lines are all lines
 pub all_complete : (text : List ℕ) → lines_of (text ++ 10 ∷ []) ≡ complete_lines (text ++ 10 ∷ [])

@@ -6,5 +6,6 @@ pub mod Tellings
 pub mod Table
 pub mod LinesOf
 pub mod Session
+pub mod Reads
 pub mod Answer
 pub mod Start

@@ -1,10 +1,9 @@
 -- Whole sessions: what their lines are answered, and what they leave behind.
 use Rattle.std.specs.Prelude.{◌≡◌, ℕ, ◌+◌, ◌<◌, ◌≤◌, ◌⊎◌, List, [], ◌∷◌, ◌++◌, length, Option, Result, Ok, Err, Bool, true, false, nat_eq}
 use Rattle.std.specs.Io.KnownBytes.{Consumes, IsAtEnd, Appends}
-use Rattle.desk_report.specs.Bytes.{AppendsFront}
 use Rattle.bench_reader.specs.Lines.{lines_of}
 use Rattle.desk_session.specs.LinesOf.{complete_lines, last_piece}
-use Rattle.desk_session.specs.Replies.{session_text}
+use Rattle.desk_session.specs.Replies.{reply_text, session_text}
 use Rattle.desk_session.specs.declared.bounds.Bounds.{Bounds}
 use Rattle.desk_session.specs.declared.bounds.ServeFault.{ServeFault}
 use Rattle.desk_session.specs.declared.bounds.ServeFault.TheVariants.{ReadFailed, WriteFailed, TooManyLines, TooManyBytes, OutOfMemory}
@@ -21,33 +20,47 @@ Run {S} answers old n (line ∷ lines) (reply ∷ replies) new = (mid : S) × an
 Run {S} answers old n [] (reply ∷ replies) new = ⊥
 Run {S} answers old n (line ∷ lines) [] new = ⊥
 
--- how many lines are complete, and how many bytes there are, in what was heard
+-- what was heard has no more lines and bytes than the bounds allow; a line not yet complete counts
 abbrev pub IsWithin : Bounds → List ℕ → Type 0
-IsWithin bounds heard = (length (complete_lines heard) ≤ bounds.lines) × (length heard ≤ bounds.bytes)
+IsWithin bounds heard = (length (lines_of heard) ≤ bounds.lines) × (length heard ≤ bounds.bytes)
+
+-- the text of all replies went out
+abbrev pub SendsAll : (held0 held1 : Option (List ℕ)) → List Reply → Type 0
+SendsAll held0 held1 replies = Appends held0 held1 (session_text replies)
+
+-- the text of all replies but the last went out, and a front of the last one's
+pub record SendsUpToLast (held0 held1 : Option (List ℕ)) (replies : List Reply) : Type 0 where
+  pub earlier : List Reply
+  pub last : Reply
+  pub split : replies ≡ earlier ++ last ∷ []
+  pub front : List ℕ
+  pub unsent : List ℕ
+  pub cut : reply_text last ≡ front ++ unsent
+  pub sent : Appends held0 held1 (session_text earlier ++ front)
 
 -- a session that took the bytes `heard`, and `over` beyond them, and answered those of its lines
-pub record Served {S : Type 0} (answers : Answering S) (left0 left1 held0 held1 : Option (List ℕ)) (old new : S) (lines : List ℕ → List (List ℕ)) (over : List ℕ) (IsEnd : List ℕ → Type 0) (Out : Option (List ℕ) → Option (List ℕ) → List ℕ → Type 0) : Type 0 where
+pub record Served {S : Type 0} (answers : Answering S) (left0 left1 held0 held1 : Option (List ℕ)) (old new : S) (lines : List ℕ → List (List ℕ)) (over : List ℕ) (IsEnd : List ℕ → Type 0) (Sends : (held0 held1 : Option (List ℕ)) → List Reply → Type 0) : Type 0 where
   pub heard : List ℕ
   pub replies : List Reply
   pub taken : Consumes left0 left1 (heard ++ over)
   pub run : Run answers old 1 (lines heard) replies new
-  pub written : Out held0 held1 (session_text replies)
+  pub written : Sends held0 held1 replies
   pub ends : IsEnd heard
 
 -- what a session leaves: at the end of the input, or at the first fault
 abbrev pub Serves : {S : Type 0} → Answering S → Bounds → (left0 left1 held0 held1 : Option (List ℕ)) → S → S → Result ℕ ServeFault → Type 0
 Serves answers bounds left0 left1 held0 held1 old new (Ok n) =
-    Served answers left0 left1 held0 held1 old new lines_of [] (λ heard. IsAtEnd left1 × IsWithin bounds heard × (n ≡ length (lines_of heard)) × (n ≤ bounds.lines)) Appends
+    Served answers left0 left1 held0 held1 old new lines_of [] (λ heard. IsAtEnd left1 × IsWithin bounds heard × (n ≡ length (lines_of heard))) SendsAll
 Serves answers bounds left0 left1 held0 held1 old new (Err ReadFailed) =
-    Served answers left0 left1 held0 held1 old new complete_lines [] (λ heard. IsWithin bounds heard) Appends
+    Served answers left0 left1 held0 held1 old new complete_lines [] (λ heard. IsWithin bounds heard) SendsAll
 Serves answers bounds left0 left1 held0 held1 old new (Err WriteFailed) =
-    Served answers left0 left1 held0 held1 old new lines_of [] (λ heard. IsWithin bounds heard × ((last_piece heard ≡ []) ⊎ IsAtEnd left1)) AppendsFront
+    Served answers left0 left1 held0 held1 old new lines_of [] (λ heard. IsWithin bounds heard × ((last_piece heard ≡ []) ⊎ IsAtEnd left1)) SendsUpToLast
 Serves answers bounds left0 left1 held0 held1 old new (Err TooManyLines) =
-    (byte : ℕ) × Served answers left0 left1 held0 held1 old new complete_lines (byte ∷ []) (λ heard. (length (complete_lines heard) ≡ bounds.lines) × (length heard ≤ bounds.bytes)) Appends
+    (byte : ℕ) × Served answers left0 left1 held0 held1 old new complete_lines (byte ∷ []) (λ heard. (last_piece heard ≡ []) × (length (complete_lines heard) ≡ bounds.lines) × (length heard ≤ bounds.bytes)) SendsAll
 Serves answers bounds left0 left1 held0 held1 old new (Err TooManyBytes) =
-    (byte : ℕ) × Served answers left0 left1 held0 held1 old new complete_lines (byte ∷ []) (λ heard. (length (complete_lines heard) < bounds.lines) × (length heard ≡ bounds.bytes)) Appends
+    (byte : ℕ) × Served answers left0 left1 held0 held1 old new complete_lines (byte ∷ []) (λ heard. (length (complete_lines heard) < bounds.lines) × (length heard ≡ bounds.bytes)) SendsAll
 Serves answers bounds left0 left1 held0 held1 old new (Err OutOfMemory) =
-    (byte : ℕ) × Served answers left0 left1 held0 held1 old new complete_lines (byte ∷ []) (λ heard. IsWithin bounds (heard ++ (byte ∷ [])) × (nat_eq byte 10 ≡ false)) Appends
+    (byte : ℕ) × Served answers left0 left1 held0 held1 old new complete_lines (byte ∷ []) (λ heard. IsWithin bounds (heard ++ (byte ∷ [])) × (nat_eq byte 10 ≡ false)) SendsAll
 
 -- the source failed, and the sink failed
 abbrev pub is_read_failed : {T : Type 0} → Result T ServeFault → Bool

@@ -1,5 +1,6 @@
 ghost use Rattle.std.specs.Prelude.{◌≡◌, ◌||◌};
 ghost use Rattle.desk_session.specs.Answer.{answering};
+ghost use Rattle.desk_session.specs.Reads.{ReadsUntil};
 ghost use Rattle.desk_session.specs.Session.{Serves, is_read_failed, is_write_failed};
 
 use crate::answers::answer;
@@ -15,7 +16,8 @@ use std::alloc::Global;
 ///
 /// # Errors
 ///
-/// The first fault. The lines that were complete by then were answered.
+/// The first fault. The lines that were complete by then were answered; where the sink failed, the
+/// last of them in part.
 pub fn serve<C: Counter, R: Source, W: Sink>(
     alloc: Global,
     counter: &mut C,
@@ -23,7 +25,9 @@ pub fn serve<C: Counter, R: Source, W: Sink>(
     writer: &mut W,
     bounds: Bounds,
 ) -> Result<u32, ServeFault>
-    ensures session { (last : Session) × Serves (answering C.counting) bounds (R.left reader.old) (R.left reader.new) (W.held writer.old) (W.held writer.new) (Session.Idle, counter.old) (last, counter.new) result }
+    ensures session { (last : Session) × Serves (answering C.counting) bounds (R.left reader.old) (R.left reader.new)
+        (W.held writer.old) (W.held writer.new) (Session.Idle, counter.old) (last, counter.new) result }
+    ensures reads { ReadsUntil R.gives reader.old reader.new (is_read_failed result) }
     ensures failed { R.failed reader.new ≡ (R.failed reader.old || is_read_failed result) }
     ensures broken { W.broken writer.new ≡ (W.broken writer.old || is_write_failed result) }
 {

@@ -1,5 +1,6 @@
 ghost use Rattle.std.specs.Prelude.{◌≡◌, ◌||◌, IfOk, IfErr};
 ghost use Rattle.desk_session.specs.Start.{HearsMap, StopsInMap, Starts, is_read_fault, is_write_fault};
+ghost use Rattle.desk_session.specs.Reads.{ReadsUntil};
 ghost use Rattle.desk_session.specs.Session.{is_read_failed};
 
 use crate::bounds::{Bounds, ServeFault, StartFault};
@@ -19,6 +20,7 @@ use std::alloc::Global;
 pub fn hear_map<R: Source>(alloc: Global, reader: &mut R, most: u64) -> Result<Vec<u8>, ServeFault>
     ensures heard { IfOk result (λ text. HearsMap (R.left reader.old) (R.left reader.new) most text.items) }
     ensures stopped { IfErr result (StopsInMap (R.left reader.old) (R.left reader.new) most) }
+    ensures reads { ReadsUntil R.gives reader.old reader.new (is_read_failed result) }
     ensures failed { R.failed reader.new ≡ (R.failed reader.old || is_read_failed result) }
 {
     let mut text: Vec<u8> = Vec::new(alloc);
@@ -66,6 +68,7 @@ pub fn serve_with_map<R: Source, W: Sink>(
     bounds: Bounds,
 ) -> Result<u32, StartFault>
     ensures session { Starts (R.left reader.old) (R.left reader.new) (W.held writer.old) (W.held writer.new) bounds mode limit result }
+    ensures reads { ReadsUntil R.gives reader.old reader.new (is_read_fault result) }
     ensures failed { R.failed reader.new ≡ (R.failed reader.old || is_read_fault result) }
     ensures broken { W.broken writer.new ≡ (W.broken writer.old || is_write_fault result) }
 {

@@ -1,6 +1,12 @@
 use Rattle.std.proofs.Common.{rules, arith, ◌≡◌, ◌<◌, false, nat_eq, length}
-use Rattle.desk_session.proofs.Progress.{progress-byte, progress-line, ends-no_memory, ends-line_unwritten, ends-last_unwritten, ends-last, ends-empty, ends-many_lines, ends-many_bytes}
+use Rattle.desk_session.proofs.Progress.{progress-byte, progress-line}
+use Rattle.desk_session.proofs.Reading.{one-more, then-failed}
+use Rattle.desk_session.proofs.Endings.{ends-unread, ends-no_memory, ends-line_unwritten, ends-last_unwritten, ends-last, ends-empty, ends-many_lines, ends-many_bytes}
 use Rattle.desk_session.proofs.serving.serve.Goals as goal
+
+pub returns-in-Err-clause-session : goal.returns-in-Err-clause-session
+returns-in-Err-clause-session g c =
+    (c.session.session, ends-unread _ c.args.bounds _ _ _ _ _ _ _ _ _ _ 0 c.session.invariant.so_far c.in-Err.ensures.bytes c.session.invariant.lines_within c.session.invariant.bytes_within c.session.invariant.room)
 
 pub returns-then-is_empty-clause-session : goal.returns-then-is_empty-clause-session
 returns-then-is_empty-clause-session g c =
@@ -11,7 +17,7 @@ returns-then-is_empty-clause-session g c =
 pub returns-then-lines-bounds-clause-session : goal.returns-then-lines-bounds-clause-session
 returns-then-lines-bounds-clause-session g c =
     let took = rw c.in-Ok-Some.field-0-is at c.in-Ok-Some.ensures.bytes in
-    (c.session.session, ends-many_lines _ c.args.bounds _ _ _ _ _ _ _ _ _ _ c.in-Ok-Some.byte c.session.invariant.so_far took (omega arith) c.session.invariant.lines_within c.session.invariant.bytes_within)
+    (c.session.session, ends-many_lines _ c.args.bounds _ _ _ _ _ _ _ _ _ _ c.in-Ok-Some.byte c.session.invariant.so_far took (omega arith) c.session.invariant.lines_within c.session.invariant.bytes_within c.session.invariant.room)
 
 pub returns-then-bytes-bounds-clause-session : goal.returns-then-bytes-bounds-clause-session
 returns-then-bytes-bounds-clause-session g c =
@@ -27,6 +33,7 @@ session-preserved-in-Ok-push g c =
       lines_within = search rules;
       bytes_within = omega arith;
       room = λ _. omega arith;
+      well = one-more _ _ _ _ _ c.session.invariant.well c.in-Ok-Some.ensures.gives;
       read_sound = search rules;
       write_sound = search rules;
     }
@@ -67,6 +74,7 @@ session-preserved-in-Ok-put_reply g c =
       lines_within = omega arith;
       bytes_within = omega arith;
       room = search rules;
+      well = one-more _ _ _ _ _ c.session.invariant.well c.in-Ok-Some.ensures.gives;
       read_sound = search rules;
       write_sound = search rules;
     }
@@ -81,6 +89,32 @@ session-preserved g c =
       lines_within = omega arith;
       bytes_within = omega arith;
       room = search rules;
+      well = one-more _ _ _ _ _ c.session.invariant.well c.in-Ok-Some.ensures.gives;
       read_sound = search rules;
       write_sound = search rules;
     }
+
+-- No read is made after one that failed.
+pub returns-in-Err-clause-reads : goal.returns-in-Err-clause-reads
+returns-in-Err-clause-reads g c = then-failed _ _ _ _ _ c.session.invariant.well c.in-Err.ensures.gives
+
+pub returns-then-is_empty-clause-reads : goal.returns-then-is_empty-clause-reads
+returns-then-is_empty-clause-reads g c = one-more _ _ _ _ _ c.session.invariant.well c.in-Ok-None.ensures.gives
+
+pub returns-in-Ok-clause-reads : goal.returns-in-Ok-clause-reads
+returns-in-Ok-clause-reads g c = one-more _ _ _ _ _ c.session.invariant.well c.in-Ok-None.ensures.gives
+
+pub returns-in-Err-put_reply-clause-reads : goal.returns-in-Err-put_reply-clause-reads
+returns-in-Err-put_reply-clause-reads g c = one-more _ _ _ _ _ c.session.invariant.well c.in-Ok-None.ensures.gives
+
+pub returns-then-lines-bounds-clause-reads : goal.returns-then-lines-bounds-clause-reads
+returns-then-lines-bounds-clause-reads g c = one-more _ _ _ _ _ c.session.invariant.well c.in-Ok-Some.ensures.gives
+
+pub returns-then-bytes-bounds-clause-reads : goal.returns-then-bytes-bounds-clause-reads
+returns-then-bytes-bounds-clause-reads g c = one-more _ _ _ _ _ c.session.invariant.well c.in-Ok-Some.ensures.gives
+
+pub returns-in-Err-push-clause-reads : goal.returns-in-Err-push-clause-reads
+returns-in-Err-push-clause-reads g c = one-more _ _ _ _ _ c.session.invariant.well c.in-Ok-Some.ensures.gives
+
+pub returns-in-Err-put_reply-2-clause-reads : goal.returns-in-Err-put_reply-2-clause-reads
+returns-in-Err-put_reply-2-clause-reads g c = one-more _ _ _ _ _ c.session.invariant.well c.in-Ok-Some.ensures.gives

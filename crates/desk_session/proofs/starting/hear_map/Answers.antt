@@ -3,8 +3,9 @@ use Rattle.std.proofs.KnownBytes.{Consumes-trans}
 use Rattle.bench_reader.specs.Announced.{rows_announced}
 use Rattle.bench_reader.specs.Lines as text_lines
 use Rattle.desk_session.specs.LinesOf.{complete_lines}
-use Rattle.desk_session.proofs.Progress.{complete-byte}
+use Rattle.desk_session.proofs.Pieces.{complete-byte}
 use Rattle.desk_session.proofs.MapLines.{Told, told-fourth, told-other, hears-whole, stops-over}
+use Rattle.desk_session.proofs.Reading.{one-more, then-failed}
 use Rattle.desk_session.proofs.starting.hear_map.Goals as goal
 use Rattle.desk_session.proofs.starting.hear_map.Goals.{then-lines-eq4, else-lines-eq4}
 
@@ -43,6 +44,7 @@ map-preserved-else-lines-wanted g c =
       told = ap (λ (lines : List (List ℕ)). 4 + rows_announced lines) same ∙ told.is;
       unfinished = c.if-lines-wanted.false;
       few = told.few;
+      well = one-more _ _ _ _ _ c.map.invariant.well c.in-Ok-Some.ensures.gives;
       sound = search rules;
     }
 
@@ -58,5 +60,22 @@ map-preserved g c =
       told = ap (λ (lines : List (List ℕ)). 4 + rows_announced lines) same ∙ c.map.invariant.told;
       unfinished = c.map.invariant.unfinished;
       few = c.map.invariant.few;
+      well = one-more _ _ _ _ _ c.map.invariant.well c.in-Ok-Some.ensures.gives;
       sound = search rules;
     }
+
+-- No read is made after one that failed.
+pub returns-in-Err-clause-reads : goal.returns-in-Err-clause-reads
+returns-in-Err-clause-reads g c = then-failed _ _ _ _ _ c.map.invariant.well c.in-Err.ensures.gives
+
+pub returns-in-Ok-None-clause-reads : goal.returns-in-Ok-None-clause-reads
+returns-in-Ok-None-clause-reads g c = one-more _ _ _ _ _ c.map.invariant.well c.in-Ok-None.ensures.gives
+
+pub returns-in-Err-push-clause-reads : goal.returns-in-Err-push-clause-reads
+returns-in-Err-push-clause-reads g c = one-more _ _ _ _ _ c.map.invariant.well c.in-Ok-Some.ensures.gives
+
+pub returns-then-len-most-clause-reads : goal.returns-then-len-most-clause-reads
+returns-then-len-most-clause-reads g c = one-more _ _ _ _ _ c.map.invariant.well c.in-Ok-Some.ensures.gives
+
+pub returns-then-lines-wanted-clause-reads : goal.returns-then-lines-wanted-clause-reads
+returns-then-lines-wanted-clause-reads g c = one-more _ _ _ _ _ c.map.invariant.well c.in-Ok-Some.ensures.gives

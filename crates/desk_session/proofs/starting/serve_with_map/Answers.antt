@@ -1,6 +1,7 @@
 use Rattle.std.proofs.Common.{rules, inl, ◌≡◌, ◌-◌, length}
 use Rattle.desk_session.specs.Start.{desk_of}
 use Rattle.desk_session.proofs.MapDesk.{started}
+use Rattle.desk_session.proofs.Reading.{and-then, until-then}
 use Rattle.desk_session.proofs.starting.serve_with_map.Goals as goal
 
 pub returns-in-Ok-serve-clause-session : goal.returns-in-Ok-serve-clause-session
@@ -18,3 +19,10 @@ returns-clause-session g c =
     let bytes : c.args.bounds.bytes - c.len.result ≡ c.args.bounds.bytes - length c.in-Ok.text.items = search rules in
     let (last, session) = c.in-Err-serve.ensures.session in
     inl (started _ _ _ _ _ c.args.bounds c.args.mode c.args.limit _ c.in-Ok.text.items c.in-Ok-read_map.grid last _ _ _ c.in-Ok.ensures.heard map opened bytes session)
+
+-- The map was read to its end, and then the session's reads followed.
+pub returns-in-Ok-serve-clause-reads : goal.returns-in-Ok-serve-clause-reads
+returns-in-Ok-serve-clause-reads g c = and-then _ _ _ _ c.in-Ok.ensures.reads c.in-Ok-serve.ensures.reads
+
+pub returns-clause-reads : goal.returns-clause-reads
+returns-clause-reads g c = until-then _ _ _ _ _ c.in-Ok.ensures.reads c.in-Err-serve.ensures.reads

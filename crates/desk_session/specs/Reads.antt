@@ -1,0 +1,26 @@
+-- What the reads of a session gave: none failed, or the last one alone (this project's choice).
+use Rattle.std.specs.Prelude.{◌≡◌, ℕ, List, [], ◌∷◌, Option, Ok, Err, Bool, true, false}
+use Rattle.desk_report.specs.Bytes.{Giving}
+use Rattle.desk_report.specs.declared.bytes.source.ReadFailed.{ReadFailed}
+
+-- one read after the other gives these, a byte or the end, and leaves the new source
+abbrev pub Reads : {S : Type 0} → Giving S → S → List (Option ℕ) → S → Type 0
+Reads gives old [] new = new ≡ old
+Reads {S} gives old (byte ∷ bytes) new = (mid : S) × gives old (Ok byte) mid × Reads gives mid bytes new
+
+-- no read failed
+pub record NoneFailed {S : Type 0} (gives : Giving S) (old new : S) : Type 0 where
+  pub given : List (Option ℕ)
+  pub reads : Reads gives old given new
+
+-- the last read failed, and none before it
+pub record LastFailed {S : Type 0} (gives : Giving S) (old new : S) : Type 0 where
+  pub before : S
+  pub well : NoneFailed gives old before
+  pub why : ReadFailed
+  pub failed : gives before (Err why) new
+
+-- no read was made after one that failed
+abbrev pub ReadsUntil : {S : Type 0} → Giving S → S → S → Bool → Type 0
+ReadsUntil gives old new false = NoneFailed gives old new
+ReadsUntil gives old new true = LastFailed gives old new
