@@ -1,5 +1,5 @@
 //! Lines, one of which is heard and answered with too little memory.
-ghost use Rattle.std.specs.Prelude.{None, false};
+ghost use Rattle.std.specs.Prelude.{None, false, ⊤};
 
 use desk_report::{ReadFailed, Source};
 use test_droughts::Drought;
@@ -64,6 +64,8 @@ impl<'a> Source for Parched<'a> {
     ghost left = { λ _. None };
 
     ghost failed = { λ _. false };
+
+    ghost gives = { λ _ _ _. ⊤ };
 
     fn next_byte(&mut self) -> Result<Option<u8>, ReadFailed> {
         if self.is_at_line() {

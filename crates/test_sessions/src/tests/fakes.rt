@@ -1,5 +1,5 @@
 //! Sources and sinks that fail, or never end, and sessions over a desk of one cell.
-ghost use Rattle.std.specs.Prelude.{None, Some, false};
+ghost use Rattle.std.specs.Prelude.{None, Some, false, ⊤};
 
 use desk_core::{Desk, Limit, Scene};
 use desk_report::{ReadFailed, Sink, Source, WriteFailed};
@@ -36,6 +36,8 @@ impl Source for Endless {
 
     ghost failed = { λ _. false };
 
+    ghost gives = { λ _ _ _. ⊤ };
+
     fn next_byte(&mut self) -> Result<Option<u8>, ReadFailed> {
         self.calls = self.calls.saturating_add(1);
         Ok(Some(self.byte))
@@ -54,6 +56,8 @@ impl<'a> Source for Torn<'a> {
     ghost left = { λ _. None };
 
     ghost failed = { λ t. t.failed };
+
+    ghost gives = { λ _ _ _. ⊤ };
 
     fn next_byte(&mut self) -> Result<Option<u8>, ReadFailed> {
         if self.given < self.bytes.len() {
