@@ -2,3 +2,5 @@ pub mod Running
 pub mod ScriptSessions
 pub mod Numbering
 pub mod SameReports
+pub mod Coming
+pub mod Returning

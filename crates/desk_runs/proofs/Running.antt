@@ -1,74 +1,41 @@
--- From a session to the run that it was served in.
-use Rattle.std.proofs.Common.{◌≡◌, ℕ, List, [], Option, None, Result, Ok, Err, inl, inr, refl, subst}
+-- A run of `serve` is a session over the desk of its files, with no journal, of which the end is told.
+use Rattle.std.proofs.Common.{◌≡◌, ℕ, List, Option, Some, None, Result, Ok, Err, inl, inr, refl, ap, subst}
 use Rattle.plan_table.specs.declared.tracks.Mode.{Mode}
-use Rattle.scene_edits.specs.Scene.{SceneState}
-use Rattle.desk_core.specs.State.{DeskState, opening}
+use Rattle.desk_core.specs.State.{DeskState}
 use Rattle.desk_session.specs.Answer.{answering}
 use Rattle.desk_session.specs.Counting.{desk_counting}
 use Rattle.desk_session.specs.Session.{Serves}
-use Rattle.desk_session.specs.Start.{Started, Starts}
 use Rattle.desk_session.specs.declared.bounds.Bounds.{Bounds}
 use Rattle.desk_session.specs.declared.bounds.ServeFault.{ServeFault}
-use Rattle.desk_session.specs.declared.bounds.StartFault.{StartFault}
-use Rattle.desk_session.specs.declared.bounds.StartFault.TheVariants.{Map, Serve}
-use Rattle.desk_session.specs.declared.drafts.Session.{Session}
 use Rattle.desk_session.specs.declared.drafts.Session.TheVariants.{Idle}
-use Rattle.desk_runs.specs.Faults.{of_map, of_start, run_answer}
-use Rattle.desk_runs.specs.Opens.{Opens}
-use Rattle.desk_runs.specs.Runs.{RunsOver, RunsAfterMap, Runs, run_bounds}
+use Rattle.desk_runs.specs.Faults.{run_answer}
+use Rattle.desk_runs.specs.Runs.{RunsOver, Runs, run_bounds}
+use Rattle.desk_runs.specs.Sittings.{SitsOver, Sits}
 use Rattle.desk_runs.specs.declared.faults.RunFault.{RunFault}
 
--- a session over the desk of the scene
-pub served : (map : List ℕ) (scen : Option (List ℕ)) (agents : ℕ) (mode : Mode) (limit : ℕ) (bounds : Bounds) (left0 left1 held0 held1 : Option (List ℕ)) (scene : SceneState) (desk after : DeskState) (result : Result ℕ ServeFault) → Opens map scen agents mode scene → desk ≡ opening scene limit → ((last : Session) × Serves (answering desk_counting) bounds left0 left1 held0 held1 (Idle, desk) (last, after) result) → RunsOver map scen agents mode limit bounds left0 left1 held0 held1 (run_answer result)
-served map scen agents mode limit bounds left0 left1 held0 held1 scene desk after result opens is session =
-    inl (record {
-      scene = scene;
-      opens = opens;
-      last = session.0;
-      desk = after;
-      ended = result;
-      session = subst (λ d. Serves (answering desk_counting) bounds left0 left1 held0 held1 (Idle, d) (session.0, after) result) is session.1;
-      told = refl;
-    })
+-- what a run answers that ended so
+abbrev pub sat_answer : Result (DeskState × Result ℕ ServeFault) RunFault → Result ℕ RunFault
+sat_answer (Ok sat) = run_answer sat.1
+sat_answer (Err fault) = Err fault
 
--- what a run answers whose session over a map ended so
-abbrev pub start_answer : Result ℕ StartFault → Result ℕ RunFault
-start_answer (Ok lines) = Ok lines
-start_answer (Err why) = Err (of_start why)
-
-module _ (left0 left1 held0 held1 : Option (List ℕ)) (agents : ℕ) (mode : Mode) (limit : ℕ) where
-  after_map : (result : Result ℕ ServeFault) → Started left0 left1 held0 held1 run_bounds mode limit result → RunsAfterMap None agents mode limit left0 left1 held0 held1 (run_answer result)
-  after_map result way =
-      record {
-        text = way.text;
-        between = way.between;
-        heard = way.heard;
-        runs = inl (record {
-          scene = record { grid = way.grid; rows = []; mode = mode };
-          opens = record { grid = way.grid; reads = way.map; is = refl };
-          last = way.last;
-          desk = way.desk;
-          ended = result;
-          session = way.session;
-          told = refl;
-        });
-      }
-
-  -- a session over a map that came first
-  pub started : (result : Result ℕ StartFault) → Starts left0 left1 held0 held1 run_bounds mode limit result → Runs None None agents mode limit left0 left1 held0 held1 (start_answer result)
-  started (Ok n) way = inl (after_map (Ok n) way)
-  started (Err (Map why)) (text, heard, first, silent) =
+module _ (scen : Option (List ℕ)) (agents : ℕ) (mode : Mode) (limit : ℕ) where
+  ran_over : (map : List ℕ) (bounds : Bounds) (left0 left1 held0 held1 : Option (List ℕ)) (result : Result (DeskState × Result ℕ ServeFault) RunFault) → SitsOver map scen agents mode limit None bounds left0 left1 held0 held1 result → RunsOver map scen agents mode limit bounds left0 left1 held0 held1 (sat_answer result)
+  ran_over map bounds left0 left1 held0 held1 (Ok sat) is =
       inl (record {
-        text = text;
-        between = left1;
-        heard = heard;
-        runs = inr (record {
-          fault = of_map why;
-          first = record { why = why; first = first; told = refl };
-          told = refl;
-          unread = refl;
-          silent = silent;
-        });
+        scene = is.opens.scene;
+        opens = is.opens.opens;
+        last = is.last;
+        desk = sat.0;
+        ended = sat.1;
+        session = subst (λ d. Serves (answering desk_counting) bounds left0 left1 held0 held1 (Idle, d) (is.last, sat.0) sat.1) is.opens.replays is.session;
+        told = refl;
       })
-  started (Err (Serve why)) (inl way) = inl (after_map (Err why) way)
-  started (Err (Serve why)) (inr (stops, silent)) = inr (record { why = why; stops = stops; told = refl; silent = silent })
+  ran_over map bounds left0 left1 held0 held1 (Err fault) (inl first, unread, silent) = inr (record { fault = fault; first = first; told = refl; unread = unread; silent = silent })
+  ran_over map bounds left0 left1 held0 held1 (Err fault) (inr entry, unread, silent) = absurd entry.first
+
+  pub ran : (map : Option (List ℕ)) (left0 left1 held0 held1 : Option (List ℕ)) (result : Result (DeskState × Result ℕ ServeFault) RunFault) → Sits map scen agents mode limit None left0 left1 held0 held1 result → Runs map scen agents mode limit left0 left1 held0 held1 (sat_answer result)
+  ran (Some map) left0 left1 held0 held1 result is = ran_over map run_bounds left0 left1 held0 held1 result is
+  ran None left0 left1 held0 held1 (Ok sat) is = inl (record { text = is.text; between = is.between; heard = is.heard; runs = ran_over is.text _ is.between left1 held0 held1 (Ok sat) is.sits })
+  ran None left0 left1 held0 held1 (Err fault) (inl is) = inl (record { text = is.text; between = is.between; heard = is.heard; runs = ran_over is.text _ is.between left1 held0 held1 (Err fault) is.sits })
+  ran None left0 left1 held0 held1 (Err fault) (inr is) =
+      inr (record { why = is.why; stops = is.stops; told = ap (λ (f : RunFault). let r : Result ℕ RunFault = Err f in r) is.told; silent = is.silent })

@@ -1,21 +1,15 @@
 -- A run of `audit`: the report of the scene that the run opens and a journal's entries edit (this project's choice).
-use Rattle.std.specs.Prelude.{◌≡◌, ℕ, List, Option, Some, None, Ok}
+use Rattle.std.specs.Prelude.{ℕ, List, Option}
 use Rattle.std.specs.Io.KnownBytes.{Appends}
 use Rattle.plan_table.specs.declared.tracks.Mode.{Mode}
 use Rattle.scene_edits.specs.Scene.{SceneState}
 use Rattle.desk_report.specs.Report.{IsReportOf}
 use Rattle.desk_report.specs.declared.reports.Report.{Report}
-use Rattle.desk_core.specs.State.{DeskState, opening, version_of}
-use Rattle.desk_core.specs.Replays.{Log, IsReplay}
+use Rattle.desk_core.specs.State.{DeskState, version_of}
 use Rattle.desk_core.specs.declared.limits.TheConstants.{MOST_ENTRIES}
-use Rattle.desk_journal.specs.Reading.{ReadsAs}
+use Rattle.desk_runs.specs.Opened.{Replays}
 use Rattle.desk_runs.specs.Opens.{Opens}
 use Rattle.desk_runs.specs.Reported.{reported_text}
-
--- the desk that is opened on the scene and, where a journal's text is given, commits its entries
-abbrev pub Replays : Option (List ℕ) → SceneState → DeskState → Type 0
-Replays None scene desk = desk ≡ opening scene MOST_ENTRIES
-Replays (Some text) scene desk = (log : Log) × ReadsAs text (Ok log) × IsReplay scene MOST_ENTRIES log (Ok desk)
 
 -- what an audit that comes to its end has written
 pub record Audits (map : List ℕ) (scen : Option (List ℕ)) (agents : ℕ) (mode : Mode) (journal : Option (List ℕ)) (held0 held1 : Option (List ℕ)) : Type 0 where
@@ -23,6 +17,6 @@ pub record Audits (map : List ℕ) (scen : Option (List ℕ)) (agents : ℕ) (mo
   pub desk : DeskState
   pub report : Report
   pub opens : Opens map scen agents mode scene
-  pub replays : Replays journal scene desk
+  pub replays : Replays journal scene MOST_ENTRIES desk
   pub told : IsReportOf desk.scene.grid desk.scene.mode desk.scene.rows report
   pub written : Appends held0 held1 (reported_text (version_of desk) report)

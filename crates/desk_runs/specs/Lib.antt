@@ -1,6 +1,9 @@
 pub mod Faults
 pub mod Opens
+pub mod Opened
 pub mod Runs
+pub mod Sittings
+pub mod Saved
 pub mod Reported
 pub mod Audits
 pub mod Drills

@@ -1,16 +1,14 @@
 ghost use Rattle.std.specs.Prelude.{◌≤◌, IfOk, OnOk, option_map};
 ghost use Rattle.desk_report.specs.Report.{IsReportOf};
-ghost use Rattle.desk_runs.specs.Audits.{Audits, Replays};
+ghost use Rattle.desk_runs.specs.Audits.{Audits};
 
 use crate::faults::RunFault;
+use crate::opening::open_desk;
 use crate::reporting::put_report;
-use crate::scenes::scene_of;
 use desk_audit::{AuditFault, NoGate, audit};
-use desk_core::{Desk, Limit, MOST_ENTRIES, replay};
+use desk_core::{Desk, Limit, MOST_ENTRIES};
 use desk_report::{Report, Sink, WriteFailed};
-use desk_session::read_journal;
 use plan_table::Mode;
-use scene_edits::Scene;
 use std::alloc::Global;
 use std::sync::Wait;
 use std::thread::Threads;
@@ -37,11 +35,10 @@ pub fn run_audit<T: Threads + Wait, W: Sink>(
     requires workers { (1 ≤ workers) × (workers ≤ 64) }
     ensures { OnOk result (Audits map.now (option_map (λ text. text.now) scen.entry) agents mode (option_map (λ text. text.now) journal.entry) (W.held writer.old) (W.held writer.new)) }
 {
-    let scene = match scene_of(alloc, map, scen, agents, mode) {
-        Ok(scene) => scene,
-        Err(fault) => return Err(fault),
+    let Some(limit) = Limit::new(MOST_ENTRIES) else {
+        unreachable!()
     };
-    let desk = match replayed(alloc, scene, journal) {
+    let desk = match open_desk(alloc, map, scen, agents, limit, mode, journal) {
         Ok(desk) => desk,
         Err(fault) => return Err(fault),
     };
@@ -73,25 +70,5 @@ pub fn report_of<T: Threads + Wait>(
         Ok(report) => Ok(report),
         Err(AuditFault::BadWorkers) => unreachable!(),
         Err(AuditFault::OutOfMemory) => Err(RunFault::OutOfMemory),
-    }
-}
-
-// The desk that is opened on the scene and commits the entries of a journal's text.
-fn replayed(alloc: Global, scene: Scene, journal: Option<&[u8]>) -> Result<Desk, RunFault>
-    ensures { IfOk result (Replays (option_map (λ text. text.now) journal.entry) scene) }
-{
-    let Some(limit) = Limit::new(MOST_ENTRIES) else {
-        unreachable!()
-    };
-    let Some(text) = journal else {
-        return Ok(Desk::open(alloc, scene, limit));
-    };
-    let journal = match read_journal(alloc, text) {
-        Ok(journal) => journal,
-        Err(fault) => return Err(RunFault::from(fault)),
-    };
-    match replay(alloc, scene, limit, journal) {
-        Ok(desk) => Ok(desk),
-        Err(fault) => Err(RunFault::from(fault)),
     }
 }

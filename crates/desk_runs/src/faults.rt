@@ -127,6 +127,9 @@ pub enum Fault<'a> {
     /// A file can't be opened or read, or has too many bytes.
     #[error("can't read {file}")]
     CannotRead { file: &'a str },
+    /// The desk's journal can't be saved in a file, which is then as it was.
+    #[error("can't write {file}")]
+    CannotWrite { file: &'a str },
     #[error("{0}")]
     Run(RunFault),
 }

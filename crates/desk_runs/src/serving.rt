@@ -1,11 +1,12 @@
 ghost use Rattle.std.specs.Prelude.{option_map};
-ghost use Rattle.desk_runs.specs.Runs.{Runs, RunsOver};
+ghost use Rattle.desk_runs.specs.Runs.{Runs};
+ghost use Rattle.desk_runs.specs.Sittings.{Sits, SitsOver};
 
 use crate::faults::RunFault;
-use crate::scenes::scene_of;
+use crate::opening::open_desk;
 use desk_core::{Desk, Limit};
 use desk_report::{Sink, Source};
-use desk_session::{Bounds, hear_map, serve, serve_with_map};
+use desk_session::{Bounds, ServeFault, hear_map, serve};
 use plan_table::Mode;
 use std::alloc::Global;
 
@@ -21,8 +22,8 @@ pub const BOUNDS: Bounds = Bounds {
     bytes: MOST_BYTES,
 };
 
-/// Serves a session over a map and the agents of the first tasks of a scenario. Where no map is
-/// handed in, its text comes first from the reader. Answers how many lines the session had.
+/// Serves a session over the desk of a map and the agents of the first tasks of a scenario. Where no
+/// map is handed in, its text comes first from the reader. Answers how many lines the session had.
 ///
 /// # Errors
 ///
@@ -40,50 +41,76 @@ pub fn run_serve<R: Source, W: Sink>(
 ) -> Result<u32, RunFault>
     ensures { Runs (option_map (λ text. text.now) map.entry) (option_map (λ text. text.now) scen.entry) agents mode limit (R.left reader.old) (R.left reader.new) (W.held writer.old) (W.held writer.new) result }
 {
-    match (map, scen) {
-        (None, None) => match serve_with_map(alloc, reader, writer, limit, mode, BOUNDS) {
+    match serve_desk(alloc, map, scen, agents, limit, mode, None, reader, writer) {
+        Ok((_desk, ended)) => match ended {
             Ok(lines) => Ok(lines),
             Err(fault) => Err(RunFault::from(fault)),
         },
-        (None, Some(_)) => {
-            let text = match hear_map(alloc, reader, MOST_BYTES) {
-                Ok(text) => text,
-                Err(fault) => return Err(RunFault::from(fault)),
-            };
-            let rest = Bounds {
-                lines: MOST_LINES,
-                bytes: MOST_BYTES - text.len() as u64,
-            };
-            let map = text.as_slice();
-            serve_scene(alloc, map, scen, agents, limit, mode, reader, writer, rest)
-        }
-        (Some(map), scen) => serve_scene(
-            alloc, map, scen, agents, limit, mode, reader, writer, BOUNDS,
-        ),
+        Err(fault) => Err(fault),
     }
 }
 
-// Opens the scene, and serves a session over its desk.
-fn serve_scene<R: Source, W: Sink>(
+/// Serves a session as `run_serve` does, over a desk that first commits a journal's entries, and
+/// hands back the desk as the session left it, beside how many lines the session had, or its fault.
+///
+/// # Errors
+///
+/// The first fault of the map, the scenario, the tasks and the journal, or want of memory: there is
+/// no desk then, and nothing is written.
+pub fn serve_desk<R: Source, W: Sink>(
+    alloc: Global,
+    map: Option<&[u8]>,
+    scen: Option<&[u8]>,
+    agents: u32,
+    limit: Limit,
+    mode: Mode,
+    journal: Option<&[u8]>,
+    reader: &mut R,
+    writer: &mut W,
+) -> Result<(Desk, Result<u32, ServeFault>), RunFault>
+    ensures { Sits (option_map (λ text. text.now) map.entry) (option_map (λ text. text.now) scen.entry) agents mode limit (option_map (λ text. text.now) journal.entry)
+        (R.left reader.old) (R.left reader.new) (W.held writer.old) (W.held writer.new) result }
+{
+    if let Some(map) = map {
+        return serve_over(
+            alloc, map, scen, agents, limit, mode, journal, reader, writer, BOUNDS,
+        );
+    }
+    let text = match hear_map(alloc, reader, MOST_BYTES) {
+        Ok(text) => text,
+        Err(fault) => return Err(RunFault::from(fault)),
+    };
+    let rest = Bounds {
+        lines: MOST_LINES,
+        bytes: MOST_BYTES - text.len() as u64,
+    };
+    let map = text.as_slice();
+    serve_over(
+        alloc, map, scen, agents, limit, mode, journal, reader, writer, rest,
+    )
+}
+
+// Opens the desk, and serves a session over it.
+fn serve_over<R: Source, W: Sink>(
     alloc: Global,
     map: &[u8],
     scen: Option<&[u8]>,
     agents: u32,
     limit: Limit,
     mode: Mode,
+    journal: Option<&[u8]>,
     reader: &mut R,
     writer: &mut W,
     bounds: Bounds,
-) -> Result<u32, RunFault>
-    ensures { RunsOver map.now (option_map (λ text. text.now) scen.entry) agents mode limit bounds (R.left reader.old) (R.left reader.new) (W.held writer.old) (W.held writer.new) result }
+) -> Result<(Desk, Result<u32, ServeFault>), RunFault>
+    ensures { SitsOver map.now (option_map (λ text. text.now) scen.entry) agents mode limit (option_map (λ text. text.now) journal.entry) bounds
+        (R.left reader.old) (R.left reader.new) (W.held writer.old) (W.held writer.new) result }
 {
-    let scene = match scene_of(alloc, map, scen, agents, mode) {
-        Ok(scene) => scene,
-        Err(fault) => return Err(fault),
-    };
-    let mut desk = Desk::open(alloc, scene, limit);
-    match serve(alloc, &mut desk, reader, writer, bounds) {
-        Ok(lines) => Ok(lines),
-        Err(fault) => Err(RunFault::from(fault)),
+    match open_desk(alloc, map, scen, agents, limit, mode, journal) {
+        Ok(mut desk) => {
+            let ended = serve(alloc, &mut desk, reader, writer, bounds);
+            Ok((desk, ended))
+        }
+        Err(fault) => Err(fault),
     }
 }
