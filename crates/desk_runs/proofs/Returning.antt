@@ -59,21 +59,21 @@ module _ (scene : SceneState) (limit larger : ℕ) (desk : DeskState) (on : Goes
       let same : log ≡ log_of desk = one-journal (saved_text desk) log (log_of desk) reads.0 lawful reads.1 (inl refl) in
       let again = subst (λ (l : Log). IsReplay scene larger l result) (same ∙ same_log) replay in
       elim (legal_journals_replay_holds scene limit larger on.entries result more on.legal again) [
-        inl back ↦ inl (ap replay_answer back ∙ ap (λ (d : DeskState). let r : Result DeskState RunFault = Ok d in r) larger_made)
-      | inr none ↦ inr (ap replay_answer none)
+        | inl back ↦ inl (ap replay_answer back ∙ ap (λ (d : DeskState). let r : Result DeskState RunFault = Ok d in r) larger_made)
+        | inr none ↦ inr (ap replay_answer none)
       ]
 
   pub comes_back : (result : Result DeskState RunFault) → ReplaysAs (Some (saved_text desk)) scene larger result → ComesBack larger desk result
   comes_back (Ok back) (log, reads, replay) = replayed log (Ok back) reads replay
   comes_back (Err fault) (inl is) =
       inr (ap failed is.told ∙ elim (reads-back (log_of desk) (saved_text desk) (Err is.why) lawful (inl refl) is.first) [
-        inl e ↦ ap (λ (r : Result Log JournalFault). failed (text_fault r)) e
-      | inr e ↦ ap (λ (r : Result Log JournalFault). failed (text_fault r)) e
+        | inl e ↦ ap (λ (r : Result Log JournalFault). failed (text_fault r)) e
+        | inr e ↦ ap (λ (r : Result Log JournalFault). failed (text_fault r)) e
       ])
   comes_back (Err fault) (inr is) =
       elim (replayed is.log (Err is.why) is.reads is.first) [
-        inl back ↦ inl (ap failed is.told ∙ back)
-      | inr none ↦ inr (ap failed is.told ∙ none)
+        | inl back ↦ inl (ap failed is.told ∙ back)
+        | inr none ↦ inr (ap failed is.told ∙ none)
       ]
 
 -- a reading doesn't look at the limit
@@ -84,6 +84,6 @@ pub saved_desks_come_back_holds : SavedDesksComeBack
 saved_desks_come_back_holds journal scene limit larger start desk bounds left0 left1 held0 held1 first last ended result opened served lawful more replays =
     let on = goes_on (opening scene limit) start desk (opening_goes_on journal scene limit start opened) (session_goes_on bounds left0 left1 held0 held1 first last start desk ended served) in
     elim (comes_back scene limit larger desk on lawful more result replays) [
-      inl back ↦ inl (back, shows_under larger desk)
-    | inr none ↦ inr none
+      | inl back ↦ inl (back, shows_under larger desk)
+      | inr none ↦ inr none
     ]
