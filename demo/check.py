@@ -3,9 +3,9 @@
 
     demo/check.py ./desk demo/corridor.map demo/corridor.scen 2 demo/corridor.paths
 
-PATHS has a line `path A X,Y X,Y ..` for each agent, from 0; blank lines and those that begin with # don't count. X
-is the column, Y the row, one cell for each time from 0, the first the agent's start of SCEN. KIND is one or more of vertex, edge, follow, swap and cycle; vertex and swap where
-none is named, the classical check.
+PATHS has a line `path A X,Y X,Y ..` for each agent, from 0; blank lines and those that begin with # don't count. X is
+the column, Y the row; there is one cell for each time from 0, the first being the agent's start of SCEN. KIND is one or
+more of vertex, edge, follow, swap and cycle; vertex and swap where none is named, the classical check.
 
 Status 0, and `right`: every agent comes to its goal and rests there, no path crosses a closed cell, and there is no
 conflict of these kinds. Status 1, and the report: something of that is wrong. Status 2: a file is no map, scenario or
