@@ -5,7 +5,8 @@
 
 PATHS has a line `path A X,Y X,Y ..` for each agent, from 0; blank lines and those that begin with # don't count. X is
 the column, Y the row; there is one cell for each time from 0, the first being the agent's start of SCEN. KIND is one or
-more of vertex, edge, follow, swap and cycle; vertex and swap where none is named, the classical check.
+more of vertex, edge, follow, swap and cycle; vertex and swap where none is named, the classical check. AGENTS: the first
+so many tasks of SCEN. An agent without a line rests at its start; of two lines the later one counts. The mode is stay.
 
 Status 0, and `right`: every agent comes to its goal and rests there, no path crosses a closed cell, and there is no
 conflict of these kinds. Status 1, and the report: something of that is wrong. Status 2: a file is no map, scenario or
@@ -34,10 +35,12 @@ def main(words):
             return NO_VERDICT
     question = "solves " + " ".join(kinds or ["vertex", "swap"])
     session = "\n".join([*lines, question, "report"]) + "\n"
-    ran = subprocess.run(
-        [program, "serve", "--map", grid, "--scen", tasks, "--agents", agents],
-        input=session, capture_output=True, text=True,
-    )
+    words = [program, "serve", "--map", grid, "--scen", tasks, "--agents", agents]
+    try:
+        ran = subprocess.run(words, input=session, capture_output=True, text=True)
+    except OSError as why:
+        print(f"{program}: {why}", file=sys.stderr)
+        return NO_VERDICT
     if ran.returncode:
         print(ran.stderr, end="", file=sys.stderr)
         return NO_VERDICT

@@ -384,6 +384,8 @@ def demo_check():
     want("the verdict on no file", checked("m", "s", "1", "none"), (2, "", "none: [Errno 2] No such file or directory: 'none'"))
     want("the verdict on no map", checked("none", "s", "1", "paths"), (2, "", "mapf_desk: can't read none"))
     want("the verdict on no words", checked("m")[0], 2)
+    words = [sys.executable, f"{TOP}/demo/check.py", "./none", "m", "s", "1", "paths"]
+    want("the status with no program", subprocess.run(words, capture_output=True, timeout=PATIENCE).returncode, 2)
 
 
 def demo_audit():
