@@ -1,35 +1,44 @@
 //! The word `audit`.
+use crate::details::Texts;
 use crate::files::{file_bytes, named_bytes};
+use crate::finishing::finish;
+use crate::stages::tell_stage;
+use crate::telling::More;
 use crate::words::AuditWords;
 use desk_report::Spout;
 use desk_runs::{Fault, RunFault, run_audit};
+use std::alloc::Global;
 use std::io;
 use std::io::{BufWriter, Write};
 use std::rt::Files;
 use std::sync::Wait;
 use std::thread::Threads;
 
-/// Audits as the words ask for, onto standard output.
+/// Audits as the words ask for, onto standard output. Where it is wanted, its stages are told on
+/// standard error.
 ///
 /// # Errors
 ///
 /// What the words lack, a file that can't be read, or the run's fault.
-pub fn audit_files<'a, R: Files + AllocGlobal + Print + Threads + Wait>(
+pub fn audit_files<'a, R: Files + AllocGlobal + Print + Eprint + Threads + Wait>(
     rt: &R,
     words: &AuditWords<'a>,
+    stages: bool,
+    more: &mut More,
 ) -> Result<(), Fault<'a>> {
     if words.agents > 0 && words.scen.is_none() {
         return Err(Fault::AgentsWithoutScen);
     }
-    let map = match file_bytes(rt, words.map) {
+    tell_stage(rt, stages, "reading the files");
+    let map = match file_bytes(rt, words.map, more) {
         Ok(map) => map,
         Err(fault) => return Err(fault),
     };
-    let scen = match named_bytes(rt, words.scen) {
+    let scen = match named_bytes(rt, words.scen, more) {
         Ok(scen) => scen,
         Err(fault) => return Err(fault),
     };
-    let journal = match named_bytes(rt, words.journal) {
+    let journal = match named_bytes(rt, words.journal, more) {
         Ok(journal) => journal,
         Err(fault) => return Err(fault),
     };
@@ -37,24 +46,40 @@ pub fn audit_files<'a, R: Files + AllocGlobal + Print + Threads + Wait>(
     let Ok(buffered) = BufWriter::new(alloc, io::writer(rt)) else {
         return Err(Fault::Run(RunFault::OutOfMemory));
     };
+    let texts = Texts {
+        map: Some(map.as_slice()),
+        scen: scen.as_deref(),
+        journal: journal.as_deref(),
+    };
+    match audit_texts(rt, alloc, texts, words, stages, buffered, more) {
+        Ok(()) => Ok(()),
+        Err(fault) => Err(Fault::Run(fault)),
+    }
+}
+
+// Audits the texts onto a writer.
+fn audit_texts<R: Eprint + Threads + Wait, O: Write + Drop>(
+    rt: &R,
+    alloc: Global,
+    texts: Texts<'_>,
+    words: &AuditWords<'_>,
+    stages: bool,
+    buffered: BufWriter<O>,
+    more: &mut More,
+) -> Result<(), RunFault> {
+    let workers = words.workers.clamp(1, 64);
+    tell_stage(rt, stages, "opening the desk, and auditing it");
     let mut writer = Spout::new(buffered);
     let ended = run_audit(
         rt,
         alloc,
-        map.as_slice(),
-        scen.as_deref(),
+        texts.map.unwrap_or(b""),
+        texts.scen,
         words.agents,
         words.mode,
-        journal.as_deref(),
-        words.workers.clamp(1, 64),
+        texts.journal,
+        workers,
         &mut writer,
     );
-    let mut buffered = writer.into_inner();
-    match ended {
-        Err(fault) => Err(Fault::Run(fault)),
-        Ok(()) => match buffered.flush() {
-            Ok(()) => Ok(()),
-            Err(_) => Err(Fault::Run(RunFault::WriteFailed)),
-        },
-    }
+    finish(alloc, ended, texts, writer.into_inner(), more)
 }

@@ -1,9 +1,14 @@
 //! The word `drill`.
+use crate::details::Texts;
 use crate::files::{file_bytes, named_bytes};
+use crate::finishing::finish;
+use crate::stages::tell_stage;
+use crate::telling::More;
 use crate::words::DrillWords;
 use desk_audit::NoGate;
 use desk_report::Spout;
 use desk_runs::{Fault, RunFault, run_drill};
+use std::alloc::Global;
 use std::io;
 use std::io::{BufWriter, Write};
 use std::rt::Files;
@@ -14,10 +19,11 @@ use std::thread::Threads;
 fn bytes_of_all<'a, R: Files + AllocGlobal>(
     rt: &R,
     files: &[&'a str],
+    more: &mut More,
 ) -> Result<Vec<Vec<u8>>, Fault<'a>> {
     let mut all = Vec::new(rt.alloc());
     for file in files {
-        let bytes = match file_bytes(rt, file) {
+        let bytes = match file_bytes(rt, file, more) {
             Ok(bytes) => bytes,
             Err(fault) => return Err(fault),
         };
@@ -29,40 +35,65 @@ fn bytes_of_all<'a, R: Files + AllocGlobal>(
 }
 
 /// Runs a drill as the words ask for, onto standard output, and answers whether the audit's report
-/// is the same.
+/// is the same. Where it is wanted, its stages are told on standard error.
 ///
 /// # Errors
 ///
 /// What the words lack, a file that can't be read, or the run's fault.
-pub fn drill_files<'a, R: Files + AllocGlobal + Print + Threads + Wait + Sync>(
+pub fn drill_files<'a, R: Files + AllocGlobal + Print + Eprint + Threads + Wait + Sync>(
     rt: &R,
     words: &DrillWords<'a>,
+    stages: bool,
+    more: &mut More,
 ) -> Result<bool, Fault<'a>> {
     if words.agents > 0 && words.scen.is_none() {
         return Err(Fault::AgentsWithoutScen);
     }
-    let map = match file_bytes(rt, words.map) {
+    tell_stage(rt, stages, "reading the files");
+    let map = match file_bytes(rt, words.map, more) {
         Ok(map) => map,
         Err(fault) => return Err(fault),
     };
-    let scen = match named_bytes(rt, words.scen) {
+    let scen = match named_bytes(rt, words.scen, more) {
         Ok(scen) => scen,
         Err(fault) => return Err(fault),
     };
-    let scripts = match bytes_of_all(rt, words.scripts.as_slice()) {
+    let scripts = match bytes_of_all(rt, words.scripts.as_slice(), more) {
         Ok(scripts) => scripts,
         Err(fault) => return Err(fault),
     };
+    tell_stage(rt, stages, "serving the scripts, and auditing the desk");
     let alloc = rt.alloc();
     let Ok(buffered) = BufWriter::new(alloc, io::writer(rt)) else {
         return Err(Fault::Run(RunFault::OutOfMemory));
     };
+    let texts = Texts {
+        map: Some(map.as_slice()),
+        scen: scen.as_deref(),
+        journal: None,
+    };
+    match drill_texts(rt, alloc, texts, scripts, words, buffered, more) {
+        Ok(same) => Ok(same),
+        Err(fault) => Err(Fault::Run(fault)),
+    }
+}
+
+// Runs a drill of the texts onto a writer.
+fn drill_texts<R: Threads + Wait + Sync, O: Write + Drop>(
+    rt: &R,
+    alloc: Global,
+    texts: Texts<'_>,
+    scripts: Vec<Vec<u8>>,
+    words: &DrillWords<'_>,
+    buffered: BufWriter<O>,
+    more: &mut More,
+) -> Result<bool, RunFault> {
     let mut writer = Spout::new(buffered);
     let ended = run_drill(
         rt,
         alloc,
-        map.as_slice(),
-        scen.as_deref(),
+        texts.map.unwrap_or(b""),
+        texts.scen,
         words.agents,
         words.mode,
         words.workers.clamp(1, 64),
@@ -70,12 +101,5 @@ pub fn drill_files<'a, R: Files + AllocGlobal + Print + Threads + Wait + Sync>(
         &NoGate,
         &mut writer,
     );
-    let mut buffered = writer.into_inner();
-    match ended {
-        Err(fault) => Err(Fault::Run(fault)),
-        Ok(same) => match buffered.flush() {
-            Ok(()) => Ok(same),
-            Err(_) => Err(Fault::Run(RunFault::WriteFailed)),
-        },
-    }
+    finish(alloc, ended, texts, writer.into_inner(), more)
 }

@@ -1,3 +1,4 @@
+use crate::telling::More;
 use desk_runs::{Fault, MOST_BYTES, RunFault};
 use std::fs;
 use std::io::{ErrorKind, Read};
@@ -8,15 +9,30 @@ use std::rt::Files;
 /// # Errors
 ///
 /// The file can't be opened or read, or has more than `MOST_BYTES` bytes; or want of memory.
-pub fn file_bytes<'a, R: Files + AllocGlobal>(rt: &R, file: &'a str) -> Result<Vec<u8>, Fault<'a>> {
-    let Ok(opened) = fs::open(rt, file) else {
-        return Err(Fault::CannotRead { file });
+pub fn file_bytes<'a, R: Files + AllocGlobal>(
+    rt: &R,
+    file: &'a str,
+    more: &mut More,
+) -> Result<Vec<u8>, Fault<'a>> {
+    let alloc = rt.alloc();
+    let opened = match fs::open(rt, file) {
+        Ok(opened) => opened,
+        Err(why) => {
+            more.reason(alloc, &why);
+            return Err(Fault::CannotRead { file });
+        }
     };
-    let mut bytes = Vec::new(rt.alloc());
+    let mut bytes = Vec::new(alloc);
     match opened.take(MOST_BYTES + 1).read_to_end(&mut bytes) {
         Err(why) if why.kind() == ErrorKind::OutOfMemory => Err(Fault::Run(RunFault::OutOfMemory)),
-        Err(_) => Err(Fault::CannotRead { file }),
-        Ok(count) if count as u64 > MOST_BYTES => Err(Fault::CannotRead { file }),
+        Err(why) => {
+            more.reason(alloc, &why);
+            Err(Fault::CannotRead { file })
+        }
+        Ok(count) if count as u64 > MOST_BYTES => {
+            more.reason(alloc, &"more than 1073741824 bytes");
+            Err(Fault::CannotRead { file })
+        }
         Ok(_) => Ok(bytes),
     }
 }
@@ -29,10 +45,11 @@ pub fn file_bytes<'a, R: Files + AllocGlobal>(rt: &R, file: &'a str) -> Result<V
 pub fn named_bytes<'a, R: Files + AllocGlobal>(
     rt: &R,
     file: Option<&'a str>,
+    more: &mut More,
 ) -> Result<Option<Vec<u8>>, Fault<'a>> {
     match file {
         None => Ok(None),
-        Some(file) => match file_bytes(rt, file) {
+        Some(file) => match file_bytes(rt, file, more) {
             Ok(bytes) => Ok(Some(bytes)),
             Err(fault) => Err(fault),
         },

@@ -23,7 +23,8 @@ Three lines of a session, and what they are answered:
   path 0 0,0 1,0 2,0         version 2
   solves vertex swap         solves yes
 
-Statuses: 0 done; 1 the drill's audit differs; 2 a fault, told on standard error.
+Statuses: 0 done; 1 the drill's audit differs; 2 a fault, told on standard error in one line, or in
+two with --verbose where more is known of it.
 All lines, files and faults: docs/FORMATS.md, byte for byte; the rules: docs/RULES.md.
 
 Example:
@@ -40,10 +41,13 @@ An edit is committed at once:
 Several edits in one commit, all or none: begin, edits and watch lines, then commit or cancel.
 Questions: version; report; distance A X,Y; solves KIND.. of vertex, edge, follow, swap, cycle.
 
+With --save F the journal is in F when the session is over, however it ended, and with --journal F
+the next session goes on from there; both may name one file. F is whole at any moment.
+
 Statuses: 0 the input has ended; 2 a fault, told on standard error.
 
 Example:
-  mapf_desk serve --map demo/warehouse.map --scen demo/warehouse.scen --agents 10";
+  mapf_desk serve --map demo/warehouse.map --scen demo/warehouse.scen --agents 10 --save plan";
 
 pub const AUDIT_HELP: &str = "\
 The report is made from scratch: nothing that a desk keeps is used. Each worker is a thread of its

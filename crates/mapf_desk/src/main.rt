@@ -3,11 +3,17 @@
 #![tactic(auto)]
 
 mod auditing;
+mod commands;
+mod details;
 mod drilling;
 mod files;
+mod finishing;
 mod helping;
+mod saving;
 mod serving;
+mod stages;
 mod streams;
+mod telling;
 mod words;
 
 use auditing::audit_files;
@@ -16,50 +22,44 @@ use drilling::drill_files;
 use helping::{VERSION, WAITS};
 use serving::serve_streams;
 use std::env;
-use std::fmt::Display;
 use std::io::{Error, ErrorKind, IsTerminal};
 use std::process::ExitCode;
 use std::rt::Files;
 use std::sync::Wait;
 use std::thread::Threads;
+use telling::{FAULT, More, tell, tell_more};
 use words::{Asked, Words, read_words};
-
-/// The status of a fault.
-const FAULT: u8 = 2;
 
 /// The status of a drill whose reports differ.
 const DIFFERS: u8 = 1;
 
-// Does what the words ask for.
-fn obey<'a, R: Files + AllocGlobal + Print + Input + Threads + Wait + Sync>(
+// Does what the words ask for. Where it is wanted, stages are told.
+fn obey<'a, R: Files + AllocGlobal + Print + Eprint + Input + Threads + Wait + Sync>(
     rt: &R,
     words: &Words<'a>,
+    more: &mut More,
+    verbose: bool,
+    stages: bool,
 ) -> Result<ExitCode, Fault<'a>> {
     match words {
         Words::Version => match println!(rt; "{VERSION}") {
             Ok(()) => Ok(ExitCode::SUCCESS),
             Err(_) => Err(Fault::Run(RunFault::WriteFailed)),
         },
-        Words::Serve(serve) => match serve_streams(rt, serve) {
+        Words::Serve(serve) => match serve_streams(rt, serve, more, verbose) {
             Ok(()) => Ok(ExitCode::SUCCESS),
             Err(fault) => Err(fault),
         },
-        Words::Audit(audit) => match audit_files(rt, audit) {
+        Words::Audit(audit) => match audit_files(rt, audit, stages, more) {
             Ok(()) => Ok(ExitCode::SUCCESS),
             Err(fault) => Err(fault),
         },
-        Words::Drill(drill) => match drill_files(rt, drill) {
+        Words::Drill(drill) => match drill_files(rt, drill, stages, more) {
             Ok(true) => Ok(ExitCode::SUCCESS),
             Ok(false) => Ok(ExitCode::from(DIFFERS)),
             Err(fault) => Err(fault),
         },
     }
-}
-
-// Tells a fault on standard error, where that takes it, and gives its status.
-fn tell<R: Eprint, D: Display + Drop>(rt: &R, fault: D) -> ExitCode {
-    let _told = eprintln!(rt; "mapf_desk: {fault}");
-    ExitCode::from(FAULT)
 }
 
 // Prints the words' own text: help on standard output, a mistake on standard error.
@@ -91,16 +91,17 @@ fn main(rt: HostRuntime) -> ExitCode {
             Ok(given) => given,
         },
     };
-    let words = match read_words(alloc, given.as_slice()) {
-        Asked::For(words) => words,
+    let (words, verbose) = match read_words(alloc, given.as_slice()) {
+        Asked::For { words, verbose } => (words, verbose),
         Asked::Refused(error) => return tell_words(&rt, error),
         Asked::NoMemory => return tell(&rt, RunFault::OutOfMemory),
     };
     if words.waits_for_a_map() && rt.stdin().is_terminal() {
         let _told = eprintln!(rt; "{WAITS}");
     }
-    match obey(&rt, &words) {
+    let mut more = More::none();
+    match obey(&rt, &words, &mut more, verbose, rt.stderr().is_terminal()) {
         Ok(status) => status,
-        Err(fault) => tell(&rt, fault),
+        Err(fault) => tell_more(&rt, &fault, &more, verbose),
     }
 }

@@ -1,52 +1,148 @@
 //! The word `serve`.
+use crate::details::{Texts, more_of};
 use crate::files::named_bytes;
+use crate::saving::{look_ahead, save_journal};
 use crate::streams::{Answers, Lines, Outlet};
+use crate::telling::{More, tell_more};
 use crate::words::ServeWords;
+use desk_core::Desk;
 use desk_report::{Spout, Tap};
-use desk_runs::{Fault, RunFault, run_serve};
+use desk_runs::{Fault, RunFault, serve_desk};
 use desk_session::ServeFault;
 use std::alloc::Global;
 use std::cell::RefCell;
 use std::io;
-use std::io::{BufReader, BufWriter, Read, Write};
+use std::io::{BufReader, BufWriter, Error, Read, Write};
 use std::rt::Files;
 
-/// Serves a session from standard input to standard output, as the words ask for.
-///
-/// # Errors
-///
-/// What the words lack, a file that can't be read, or the run's fault. What was answered before
-/// has gone out.
-pub fn serve_streams<'a, R: Files + AllocGlobal + Print + Input>(
-    rt: &R,
-    words: &ServeWords<'a>,
-) -> Result<(), Fault<'a>> {
-    if words.agents > 0 && words.scen.is_none() {
-        return Err(Fault::AgentsWithoutScen);
-    }
-    let map = match named_bytes(rt, words.map) {
-        Ok(map) => map,
-        Err(fault) => return Err(fault),
-    };
-    let scen = match named_bytes(rt, words.scen) {
-        Ok(scen) => scen,
-        Err(fault) => return Err(fault),
-    };
-    let texts = Texts {
-        map: map.as_deref(),
-        scen: scen.as_deref(),
-    };
-    match serve_between(rt.alloc(), texts, words, rt.reader(), io::writer(rt)) {
-        Ok(()) => Ok(()),
-        Err(fault) => Err(Fault::Run(fault)),
+// The bytes of the files that the words name.
+#[derive(Drop)]
+struct Named {
+    map: Option<Vec<u8>>,
+    scen: Option<Vec<u8>>,
+    journal: Option<Vec<u8>>,
+}
+
+impl Named {
+    fn texts(&self) -> Texts<'_> {
+        Texts {
+            map: self.map.as_deref(),
+            scen: self.scen.as_deref(),
+            journal: self.journal.as_deref(),
+        }
     }
 }
 
-// The bytes of the files that the words name.
-#[derive(Clone, Copy)]
-struct Texts<'t> {
-    map: Option<&'t [u8]>,
-    scen: Option<&'t [u8]>,
+/// Serves a session from standard input to standard output, as the words ask for, and saves the
+/// desk's journal where they ask for it. What was answered before a fault has gone out, and is
+/// saved.
+///
+/// # Errors
+///
+/// What the words lack, a file that can't be read or written, the run's fault, or that of the save;
+/// where both have one, that of the run is told here.
+pub fn serve_streams<'a, R: Files + AllocGlobal + Print + Eprint + Input>(
+    rt: &R,
+    words: &ServeWords<'a>,
+    more: &mut More,
+    verbose: bool,
+) -> Result<(), Fault<'a>> {
+    let named = match read_named(rt, words, more) {
+        Ok(named) => named,
+        Err(fault) => return Err(fault),
+    };
+    let alloc = rt.alloc();
+    let sat = serve_between(alloc, named.texts(), words, rt.reader(), io::writer(rt));
+    let Sat { desk, fault, why } = sat;
+    if let Some(fault) = &fault {
+        match why {
+            Some(why) => more.reason(alloc, &why),
+            None => more.put(more_of(alloc, fault, named.texts())),
+        }
+    }
+    let mut unsaved = More::none();
+    let saved = match desk {
+        Some(desk) => save_named(rt, &desk, words.save, &mut unsaved),
+        None => Ok(()),
+    };
+    match saved {
+        Ok(()) => match fault {
+            None => Ok(()),
+            Some(fault) => Err(Fault::Run(fault)),
+        },
+        Err(later) => {
+            if let Some(fault) = &fault {
+                let _status = tell_more(rt, fault, more, verbose);
+            }
+            *more = unsaved;
+            Err(later)
+        }
+    }
+}
+
+// Saves the desk's journal, where a file for it is named.
+fn save_named<'a, R: Files + AllocGlobal>(
+    rt: &R,
+    desk: &Desk,
+    file: Option<&'a str>,
+    more: &mut More,
+) -> Result<(), Fault<'a>> {
+    match file {
+        None => Ok(()),
+        Some(file) => match save_journal(rt, desk, file, more) {
+            Ok(()) => Ok(()),
+            Err(fault) => Err(fault),
+        },
+    }
+}
+
+// Reads the files, and looks whether the last one can be written.
+fn read_named<'a, R: Files + AllocGlobal>(
+    rt: &R,
+    words: &ServeWords<'a>,
+    more: &mut More,
+) -> Result<Named, Fault<'a>> {
+    if words.agents > 0 && words.scen.is_none() {
+        return Err(Fault::AgentsWithoutScen);
+    }
+    let map = match named_bytes(rt, words.map, more) {
+        Ok(map) => map,
+        Err(fault) => return Err(fault),
+    };
+    let scen = match named_bytes(rt, words.scen, more) {
+        Ok(scen) => scen,
+        Err(fault) => return Err(fault),
+    };
+    let journal = match named_bytes(rt, words.journal, more) {
+        Ok(journal) => journal,
+        Err(fault) => return Err(fault),
+    };
+    if let Some(file) = words.save {
+        match look_ahead(rt, file, more) {
+            Ok(()) => {}
+            Err(fault) => return Err(fault),
+        }
+    }
+    Ok(Named { map, scen, journal })
+}
+
+// How a session went: the desk that it left, where one was opened, its fault, and the system's
+// reason for that.
+#[derive(Drop)]
+struct Sat {
+    desk: Option<Desk>,
+    fault: Option<RunFault>,
+    why: Option<Error>,
+}
+
+impl Sat {
+    fn without_memory() -> Sat {
+        Sat {
+            desk: None,
+            fault: Some(RunFault::OutOfMemory),
+            why: None,
+        }
+    }
 }
 
 // Serves a session from a reader to a writer, both buffered. What was answered goes out before more
@@ -57,21 +153,23 @@ fn serve_between<I: Read + Drop, O: Write + Drop>(
     words: &ServeWords<'_>,
     input: I,
     output: O,
-) -> Result<(), RunFault> {
+) -> Sat {
     let Ok(buffered) = BufWriter::new(alloc, output) else {
-        return Err(RunFault::OutOfMemory);
+        return Sat::without_memory();
     };
     let outlet = RefCell::new(Outlet::new(buffered));
-    let ended = serve_lines(alloc, texts, words, input, &outlet);
-    let sent = match outlet.try_borrow_mut() {
-        Ok(mut outlet) => outlet.is_sent(),
-        Err(_) => false,
+    let mut sat = serve_lines(alloc, texts, words, input, &outlet);
+    let (sent, unread) = match outlet.try_borrow_mut() {
+        Ok(mut outlet) => (outlet.send(), outlet.unread()),
+        Err(_) => (Ok(()), None),
     };
-    match ended {
-        _ if !sent => Err(RunFault::Serve(ServeFault::WriteFailed)),
-        Err(fault) => Err(fault),
-        Ok(_) => Ok(()),
+    if let Err(why) = sent {
+        sat.fault = Some(RunFault::Serve(ServeFault::WriteFailed));
+        sat.why = Some(why);
+    } else if sat.fault == Some(RunFault::Serve(ServeFault::ReadFailed)) {
+        sat.why = unread;
     }
+    sat
 }
 
 // Serves a session from a reader to an outlet.
@@ -81,20 +179,38 @@ fn serve_lines<I: Read + Drop, O: Write + Drop>(
     words: &ServeWords<'_>,
     input: I,
     outlet: &RefCell<Outlet<O>>,
-) -> Result<u32, RunFault> {
+) -> Sat {
     let Ok(lines) = BufReader::new(alloc, Lines::new(input, outlet)) else {
-        return Err(RunFault::OutOfMemory);
+        return Sat::without_memory();
     };
     let mut reader = Tap::new(lines);
     let mut writer = Spout::new(Answers::new(outlet));
-    run_serve(
+    let Texts { map, scen, journal } = texts;
+    let (agents, limit, mode) = (words.agents, words.limit, words.mode);
+    let sat = serve_desk(
         alloc,
-        texts.map,
-        texts.scen,
-        words.agents,
-        words.limit,
-        words.mode,
+        map,
+        scen,
+        agents,
+        limit,
+        mode,
+        journal,
         &mut reader,
         &mut writer,
-    )
+    );
+    let (desk, fault) = match sat {
+        Ok(sat) => {
+            let (desk, ended) = sat;
+            match ended {
+                Ok(_) => (Some(desk), None),
+                Err(fault) => (Some(desk), Some(RunFault::from(fault))),
+            }
+        }
+        Err(fault) => (None, Some(fault)),
+    };
+    Sat {
+        desk,
+        fault,
+        why: None,
+    }
 }

@@ -1,28 +1,51 @@
 //! Standard input and output, joined: what was answered goes out before the program waits for more.
+//! The system's reason for the first failure of each is kept.
 use std::cell::RefCell;
-use std::io::{BufWriter, ErrorKind, Read, Result, Write};
+use std::io::{BufWriter, Error, ErrorKind, Read, Result, Write};
 
 /// Answers on their way out, in a buffer.
 #[derive(Drop)]
 pub struct Outlet<W: Write + Drop> {
     writer: BufWriter<W>,
-    failed: bool,
+    unsent: Option<Error>,
+    unread: Option<Error>,
 }
 
 impl<W: Write + Drop> Outlet<W> {
     pub fn new(writer: BufWriter<W>) -> Outlet<W> {
         Outlet {
             writer,
-            failed: false,
+            unsent: None,
+            unread: None,
         }
     }
 
-    /// Sends what is in the buffer, and tells whether all has gone out so far.
-    pub fn is_sent(&mut self) -> bool {
-        if self.writer.flush().is_err() {
-            self.failed = true;
+    /// Sends what is in the buffer.
+    ///
+    /// # Errors
+    ///
+    /// What was answered has not all gone out, for that reason.
+    pub fn send(&mut self) -> Result<()> {
+        if let Err(why) = self.writer.flush() {
+            self.note(why);
+            return Err(why);
         }
-        !self.failed
+        match self.unsent {
+            Some(why) => Err(why),
+            None => Ok(()),
+        }
+    }
+
+    /// Why the input could not be read, where it could not.
+    pub fn unread(&self) -> Option<Error> {
+        self.unread
+    }
+
+    // Keeps the reason for a write that failed, if it is the first.
+    fn note(&mut self, why: Error) {
+        if self.unsent.is_none() && why.kind() != ErrorKind::Interrupted {
+            self.unsent = Some(why);
+        }
     }
 }
 
@@ -41,14 +64,20 @@ impl<'a, W: Write + Drop> Answers<'a, W> {
 impl<W: Write + Drop> Write for Answers<'_, W> {
     fn write(&mut self, bytes: &[u8]) -> Result<usize> {
         match self.outlet.try_borrow_mut() {
-            Ok(mut outlet) => outlet.writer.write(bytes),
+            Ok(mut outlet) => match outlet.writer.write(bytes) {
+                Ok(count) => Ok(count),
+                Err(why) => {
+                    outlet.note(why);
+                    Err(why)
+                }
+            },
             Err(_) => Err(ErrorKind::Other.into()),
         }
     }
 
     fn flush(&mut self) -> Result<()> {
         match self.outlet.try_borrow_mut() {
-            Ok(mut outlet) => outlet.writer.flush(),
+            Ok(mut outlet) => outlet.send(),
             Err(_) => Err(ErrorKind::Other.into()),
         }
     }
@@ -69,14 +98,18 @@ impl<'a, R: Read + Drop, W: Write + Drop> Lines<'a, R, W> {
 
 impl<R: Read + Drop, W: Write + Drop> Read for Lines<'_, R, W> {
     fn read(&mut self, buffer: &mut [u8]) -> Result<usize> {
-        let sent = match self.outlet.try_borrow_mut() {
-            Ok(mut outlet) => outlet.is_sent(),
-            Err(_) => false,
-        };
-        if sent {
-            self.reader.read(buffer)
-        } else {
-            Err(ErrorKind::Other.into())
+        match self.outlet.try_borrow_mut() {
+            Ok(mut outlet) => outlet.send()?,
+            Err(_) => return Err(ErrorKind::Other.into()),
         }
+        let read = self.reader.read(buffer);
+        if let Err(why) = read {
+            if why.kind() != ErrorKind::Interrupted {
+                if let Ok(mut outlet) = self.outlet.try_borrow_mut() {
+                    outlet.unread = Some(why);
+                }
+            }
+        }
+        read
     }
 }

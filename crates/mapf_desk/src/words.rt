@@ -1,6 +1,6 @@
 //! The program's words.
-use crate::helping::{ABOUT, AUDIT_HELP, DRILL_HELP, PROGRAM_HELP, SERVE_HELP};
-use clap::{Arg, ArgAction, ArgMatches, Command, Error, value_parser};
+use crate::commands::command;
+use clap::{ArgMatches, Error};
 use desk_core::{Limit, MOST_ENTRIES};
 use plan_table::Mode;
 use std::alloc::{AllocError, Global};
@@ -33,6 +33,8 @@ pub struct ServeWords<'a> {
     pub agents: u32,
     pub limit: Limit,
     pub mode: Mode,
+    pub journal: Option<&'a str>,
+    pub save: Option<&'a str>,
 }
 
 /// The words of `audit`.
@@ -60,7 +62,8 @@ pub struct DrillWords<'a> {
 /// What the words come to.
 #[derive(Drop)]
 pub enum Asked<'a> {
-    For(Words<'a>),
+    /// What is asked for, and whether more is told of a fault.
+    For { words: Words<'a>, verbose: bool },
     /// Words that aren't the program's, or a request for help.
     Refused(Error),
     NoMemory,
@@ -68,132 +71,6 @@ pub enum Asked<'a> {
 
 /// How many commits the journal takes where the words don't say.
 const USUAL_LIMIT: u32 = 100_000;
-
-fn map_argument<'a>(alloc: Global) -> Arg<'a> {
-    Arg::new(alloc, "map").long("map").value_name("F")
-}
-
-fn scen_argument<'a>(alloc: Global) -> Arg<'a> {
-    Arg::new(alloc, "scen")
-        .long("scen")
-        .value_name("F")
-        .help("A MovingAI .scen file, whose first tasks are the agents")
-}
-
-fn agents_argument<'a>(alloc: Global) -> Arg<'a> {
-    Arg::new(alloc, "agents")
-        .long("agents")
-        .value_name("K")
-        .value_parser(value_parser!(u32).range(0..=8192))
-        .default_value("0")
-        .help("How many agents the scenario gives, from 0 to 8192")
-}
-
-fn mode_argument<'a>(alloc: Global) -> Arg<'a> {
-    Arg::new(alloc, "mode")
-        .long("mode")
-        .value_name("M")
-        .value_parser(["stay", "disappear"].as_slice())
-        .default_value("stay")
-        .help("Whether an agent stays at its goal or leaves the map there")
-}
-
-fn limit_argument<'a>(alloc: Global) -> Arg<'a> {
-    Arg::new(alloc, "limit")
-        .long("limit")
-        .value_name("N")
-        .value_parser(value_parser!(u32).range(1..=1_000_000))
-        .default_value("100000")
-        .help("How many commits the journal takes, from 1 to 1000000")
-}
-
-fn serve_command<'a>(alloc: Global) -> Result<Command<'a>, AllocError> {
-    let map = map_argument(alloc).help(
-        "The map, a MovingAI .map file; without it the map stands first on standard input",
-    );
-    Command::new(alloc, "serve")
-        .about("Serves one planner's session from standard input to standard output")
-        .after_help(SERVE_HELP)
-        .arg(map)?
-        .arg(scen_argument(alloc))?
-        .arg(agents_argument(alloc))?
-        .arg(limit_argument(alloc))?
-        .arg(mode_argument(alloc))
-}
-
-fn journal_argument<'a>(alloc: Global) -> Arg<'a> {
-    Arg::new(alloc, "journal")
-        .long("journal")
-        .value_name("F")
-        .help("A journal, whose entries are committed before the audit")
-}
-
-fn workers_argument<'a>(alloc: Global) -> Arg<'a> {
-    Arg::new(alloc, "workers")
-        .long("workers")
-        .value_name("N")
-        .value_parser(value_parser!(u32).range(1..=64))
-        .default_value("4")
-        .help("How many threads make the report, from 1 to 64")
-}
-
-fn audit_command<'a>(alloc: Global) -> Result<Command<'a>, AllocError> {
-    let map = map_argument(alloc)
-        .required(true)
-        .help("The map, a MovingAI .map file");
-    Command::new(alloc, "audit")
-        .about(
-            "Prints the report of a map, a scenario's agents and a journal, made from scratch in threads",
-        )
-        .after_help(AUDIT_HELP)
-        .arg(map)?
-        .arg(scen_argument(alloc))?
-        .arg(agents_argument(alloc))?
-        .arg(mode_argument(alloc))?
-        .arg(journal_argument(alloc))?
-        .arg(workers_argument(alloc))
-}
-
-fn scripts_argument<'a>(alloc: Global) -> Arg<'a> {
-    Arg::new(alloc, "script")
-        .value_name("SCRIPT")
-        .num_args(1..)
-        .required(true)
-        .help("A planner's session, one file for each planner, from 1 to 255 of them")
-}
-
-fn drill_command<'a>(alloc: Global) -> Result<Command<'a>, AllocError> {
-    let map = map_argument(alloc)
-        .required(true)
-        .help("The map, a MovingAI .map file");
-    Command::new(alloc, "drill")
-        .about("Serves planners' scripts at once over one shared desk, and audits what they leave")
-        .after_help(DRILL_HELP)
-        .arg(map)?
-        .arg(scen_argument(alloc))?
-        .arg(agents_argument(alloc))?
-        .arg(mode_argument(alloc))?
-        .arg(workers_argument(alloc))?
-        .arg(scripts_argument(alloc))
-}
-
-fn version_argument<'a>(alloc: Global) -> Arg<'a> {
-    Arg::new(alloc, "version")
-        .long("version")
-        .short('V')
-        .action(ArgAction::SetTrue)
-        .help("Print the version, and what it is proved with")
-}
-
-fn command<'a>(alloc: Global) -> Result<Command<'a>, AllocError> {
-    Command::new(alloc, "mapf_desk")
-        .about(ABOUT)
-        .after_help(PROGRAM_HELP)
-        .arg(version_argument(alloc))?
-        .subcommand(serve_command(alloc)?)?
-        .subcommand(audit_command(alloc)?)?
-        .subcommand(drill_command(alloc)?)
-}
 
 fn mode_of(matches: &ArgMatches<'_>) -> Mode {
     match matches.get_str("mode") {
@@ -217,6 +94,15 @@ fn scripts_of<'a>(alloc: Global, matches: &ArgMatches<'a>) -> Result<Vec<&'a str
         Some(scripts) => scripts.to_vec(alloc),
         None => Ok(Vec::new(alloc)),
     }
+}
+
+// Whether more is to be told of a fault: the flag stands before the word or behind it.
+fn is_verbose(matches: &ArgMatches<'_>) -> bool {
+    matches.get_flag("verbose")
+        || match matches.subcommand() {
+            Some((_, inner)) => inner.get_flag("verbose"),
+            None => false,
+        }
 }
 
 fn words_of<'a>(alloc: Global, matches: &ArgMatches<'a>) -> Result<Words<'a>, AllocError> {
@@ -243,6 +129,8 @@ fn words_of<'a>(alloc: Global, matches: &ArgMatches<'a>) -> Result<Words<'a>, Al
             agents: inner.get_one::<u32>("agents").unwrap_or(0),
             limit: limit_of(inner),
             mode: mode_of(inner),
+            journal: inner.get_str("journal"),
+            save: inner.get_str("save"),
         }),
         None if matches.get_flag("version") => Words::Version,
         None => Words::Serve(ServeWords {
@@ -251,6 +139,8 @@ fn words_of<'a>(alloc: Global, matches: &ArgMatches<'a>) -> Result<Words<'a>, Al
             agents: 0,
             limit: limit_of(matches),
             mode: Mode::Stay,
+            journal: None,
+            save: None,
         }),
     };
     Ok(words)
@@ -263,7 +153,10 @@ pub fn read_words<'a>(alloc: Global, words: &'a [String]) -> Asked<'a> {
     };
     match command.try_get_matches_from(words) {
         Ok(matches) => match words_of(alloc, &matches) {
-            Ok(words) => Asked::For(words),
+            Ok(words) => Asked::For {
+                words,
+                verbose: is_verbose(&matches),
+            },
             Err(_) => Asked::NoMemory,
         },
         Err(error) => Asked::Refused(error),

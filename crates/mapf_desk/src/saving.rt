@@ -1,0 +1,138 @@
+//! A file that is whole at any moment.
+use crate::telling::More;
+use desk_core::Desk;
+use desk_report::Spout;
+use desk_runs::{Fault, RunFault, save_desk};
+use std::alloc::Global;
+use std::fs;
+use std::fs::OpenFile;
+use std::io::{BufWriter, Error, ErrorKind, Result as Done, Write};
+use std::rt::Files;
+
+/// Looks whether a desk's journal can be saved in the file: its folder is there, and the file is no
+/// folder and no device.
+///
+/// # Errors
+///
+/// It can't be, and why.
+pub fn look_ahead<'a, R: Files + AllocGlobal>(
+    rt: &R,
+    file: &'a str,
+    more: &mut More,
+) -> Result<(), Fault<'a>> {
+    match is_ready(rt, file) {
+        Ok(()) => Ok(()),
+        Err(why) => {
+            more.reason(rt.alloc(), &why);
+            Err(Fault::CannotWrite { file })
+        }
+    }
+}
+
+/// Saves a desk's journal in the file: in a new file beside it, which is synced and then takes its
+/// name. So the file is whole at any moment.
+///
+/// # Errors
+///
+/// It can't be saved, and why: the file is then as it was, and the new one is gone; or want of
+/// memory.
+pub fn save_journal<'a, R: Files + AllocGlobal>(
+    rt: &R,
+    desk: &Desk,
+    file: &'a str,
+    more: &mut More,
+) -> Result<(), Fault<'a>> {
+    let Ok(beside) = format!(in rt.alloc(); "{file}.new") else {
+        return Err(Fault::Run(RunFault::OutOfMemory));
+    };
+    let saved = match fs::create(rt, beside.as_str()) {
+        Err(why) => Err(why),
+        Ok(opened) => match replace(rt, desk, opened, beside.as_str(), file) {
+            Ok(()) => Ok(()),
+            Err(why) => {
+                let _gone = fs::remove_file(rt, beside.as_str());
+                Err(why)
+            }
+        },
+    };
+    match saved {
+        Ok(()) => Ok(()),
+        Err(why) => {
+            more.reason(rt.alloc(), &why);
+            Err(Fault::CannotWrite { file })
+        }
+    }
+}
+
+// The folder that a file is in.
+fn folder_of(file: &str) -> &str {
+    match file.rfind('/') {
+        Some(0) => "/",
+        Some(end) => file.get(..end).unwrap_or("."),
+        None => ".",
+    }
+}
+
+fn is_ready<R: Files>(rt: &R, file: &str) -> Done<()> {
+    if let Ok(there) = fs::metadata(rt, file) {
+        if !there.is_file() {
+            return Err(Error::new(ErrorKind::InvalidInput, "not a file"));
+        }
+    }
+    let _folder = fs::open(rt, folder_of(file))?;
+    Ok(())
+}
+
+// Writes the journal into the new file, and gives that the file's name.
+fn replace<R: Files + AllocGlobal>(
+    rt: &R,
+    desk: &Desk,
+    opened: R::File,
+    beside: &str,
+    file: &str,
+) -> Done<()> {
+    write_whole(rt.alloc(), desk, opened)?;
+    fs::rename(rt, beside, file)?;
+    fs::open(rt, folder_of(file))?.sync_all()
+}
+
+// Writes the journal, to the disk.
+fn write_whole<F: Write + OpenFile + Drop>(alloc: Global, desk: &Desk, opened: F) -> Done<()> {
+    let Ok(writer) = BufWriter::new(alloc, opened) else {
+        return Err(ErrorKind::OutOfMemory.into());
+    };
+    let mut sink = Spout::new(Noting { writer, why: None });
+    let saved = save_desk(desk, &mut sink);
+    let Noting { mut writer, why } = sink.into_inner();
+    if saved.is_err() {
+        return Err(match why {
+            Some(why) => why,
+            None => ErrorKind::WriteZero.into(),
+        });
+    }
+    writer.flush()?;
+    writer.get_ref().sync_all()
+}
+
+// A writer that notes the reason for its last failure.
+#[derive(Drop)]
+struct Noting<W: Write + Drop> {
+    writer: W,
+    why: Option<Error>,
+}
+
+impl<W: Write + Drop> Write for Noting<W> {
+    fn write(&mut self, bytes: &[u8]) -> Done<usize> {
+        match self.writer.write(bytes) {
+            Ok(count) => Ok(count),
+            Err(why) => {
+                self.why = Some(why);
+                Err(why)
+            }
+        }
+    }
+
+    fn flush(&mut self) -> Done<()> {
+        self.writer.flush()
+    }
+}

@@ -1,0 +1,50 @@
+//! What is told of a fault on standard error: its line, and what more is known.
+use std::alloc::Global;
+use std::fmt::Display;
+use std::process::ExitCode;
+
+/// The status of a fault.
+pub const FAULT: u8 = 2;
+
+/// What more is known of a fault, where anything is.
+#[derive(Drop)]
+pub struct More {
+    text: Option<String>,
+}
+
+impl More {
+    /// No more is known.
+    pub fn none() -> More {
+        More { text: None }
+    }
+
+    /// That is known, if anything.
+    pub fn put(&mut self, text: Option<String>) {
+        self.text = text;
+    }
+
+    /// That is the reason; where there is no memory for its text, no more is known.
+    pub fn reason<D: Display>(&mut self, alloc: Global, why: &D) {
+        self.text = match format!(in alloc; "{why}") {
+            Ok(text) => Some(text),
+            Err(_) => None,
+        };
+    }
+}
+
+/// Tells a fault on standard error, where that takes it, and gives its status.
+pub fn tell<R: Eprint, D: Display + Drop>(rt: &R, fault: D) -> ExitCode {
+    let _told = eprintln!(rt; "mapf_desk: {fault}");
+    ExitCode::from(FAULT)
+}
+
+/// Tells a fault, and in a second line what more is known, where that is wanted.
+pub fn tell_more<R: Eprint, D: Display>(rt: &R, fault: &D, more: &More, verbose: bool) -> ExitCode {
+    let _told = eprintln!(rt; "mapf_desk: {fault}");
+    if let Some(text) = &more.text {
+        if verbose {
+            let _told = eprintln!(rt; "  {text}");
+        }
+    }
+    ExitCode::from(FAULT)
+}
