@@ -6,11 +6,14 @@ The last line is 'N passed, M failed'; status 1 where one failed.
 """
 import os
 import pty
+import re
+import resource
 import select
 import signal
 import subprocess
 import sys
 import tempfile
+import time
 
 TOP = os.path.dirname(os.path.dirname(os.path.abspath(__file__)))
 PROGRAM = f"{TOP}/crates/mapf_desk/out/mapf_desk"
@@ -80,12 +83,41 @@ FAULTS = [
     ("mode_differs", "audit --map m --scen s --agents 1 --journal journal_mode", "journal: mode differs"),
     ("mode_differs_by_the_word", "audit --map m --scen s --agents 1 --mode disappear --journal j", "journal: mode differs"),
     ("entry_refused", "audit --map m --scen s --agents 1 --journal journal_entry", "journal: entry 1 refused"),
+    ("no_journal_of_a_session", "serve --map m --journal none", "can't read none"),
+    ("no_journal_though_it_is_to_be_saved", "serve --map m --journal none --save none", "can't read none"),
+    ("journal_before_what_is_saved", "serve --map m --journal none --save nowhere/j", "can't read none"),
+    ("journal_of_a_session_that_is_none", "serve --map m --journal journal_line", "journal: bad line 3"),
+    ("journal_of_a_session_in_another_mode", "serve --map m --scen s --agents 1 --journal journal_mode", "journal: mode differs"),
+    ("entry_of_a_session_refused", "serve --map m --scen s --agents 1 --journal journal_entry", "journal: entry 1 refused"),
+    ("tasks_before_a_journal_of_a_session", "serve --map m --scen s --agents 2 --journal journal_line", "scen: too few tasks, 1"),
+    ("save_in_no_folder", "serve --map m --save nowhere/j", "can't write nowhere/j"),
+    ("save_as_a_folder", "serve --map m --save .", "can't write ."),
+    ("save_on_a_device", "serve --map m --save /dev/full", "can't write /dev/full"),
+    ("save_before_what_stands_in_a_file", "serve --map map_size --save nowhere/j", "can't write nowhere/j"),
+]
+
+# Words, and what the second line on standard error says where the first word is --verbose or -v.
+REASONS = [
+    ("serve --map none", "No such file or directory (os error 2)"),
+    ("serve --map .", "Is a directory (os error 21)"),
+    ("serve --map m --save nowhere/j", "No such file or directory (os error 2)"),
+    ("serve --map m --save .", "not a file"),
+    ("serve --map map_octile", "line 1: type tile"),
+    ("serve --map map_header", "line 3: wide 3"),
+    ("audit --map map_letter", "line 5: .x."),
+    ("drill --map map_long one", "line 5: ...."),
+    ("serve --map map_extra", "line 6: more"),
+    ("serve --map m --scen scen_number", "line 2: 0 m 3 1 0 -1 2 0 2"),
+    ("audit --map m --journal journal_line", "line 3: entry 00 0 0 1"),
+    ("audit --map m --scen s --agents 1 --journal journal_mode", "line 2: mode disappear"),
+    ("serve --map m --scen s --agents 1 --journal journal_entry", "faulty 0 not-a-step 1: entry 0 0 0 1;path 0 0,0 2,0;"),
+    ("audit --map m --journal j", "faulty 0 unknown-agent: entry 0 0 0 1;path 0 0,0 1,0 2,0;"),
 ]
 
 # Words that the program doesn't have: status 2, a text on standard error, nothing on standard output.
 REFUSED_WORDS = [
     "bogus", "serve --limit 0", "serve --limit 1000001", "serve --limit x", "serve --agents 8193", "serve --mode none", "serve --workers 4",
-    "serve m", "audit", "audit --map m --workers 0", "audit --map m --workers 65", "audit --map m --limit 5", "drill --map m", "drill one",
+    "serve m", "serve --save", "serve --map m --save a --save b", "audit", "audit --map m --save j", "audit --map m --workers 0", "audit --map m --workers 65", "audit --map m --limit 5", "drill --map m", "drill one",
     "drill --map m --workers 65 one", "drill --map m --journal j one", "--map m",
 ]
 
@@ -113,6 +145,10 @@ ANSWERS = [
     ("stays_where_no_mode_is_named", "serve --map m", MEETING, COMMITS + MET + "conflicts 2\nparked 1 0 1 1,0\nfollow 0 1 0 1,0\n" + TAIL),
     ("stays", "serve --map m --mode stay", MEETING, COMMITS + MET + "conflicts 2\nparked 1 0 1 1,0\nfollow 0 1 0 1,0\n" + TAIL),
     ("disappears", "serve --map m --mode disappear", MEETING, COMMITS + MET + "conflicts 0\n" + TAIL),
+    ("journal_of_a_session", "serve --map m --scen s --agents 1 --journal j", b"version\nreport\n", "version 1\nversion 1\n" + ARRIVED),
+    ("journal_for_a_map_on_standard_input", "serve --scen s --agents 1 --journal j", MAP + b"report\n", "version 1\n" + ARRIVED),
+    ("journal_counts_in_the_limit", "serve --map m --scen s --agents 1 --journal j --limit 1", b"drop 0\n", "refused journal-full 1\n"),
+    ("more_is_told_of_faults_alone", "serve --map m --verbose", b"version\nx\n", "version 0\nbad 2 word\n"),
     ("audit_of_a_map", "audit --map m", b"", "version 0\n" + EMPTY),
     ("audit_of_a_scenario", "audit --map m --scen s --agents 1", b"", "version 0\n" + RESTING),
     ("audit_of_a_journal", "audit --map m --scen s --agents 1 --journal j --workers 1", b"", "version 1\n" + ARRIVED),
@@ -396,6 +432,190 @@ def demo_audit():
     want("how many lines it has", audited[1].count("\nagent "), 100)
 
 
+def bytes_of(file):
+    with open(file, "rb") as opened:
+        return opened.read()
+
+
+def save(words, given, out, file):
+    """A session that saves its journal, and leaves no other file behind."""
+    before = set(os.listdir())
+    is_answered(["serve", *words.split(), "--save", file], given, out)
+    want("the files that came", set(os.listdir()) - before - {file}, set())
+    return bytes_of(file)
+
+
+def saved():
+    """What is saved is the journal, and goes on in the next session, in one file."""
+    first = save("--map m", b"agent 0 0,0 2,0\n", "version 1\n", "desk")
+    want("the journal", first, b"journal 2\nmode stay\nentry 0 0 0 1\nagent 0 0,0 2,0\nend 1\n")
+    second = save("--map m --journal desk", b"path 0 0,0 1,0 2,0\npath 0 2,0\n", "version 2\nrefused faulty 0 not-from-start\n", "desk")
+    want("the journal", second, first.replace(b"end 1", b"entry 0 1 0 1\npath 0 0,0 1,0 2,0\nend 2"))
+    third = save("--map m --journal desk", b"", "", "desk")
+    want("the journal with nothing added", third, second)
+    is_answered(["audit", "--map", "m", "--journal", "desk"], b"", "version 2\n" + ARRIVED)
+    is_answered(["serve", "--map", "m", "--journal", "desk"], b"report\n", "version 2\n" + ARRIVED)
+    want("the journal that was only read", bytes_of("desk"), second)
+    os.remove("desk")
+
+
+def saved_in_another_mode():
+    text = save("--map m --mode disappear", MEETING, COMMITS + MET + "conflicts 0\n" + TAIL, "left")
+    want("the mode", text.split(b"\n")[1], b"mode disappear")
+    is_answered(["audit", "--map", "m", "--mode", "disappear", "--journal", "left"], b"", "version 3\n" + MET + "conflicts 0\n" + TAIL)
+    is_fault(["serve", "--map", "m", "--journal", "left"], "journal: mode differs")
+    os.remove("left")
+
+
+def saved_from_a_map_on_standard_input():
+    text = save("", MAP + b"agent 0 0,0 2,0\n", "version 1\n", "typed")
+    want("the last line", text.split(b"\n")[-2], b"end 1")
+    os.remove("typed")
+
+
+def not_saved_where_no_session_begins():
+    """A fault before the session leaves the file as it was, and makes none."""
+    with open("kept", "wb") as file:
+        file.write(JOURNAL)
+    is_fault(["serve", "--map", "m", "--scen", "s", "--agents", "1", "--journal", "journal_line", "--save", "kept"], "journal: bad line 3")
+    is_fault(["serve", "--save", "kept"], "map: bad size", FILES["map_size"])
+    want("the file", bytes_of("kept"), JOURNAL)
+    is_fault(["serve", "--map", "map_octile", "--save", "never"], "map: not octile")
+    want("whether there is another", os.path.exists("never") or os.path.exists("never.new") or os.path.exists("kept.new"), False)
+    os.remove("kept")
+
+
+ONE_ENTRY = b"journal 2\nmode stay\nentry 0 0 0 1\nagent 0 0,0 2,0\nend 1\n"
+
+
+def saved_after_a_fault():
+    """Whatever ends the session: what was committed before is saved."""
+    with open("/dev/full", "wb") as full:
+        status, _, complained = run(["serve", "--map", "m", "--save", "desk"], b"agent 0 0,0 2,0\n", stdout=full)
+    want("standard error", complained, "mapf_desk: write failed\n")
+    want("the status", status, 2)
+    want("the journal", bytes_of("desk"), ONE_ENTRY)
+    os.remove("desk")
+    status, said, complained = run(["serve", "--map", "m", "--save", "desk"], b"agent 0 0,0 2,0\n" + b"\n" * 1000000)
+    want("standard error", complained, "mapf_desk: too many lines\n")
+    want("the journal", bytes_of("desk"), ONE_ENTRY)
+    os.remove("desk")
+
+
+def small_disk():
+    """No file may have more than 20 bytes, as on a full disk."""
+    signal.signal(signal.SIGXFSZ, signal.SIG_IGN)
+    resource.setrlimit(resource.RLIMIT_FSIZE, (20, 20))
+
+
+def not_saved_on_a_full_disk():
+    """The file is as it was, and nothing of the new one is left."""
+    with open("kept", "wb") as file:
+        file.write(JOURNAL)
+    words = ["serve", "--map", "m", "--save", "kept"]
+    lines = b"agent 0 0,0 2,0\n"
+    status, said, complained = run(words, lines, preexec_fn=small_disk)
+    want("standard error", complained, "mapf_desk: can't write kept\n")
+    want("standard output", said, "version 1\n")
+    want("the status", status, 2)
+    want("the file", bytes_of("kept"), JOURNAL)
+    want("whether a new one is left", os.path.exists("kept.new"), False)
+    status, said, complained = run([*words, "-v"], lines, preexec_fn=small_disk)
+    want("standard error", complained, "mapf_desk: can't write kept\n  File too large (os error 27)\n")
+    with open("/dev/full", "wb") as full:
+        status, _, complained = run(words, lines, stdout=full, preexec_fn=small_disk)
+    want("standard error", complained, "mapf_desk: write failed\nmapf_desk: can't write kept\n")
+    want("the status", status, 2)
+    os.remove("kept")
+
+
+def saved_into_a_folder():
+    os.mkdir("folder")
+    save("--map m", b"agent 0 0,0 2,0\n", "version 1\n", "folder/desk")
+    want("what is there", os.listdir("folder"), ["desk"])
+    want("the journal", bytes_of("folder/desk"), ONE_ENTRY)
+    full = os.path.abspath("folder/desk")
+    is_answered(["serve", "--map", "m", "--journal", full, "--save", full], b"drop 0\n", "version 2\n")
+    want("the last line", bytes_of(full).split(b"\n")[-2], b"end 2")
+    os.remove(full), os.rmdir("folder")
+
+
+def killed():
+    """A session that is killed leaves the file as it was."""
+    with open("kept", "wb") as file:
+        file.write(JOURNAL)
+    for how in (signal.SIGTERM, signal.SIGKILL):
+        planner = Planner("serve", "--map", "m", "--scen", "s", "--agents", "1", "--journal", "kept", "--save", "kept")
+        planner.ask(b"version\n", b"version 1\n")
+        planner.ask(b"drop 0\n", b"version 2\n")
+        planner.process.send_signal(how)
+        want("the end", planner.end(), (-how, b""))
+        want("the file", bytes_of("kept"), JOURNAL)
+    want("whether a new one is left", os.path.exists("kept.new"), False)
+    os.remove("kept")
+
+
+LAST = re.compile(rb"^end (\d+)\n\Z", re.MULTILINE)
+
+
+def killed_while_saving():
+    """Sessions are killed at many moments of their end: the file is the journal before or after, whole, and is read."""
+    lines = b"".join(b"%s 0,0\n" % (b"close", b"open")[n % 2] for n in range(20000))
+    with open("kept", "wb") as file:
+        file.write(ONE_ENTRY)
+    seen = set()
+    for moment in range(24):
+        words = [PROGRAM, "serve", "--map", "m", "--journal", "kept", "--save", "kept"]
+        process = subprocess.Popen(words, stdin=subprocess.PIPE, stdout=subprocess.DEVNULL, stderr=subprocess.DEVNULL)
+        process.stdin.write(lines[: 10000 * (moment % 3 + 1)])
+        process.stdin.close()
+        time.sleep(moment * 0.004)
+        process.kill()
+        process.wait(PATIENCE)
+        last = LAST.search(bytes_of("kept"))
+        want("whether the file is whole", last is not None, True)
+        seen.add(last.group(1))
+        status, _, complained = run(["audit", "--map", "m", "--journal", "kept", "--workers", "1"])
+        want("standard error", complained, "")
+        want("the status", status, 0)
+        with open("kept", "wb") as file:
+            file.write(ONE_ENTRY)
+    for left in ("kept", "kept.new"):
+        if os.path.exists(left):
+            os.remove(left)
+
+
+def is_reason(words, more):
+    """--verbose says more in a second line, and changes nothing else."""
+    plain = run(words)
+    want("how many lines", plain[2].count("\n"), 1)
+    for flag in ("--verbose", "-v"):
+        for all_words in ([*words[:1], flag, *words[1:]], [flag, *words]):
+            want("what it does", run(all_words), (plain[0], plain[1], plain[2] + f"  {more}\n"))
+
+
+def reasons_of_streams():
+    with open("/dev/full", "wb") as full:
+        _, _, complained = run(["serve", "--map", "m", "-v"], b"version\n", stdout=full)
+    want("standard error", complained, "mapf_desk: write failed\n  No space left on device (os error 28)\n")
+    folder = os.open(".", os.O_RDONLY)
+    _, _, complained = run(["serve", "--map", "m", "-v"], stdin=folder)
+    os.close(folder)
+    want("standard error", complained, "mapf_desk: read failed\n  Is a directory (os error 21)\n")
+
+
+def stages():
+    """Audits and drills tell on a terminal what they are at, and nothing elsewhere."""
+    for words, said in ((["audit", "--map", "m"], 2), (["drill", "--map", "m", "one", "two"], 2), (["serve", "--map", "m"], 0)):
+        terminal, inside = pty.openpty()
+        status, out, _ = run(words, stderr=inside)
+        os.close(inside)
+        told = os.read(terminal, 65536) if said else b""
+        os.close(terminal)
+        want("how many stages", told.count(b"mapf_desk: "), said)
+        want("all else", (status, out), run(words)[:2])
+
+
 def tests():
     for name, words, text in FAULTS:
         yield name, lambda words=words, text=text: is_fault(words.split(), text)
@@ -405,6 +625,11 @@ def tests():
         yield words, lambda words=words: is_help(words.split())
     for name, words, given, out in ANSWERS:
         yield name, lambda words=words, given=given, out=out: is_answered(words.split(), given, out)
+    for words, more in REASONS:
+        yield f"reason: {words}", lambda words=words, more=more: is_reason(words.split(), more)
+    for test in (saved, saved_in_another_mode, saved_from_a_map_on_standard_input, not_saved_where_no_session_begins, saved_after_a_fault,
+                 not_saved_on_a_full_disk, saved_into_a_folder, killed, killed_while_saving, reasons_of_streams, stages):
+        yield test.__name__, test
     yield "map_on_standard_input", lambda: is_fault([], "map: bad size", FILES["map_size"])
     yield "no_answer_goes_out_whole", lambda: full_output(["serve", "--map", "m"], b"version\n")
     yield "no_audit_goes_out_whole", lambda: full_output(["audit", "--map", "m"], b"")
