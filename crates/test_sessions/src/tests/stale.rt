@@ -41,11 +41,13 @@ impl<'a, R: Wait + Abort> Meddler<'a, R> {
 }
 
 impl<'a, R: Wait + Abort> Source for Meddler<'a, R> {
-    ghost use Rattle.std.specs.Prelude.{None, false};
+    ghost use Rattle.std.specs.Prelude.{None, false, ⊤};
 
     ghost left = { λ _. None };
 
     ghost failed = { λ _. false };
+
+    ghost gives = { λ _ _ _. ⊤ };
 
     fn next_byte(&mut self) -> Result<Option<u8>, ReadFailed> {
         if self.taken == FIRST_LINES {
