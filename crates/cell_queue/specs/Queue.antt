@@ -16,11 +16,6 @@ pub record Queue : Type 0 where
   pub taken : ℕ
   pub total : ℕ
 
--- the cells taken since the last reset, and in all
-pub record Takings : Type 0 where
-  pub taken : ℕ
-  pub total : ℕ
-
 -- a queue without cells
 abbrev pub empty_queue : Extent → Queue
 empty_queue size = record { size = size; keys = replicate (area size) None; taken = 0; total = 0 }

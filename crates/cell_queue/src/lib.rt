@@ -5,4 +5,4 @@
 mod heaps;
 mod queues;
 
-pub use queues::{CellQueue, Counts};
+pub use queues::CellQueue;

@@ -6,36 +6,6 @@ use crate::heaps::Heap;
 use grid_cells::{Cell, OutOfMemory, Size};
 use std::alloc::Global;
 use std::marker::Model;
-use std::mem;
-
-/// How many cells a queue has taken: since it was made or reset, and in all.
-#[derive(Drop)]
-pub struct Counts {
-    taken: u64,
-    total: u64,
-}
-
-// Clauses see the two numbers.
-impl Model for Counts {
-    ghost use Rattle.cell_queue.specs.Queue.{Takings};
-
-    ghost Value = { Takings };
-
-    ghost use Rattle.std.specs.Prelude.{◌<◌, ◌^◌};
-
-    ghost view = { λ c. record { taken = c.taken; total = c.total } };
-
-    ghost invariant = { λ c. (c.taken < 2 ^ 64) × (c.total < 2 ^ 64) };
-}
-
-impl Counts {
-    /// Nothing is taken yet.
-    pub fn new() -> Counts
-        ensures { result ≡ record { taken = 0; total = 0 } }
-    {
-        Counts { taken: 0, total: 0 }
-    }
-}
 
 /// Some cells of a map, each under a key, and two counters of the cells that were taken: one that
 /// can be set to 0, and one that can't.
@@ -121,16 +91,6 @@ impl CellQueue {
         ensures { result ≡ self.now.total }
     {
         self.total
-    }
-
-    /// Goes on from the other counts, which get those of the queue: so one queue can be lent, and
-    /// count for whom it is lent to.
-    pub fn swap_counts(&mut self, counts: &mut Counts)
-        ensures is { self.new ≡ record self.old { taken = counts.old.taken; total = counts.old.total } }
-        ensures given { counts.new ≡ record { taken = self.old.taken; total = self.old.total } }
-    {
-        mem::swap(&mut self.taken, &mut counts.taken);
-        mem::swap(&mut self.total, &mut counts.total);
     }
 
     /// Sets the counter of the cells taken to 0; the total stays.

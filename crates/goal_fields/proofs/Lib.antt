@@ -9,4 +9,3 @@ pub mod LastLemmas
 pub mod CountLemmas
 pub mod HeldLemmas
 pub mod CoverLemmas
-pub mod RoomLemmas

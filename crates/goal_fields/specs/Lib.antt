@@ -8,4 +8,3 @@ pub mod Marks
 pub mod Repair
 pub mod Lifelong
 pub mod Search
-pub mod Rest

@@ -2,78 +2,38 @@ ghost use Rattle.std.specs.Prelude.{◌≡◌, ◌*◌, ◌≤◌, IfOk, None};
 ghost use Rattle.grid_cells.specs.Size.{Holds};
 ghost use Rattle.grid_cells.specs.Walks.{IsDistance};
 ghost use Rattle.grid_cells.specs.declared.sizes.TheConstants.{MOST_CELLS};
-ghost use Rattle.goal_fields.specs.Marks.{IsWhole};
 ghost use Rattle.goal_fields.specs.Target.{Covers, IsSound};
 ghost use Rattle.goal_fields.specs.Changes.{IsRepaired};
-ghost use Rattle.goal_fields.specs.Rest.{IsAtRest, IsIdle, IsRoomOn};
 
 use crate::lifelong::Lifelong;
-use crate::maps::adopt;
-use crate::rooms::{Ground, Lent};
-use crate::search::Search;
-use cell_queue::Counts;
-use grid_cells::{Cell, Grid, OutOfMemory, Size};
+use grid_cells::{Cell, Grid, OutOfMemory};
 use std::alloc::Global;
 use std::marker::Model;
-use std::snapshot::Snapshot;
-
-// The number that is none.
-const FAR: u32 = u32::MAX;
 
 /// The distances of all cells to one goal, mended by Lifelong Planning A* (Koenig, Likhachev, Furcy
-/// 2004) as cells open and close. It has room of its own for that, unless room is lent to it.
+/// 2004) as cells open and close.
 #[derive(Drop)]
-pub struct Field<R: Ground = Lifelong> {
-    size: Size,
-    goal: Cell,
-    g: Vec<u32>,
-    room: R,
+pub struct Field {
+    state: Lifelong,
 }
 
 // Clauses see the grid that the field stands for, the goal, and what its queue has counted since the
 // last repair began, and in all.
-impl<R: Ground> Model for Field<R> {
+impl Model for Field {
     ghost use Rattle.goal_fields.specs.Target.{Standing};
 
     ghost Value = { Standing };
 
-    ghost use Rattle.goal_fields.specs.Rest.{IsAtRest};
+    ghost use Rattle.goal_fields.specs.Lifelong.{IsSettled};
 
     ghost view = { λ field. record {
-      grid = R.chart field.room;
-      goal = field.goal;
-      taken = R.taken field.room;
-      total = R.total field.room;
+      grid = field.state.grid;
+      goal = field.state.goal;
+      taken = field.state.queue.taken;
+      total = field.state.queue.total;
     } };
 
-    ghost invariant = { λ field. IsAtRest (R.chart field.room) field.size field.goal field.g.items × R.is_idle field.room };
-}
-
-// The distances on the grid, by breadth-first search.
-fn found(alloc: Global, grid: &Grid, goal: Cell) -> Result<Vec<u32>, OutOfMemory>
-    requires { Holds grid.now.size goal }
-    ensures { IfOk result (λ marks. IsAtRest grid.now grid.now.size goal marks.items) }
-{
-    let mut search = Search::new(alloc, grid, goal)?;
-    search.run();
-    let Search { marks, .. } = search;
-    Ok(marks)
-}
-
-impl<R: Ground> Field<R> {
-    /// The distance from the cell to the goal in steps; none where there is no walk, and outside the
-    /// map.
-    pub fn distance(&self, cell: Cell) -> Option<u32>
-        ensures inside { Holds self.now.grid.size cell → IsDistance self.now.grid cell self.now.goal result }
-        ensures outside { (Holds self.now.grid.size cell → ⊥) → result ≡ None }
-        ensures sound { IsSound self.now }
-    {
-        if !self.size.holds(cell) {
-            return None;
-        }
-        let g = self.g[self.size.index(cell)];
-        if g == FAR { None } else { Some(g) }
-    }
+    ghost invariant = { λ field. IsSettled field.state };
 }
 
 impl Field {
@@ -85,10 +45,7 @@ impl Field {
         ensures sound { IfOk result IsSound }
     {
         Ok(Field {
-            size: grid.size(),
-            goal,
-            g: found(alloc, grid, goal)?,
-            room: Lifelong::new(alloc, grid, goal)?,
+            state: Lifelong::new(alloc, grid, goal)?,
         })
     }
 
@@ -101,45 +58,16 @@ impl Field {
         ensures counted { result ≡ self.new.taken }
         ensures few { result ≤ 2 * MOST_CELLS }
     {
-        adopt(&mut self.room.grid, grid, changed);
-        self.room.mend_for(self.goal, &mut self.g, changed)
-    }
-}
-
-impl Field<Lent> {
-    // The distances on the grid, for a field to which room will be lent.
-    pub(crate) fn lent(alloc: Global, grid: &Grid, goal: Cell) -> Result<Field<Lent>, OutOfMemory>
-        requires { Holds grid.now.size goal }
-        ensures stands { IfOk result (λ field. field.grid ≡ grid.now) }
-        ensures goal { IfOk result (λ field. field.goal ≡ goal) }
-        ensures sound { IfOk result IsSound }
-    {
-        Ok(Field {
-            size: grid.size(),
-            goal,
-            g: found(alloc, grid, goal)?,
-            room: Lent {
-                map: Snapshot::of(grid),
-                counts: Counts::new(),
-            },
-        })
+        self.state.repair(grid, changed)
     }
 
-    // Mends the distances for the map of the room that is lent, which differs at most at the changed
-    // cells, and tells how many cells were taken.
-    pub(crate) fn repair_in(&mut self, room: &mut Lifelong, changed: &[Cell]) -> u64
-        requires room { IsRoomOn room.old.grid room.old }
-        requires same_size { room.old.grid.size ≡ self.old.grid.size }
-        requires covered { Covers changed.now self.old.grid room.old.grid }
-        ensures repaired { IsRepaired room.old.grid self.old self.new }
-        ensures counted { result ≡ self.new.taken }
-        ensures few { result ≤ 2 * MOST_CELLS }
-        ensures room { IsRoomOn room.old.grid room.new }
+    /// The distance from the cell to the goal in steps; none where there is no walk, and outside the
+    /// map.
+    pub fn distance(&self, cell: Cell) -> Option<u32>
+        ensures inside { Holds self.now.grid.size cell → IsDistance self.now.grid cell self.now.goal result }
+        ensures outside { (Holds self.now.grid.size cell → ⊥) → result ≡ None }
+        ensures sound { IsSound self.now }
     {
-        room.queue.swap_counts(&mut self.room.counts);
-        let taken = room.mend_for(self.goal, &mut self.g, changed);
-        room.queue.swap_counts(&mut self.room.counts);
-        self.room.map = Snapshot::of(&room.grid);
-        taken
+        self.state.distance(cell)
     }
 }

@@ -3,26 +3,19 @@ ghost use Rattle.std.specs.List.{AllZip};
 ghost use Rattle.grid_cells.specs.Size.{Holds};
 ghost use Rattle.goal_fields.specs.Target.{Covers, IsSound};
 ghost use Rattle.goal_fields.specs.Changes.{IsRepaired};
-ghost use Rattle.goal_fields.specs.Rest.{IsRoomOn};
 ghost use Rattle.goal_fields.specs.Held.{HasGoal, StandFor, RiseByGoal, SameButGoal, rank_of, IsRising};
 
 use crate::field::Field;
-use crate::lending::{give_back, let_go, made};
-use crate::lifelong::Lifelong;
-use crate::maps::adopt;
-use crate::rooms::Lent;
 use grid_cells::{Cell, Grid, MOST_SIDE, OutOfMemory};
 use std::alloc::Global;
 use std::marker::Model;
 
-/// A field for each distinct goal that is held, all of them on one grid. The map and the queue, which
-/// a repair needs beside the distances, stand once and are lent to each field in turn.
+/// A field for each distinct goal that is held, all of them on one grid.
 #[derive(Drop)]
 pub struct Fields {
     alloc: Global,
     ranks: Vec<u32>,
-    fields: Vec<Field<Lent>>,
-    room: Option<Lifelong>,
+    fields: Vec<Field>,
 }
 
 // Clauses see the fields, in the order of their goals.
@@ -33,11 +26,10 @@ impl Model for Fields {
     ghost Value = { List Standing };
 
     ghost use Rattle.goal_fields.specs.Kept.{IsKept};
-    ghost use Rattle.goal_fields.specs.Rest.{HaveRoom};
 
     ghost view = { λ f. f.fields.items };
 
-    ghost invariant = { λ f. IsKept f.ranks.items f.fields.items × HaveRoom f.fields.items f.room };
+    ghost invariant = { λ f. IsKept f.ranks.items f.fields.items };
 }
 
 impl Fields {
@@ -49,7 +41,6 @@ impl Fields {
             alloc,
             ranks: Vec::new(alloc),
             fields: Vec::new(alloc),
-            room: None,
         }
     }
 
@@ -73,17 +64,14 @@ impl Fields {
             alloc,
             mut ranks,
             mut fields,
-            room,
         } = self;
-        let field = Field::lent(alloc, grid, goal)?;
-        let room = made(alloc, room, grid, goal)?;
+        let field = Field::new(alloc, grid, goal)?;
         ranks.insert(at, rank)?;
         fields.insert(at, field)?;
         Ok(Fields {
             alloc,
             ranks,
             fields,
-            room: Some(room),
         })
     }
 
@@ -97,7 +85,6 @@ impl Fields {
         if let Ok(at) = place(&self.ranks, rank(goal)) {
             self.ranks.remove(at);
             self.fields.remove(at);
-            let_go(&mut self.room, &self.fields);
         }
     }
 
@@ -109,13 +96,7 @@ impl Fields {
         ensures each { AllZip (IsRepaired grid.now) self.old self.new }
         ensures sum { result ≡ sum_by (λ field. field.taken) self.new }
     {
-        let Some(mut room) = self.room.take() else {
-            return 0
-        };
-        adopt(&mut room.grid, grid, changed);
-        let total = repair_each(&mut self.fields, &mut room, changed);
-        give_back(&mut self.room, room);
-        total
+        repair_each(&mut self.fields, grid, changed)
     }
 
     /// How many goals are held.
@@ -128,7 +109,7 @@ impl Fields {
     }
 
     /// The field of the goal, if it is held.
-    pub fn field(&self, goal: Cell) -> Option<&Field<Lent>>
+    pub fn field(&self, goal: Cell) -> Option<&Field>
         ensures found { IfSome result (λ field. Contains self.now field.now × (field.now.goal ≡ goal)) }
         ensures none { IfNone result (HasGoal self.now goal → ⊥) }
         ensures one_each { RiseByGoal self.now }
@@ -161,19 +142,17 @@ fn place(ranks: &[u32], rank: u32) -> Result<usize, usize>
     ranks.binary_search(&rank)
 }
 
-// Repairs each of the fields for the map of the room, which is lent to one after another.
-fn repair_each(fields: &mut [Field<Lent>], room: &mut Lifelong, changed: &[Cell]) -> u64
+// Repairs each of the fields.
+fn repair_each(fields: &mut [Field], grid: &Grid, changed: &[Cell]) -> u64
     requires few { length fields.old ≤ 4194304 }
-    requires room { IsRoomOn room.old.grid room.old }
-    requires same_size { All (λ field. room.old.grid.size ≡ field.grid.size) fields.old }
-    requires covered { All (λ field. Covers changed.now field.grid room.old.grid) fields.old }
-    ensures each { AllZip (IsRepaired room.old.grid) fields.old fields.new }
+    requires same_size { All (λ field. grid.now.size ≡ field.grid.size) fields.old }
+    requires covered { All (λ field. Covers changed.now field.grid grid.now) fields.old }
+    ensures each { AllZip (IsRepaired grid.now) fields.old fields.new }
     ensures sum { result ≡ sum_by (λ field. field.taken) fields.new }
-    ensures room { IsRoomOn room.old.grid room.new }
 {
     let mut total = 0;
     for field in fields.iter_mut() {
-        total += field.repair_in(room, changed);
+        total += field.repair(grid, changed);
     }
     total
 }

@@ -1,4 +1,5 @@
-use Rattle.std.proofs.Common.{take}
+use Rattle.std.proofs.Common.{◌≡◌, take}
+use Rattle.goal_fields.specs.declared.lifelong.Lifelong.{Lifelong}
 use Rattle.goal_fields.specs.Lifelong.{IsTouched}
 use Rattle.goal_fields.proofs.lifelong.Lifelong.mend.Given as goal
 
