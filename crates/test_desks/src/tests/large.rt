@@ -75,8 +75,9 @@ fn edited(rt: &impl Abort, alloc: Global, desk: &mut Desk, base: u64, edits: Vec
     assert!(rt; desk.commit(all).is_ok());
 }
 
-// A reading at that version has a line of each agent, the first of agent 0 with that settle time,
-// and no conflict.
+// A reading at that version has a line of each agent, the first of agent 0 with that settle time, no
+// conflict, and the sum of bounds. An agent starts 2(k mod 64) + k div 64 steps from the corner; over
+// 64 rows of 64 agents these are 64 times 2,016, three times. Most agents aren't finished.
 fn tells(reading: &Reading, version: u64, settle: u32) -> bool {
     let report = &reading.report;
     let [first, ..] = report.lines.items() else {
@@ -85,6 +86,9 @@ fn tells(reading: &Reading, version: u64, settle: u32) -> bool {
     reading.version == version
         && report.lines.items().len() == AGENTS as usize
         && report.conflicts.items().is_empty()
+        && report.bounds == Some(387_072)
+        && report.sum.is_none()
+        && report.total_gap.is_none()
         && first.agent.number() == 0
         && first.settle == settle
 }

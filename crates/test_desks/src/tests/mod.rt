@@ -13,6 +13,7 @@ mod replays;
 mod reports;
 mod rows;
 mod runs;
+mod scenes;
 mod sessions;
 mod shared;
 mod sources;

@@ -1,6 +1,7 @@
 //! Commits that look like chance: what a desk's journal alone says of stale ones, and the report that
 //! goes over all pairs of the scene.
 use super::chance::some_commit;
+use super::scenes::are_same;
 use desk_core::{Commit, Desk, Edit, Limit, Refusal, Scene, Thing};
 use desk_report::{Report, plain_report};
 use goal_fields::PlainField;
@@ -92,11 +93,13 @@ fn plain_reading(rt: &impl Abort, alloc: Global, scene: &Scene) -> Report {
     plain_report(alloc, grid, scene.mode(), plans, &bounds).expect(rt, "memory")
 }
 
-// The desk's reading is the plain one, and a snapshot has the scene's agents.
+// The desk's reading is the plain one, and a snapshot has the desk's scene.
 fn reads_plainly(rt: &impl Abort, alloc: Global, desk: &mut Desk) {
     let reading = desk.reading().expect(rt, "memory");
     let plain = plain_reading(rt, alloc, desk.scene());
     assert!(rt; reading.version == desk.version() && reading.report == plain);
+    let copy = desk.snapshot().expect(rt, "memory");
+    assert!(rt; copy.version == desk.version() && are_same(rt, &copy.scene, desk.scene()));
 }
 
 // Whether the commit's first two edits are of one agent or cell, and whether it has a tail.

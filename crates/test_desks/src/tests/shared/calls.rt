@@ -1,7 +1,8 @@
-//! Calls of a shared desk, one of them with too little memory. After each the turn is free.
+//! Calls of a shared desk, each with so many bytes or with ample memory.
 ghost use Rattle.desk_shared.specs.Passes.{Owns};
 
-use super::super::build::{agent, cell, commit, desk, drought, leave};
+use super::super::build::{agent, cell, commit, desk, leave};
+use super::super::scenes::is_scene;
 use desk_core::{AskFault, Refusal};
 use desk_shared::{Pass, ShareFault, SharedDesk};
 use std::alloc::Global;
@@ -9,40 +10,23 @@ use std::process::Abort;
 use std::sync::Wait;
 use test_droughts::Drought;
 
-// The call that has too little memory, the bytes that it has, and whether it is made again and the
-// others follow, or the desk is closed at once.
-#[derive(Clone, Copy)]
-struct Want {
-    number: u32,
-    bytes: usize,
-    goes_on: bool,
-}
+/// The lines of the desk's scene.
+pub const BEFORE: &[&str] = &["agent 3 0,0 2,0"];
 
-impl Want {
-    // The bytes of the call of that number.
-    fn bytes(self, number: u32) -> Option<usize> {
-        if number == self.number {
-            Some(self.bytes)
-        } else {
-            None
-        }
-    }
-}
+/// The lines of its scene after call 1.
+pub const AFTER: &[&str] = &["agent 3 0,0 2,0", "path 3 0,0 1,0"];
 
-// The number of the call that opens the shared desk.
-const OPENING: u32 = 0;
-
-// Shares agent 3's desk. The desk comes back where there is no memory. Tells whether it did.
-fn opens(
+/// Call 0 shares agent 3's desk. The desk comes back where there is no memory. Tells whether it did.
+pub fn opens(
     rt: &impl Abort,
     alloc: Global,
     drought: &mut Drought,
-    want: Want,
+    bytes: Option<usize>,
 ) -> (SharedDesk, Pass, bool)
     ensures { Owns result.0 result.1 }
 {
-    let desk = desk(rt, alloc, &["agent 3 0,0 2,0"], 10);
-    leave(rt, drought, want.bytes(OPENING));
+    let desk = desk(rt, alloc, BEFORE, 10);
+    leave(rt, drought, bytes);
     let opened = SharedDesk::open(alloc, desk, 1);
     drought.relieve();
     let back = match opened {
@@ -132,6 +116,7 @@ fn reads<R: Wait + Abort>(
 // Call 4, a snapshot.
 fn copies<R: Wait + Abort>(
     rt: &R,
+    alloc: Global,
     drought: &mut Drought,
     shared: &SharedDesk,
     pass: &mut Pass,
@@ -146,12 +131,12 @@ fn copies<R: Wait + Abort>(
     let Ok(copy) = answer else {
         return false;
     };
-    assert!(rt; copy.version == 1 && copy.scene.plans().count() == 1);
+    assert!(rt; copy.version == 1 && is_scene(rt, alloc, &copy.scene, AFTER));
     true
 }
 
-// Makes the call of that number. Tells whether there was memory for it.
-fn calls<R: Wait + Abort>(
+/// Makes the call of that number, 1 to 4. Tells whether there was memory for it.
+pub fn calls<R: Wait + Abort>(
     rt: &R,
     alloc: Global,
     drought: &mut Drought,
@@ -167,89 +152,6 @@ fn calls<R: Wait + Abort>(
         1 => commits(rt, alloc, drought, shared, pass, bytes),
         2 => asks(rt, drought, shared, pass, bytes),
         3 => reads(rt, drought, shared, pass, bytes),
-        _ => copies(rt, drought, shared, pass, bytes),
-    }
-}
-
-// Makes the calls in turn, and the distance before the reading where it is the one with too little
-// memory. Tells whether one was refused, and the version at the end.
-fn goes_on<R: Wait + Abort>(
-    rt: &R,
-    alloc: Global,
-    drought: &mut Drought,
-    shared: &SharedDesk,
-    pass: &mut Pass,
-    want: Want,
-) -> (bool, u64)
-    requires { Owns shared.now pass.old }
-    ensures { Owns shared.now pass.new }
-{
-    let mut refused = false;
-    let mut version = 0;
-    let order = if want.number == 2 {
-        [1, 2, 3, 4]
-    } else {
-        [1, 3, 4, 2]
-    };
-    for number in order {
-        let bytes = want.bytes(number);
-        if !calls(rt, alloc, drought, shared, pass, number, bytes) {
-            refused = true;
-            if !want.goes_on {
-                break;
-            }
-            let made = calls(rt, alloc, drought, shared, pass, number, None);
-            assert!(rt; made);
-        }
-        version = 1;
-    }
-    (refused, version)
-}
-
-// Makes the calls on a shared desk and closes it, which leaves the turn free. Tells whether one was
-// refused.
-fn is_refused<R: Wait + Abort>(rt: &R, alloc: Global, drought: &mut Drought, want: Want) -> bool {
-    let (shared, mut pass, back) = opens(rt, alloc, drought, want);
-    let (later, version) = if back && !want.goes_on {
-        (false, 0)
-    } else {
-        goes_on(rt, alloc, drought, &shared, &mut pass, want)
-    };
-    assert!(rt; shared.front(&mut pass) == version);
-    let closed = shared.close(pass).expect(rt, "the desk");
-    assert!(rt; closed.version() == version);
-    back || later
-}
-
-// How often that call is refused, with 16 bytes more each time until it isn't.
-fn refusals<R: Wait + Abort>(
-    rt: &R,
-    alloc: Global,
-    drought: &mut Drought,
-    number: u32,
-    goes_on: bool,
-) -> usize {
-    for step in 0..1_000 {
-        let want = Want {
-            number,
-            bytes: 16 * step,
-            goes_on,
-        };
-        if !is_refused(rt, alloc, drought, want) {
-            return step;
-        }
-    }
-    panic!(rt; "refused with 16,000 bytes");
-}
-
-#[test]
-fn want_of_memory_at_a_shared_desk(rt: HostRuntime) {
-    let alloc = rt.alloc();
-    let mut drought = drought(&rt, alloc);
-    for goes_on in [true, false] {
-        for number in 0..5 {
-            let count = refusals(&rt, alloc, &mut drought, number, goes_on);
-            assert!(rt; count > 0, "call {number}");
-        }
+        _ => copies(rt, alloc, drought, shared, pass, bytes),
     }
 }

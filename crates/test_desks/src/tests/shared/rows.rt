@@ -1,10 +1,13 @@
 //! One thread, and one pass or several.
 use super::super::build::{agent, cell, commit, desk};
+use super::super::scenes::is_scene;
 use super::build::{share, split};
 use desk_core::{AskFault, Refusal};
 use desk_shared::{PassLost, ShareFault, SharedDesk, SplitFault};
 
 const SCENE: &[&str] = &["agent 3 0,0 2,0"];
+
+const CLOSED: &[&str] = &["agent 3 0,0 2,0", "close 1,0"];
 
 #[test]
 fn shared_by_none_and_by_too_many(rt: HostRuntime) {
@@ -88,18 +91,18 @@ fn reads_follow_an_unjoined_commit(rt: HostRuntime) {
     let alloc = rt.alloc();
     let (shared, mut first) = share(&rt, alloc, desk(&rt, alloc, SCENE, 10), 2);
     let mut second = split(&rt, &shared, &mut first);
-    let (three, corner, middle) = (agent(&rt, 3), cell(&rt, 0, 0), cell(&rt, 1, 0));
+    let (three, corner) = (agent(&rt, 3), cell(&rt, 0, 0));
     let far = shared.distance(&rt, &mut first, three, corner);
     let before = shared.snapshot(&rt, &mut first).expect(&rt, "memory");
     assert!(rt; far == Ok(Some(2)) && before.version == 0);
+    assert!(rt; is_scene(&rt, alloc, &before.scene, SCENE));
     let close = commit(&rt, alloc, second.planner(), 0, &["close 1,0"]);
     assert!(rt; matches!(shared.commit(&rt, &mut second, close), Ok(1)));
     let far = shared.distance(&rt, &mut first, three, corner);
     let after = shared.snapshot(&rt, &mut first).expect(&rt, "memory");
     assert!(rt; far == Ok(None) && after.version == 1);
-    let grid = after.scene.grid();
-    assert!(rt; grid.size().holds(middle));
-    assert!(rt; !grid.is_open(middle) && shared.front(&mut first) == 1);
+    assert!(rt; is_scene(&rt, alloc, &after.scene, CLOSED));
+    assert!(rt; shared.front(&mut first) == 1);
     let reading = shared.reading(&rt, &mut first).expect(&rt, "memory");
     shared.join(&mut first, second);
     let joined = shared.reading(&rt, &mut first).expect(&rt, "memory");

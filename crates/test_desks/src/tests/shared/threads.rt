@@ -3,6 +3,7 @@ ghost use Rattle.std.specs.Prelude.{◌<◌, All};
 ghost use Rattle.desk_shared.specs.Passes.{Owns};
 
 use super::super::build::{commit, desk};
+use super::super::scenes::is_scene;
 use super::build::{share, split};
 use desk_shared::{Pass, SharedDesk};
 use std::alloc::Global;
@@ -60,6 +61,7 @@ fn plan<R: Wait + Abort>(
     mine.store(1, Ordering::SeqCst);
     let waited = waited_for(other);
     assert!(rt; copy.version == 0 && waited);
+    assert!(rt; is_scene(rt, alloc, &copy.scene, &SCENE[..2]));
     let commit = commit(rt, alloc, pass.planner(), 0, &[line]);
     match shared.commit(rt, &mut pass, commit) {
         Ok(version) => (pass, version),

@@ -1,0 +1,3 @@
+//! Sessions with too little memory.
+mod refusals;
+mod rows;
