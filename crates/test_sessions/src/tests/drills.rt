@@ -61,11 +61,27 @@ fn too_many_scripts(rt: HostRuntime) {
     }
 }
 
-// Holds each of two scripts until the other has begun. The wrong body drill_one_after_another misses.
+/// Holds each of two scripts until the other has begun. The wrong body drill_one_after_another misses.
 #[derive(Drop)]
-struct Meeting {
+pub struct Meeting {
     begun: [AtomicBool; 2],
     missed: AtomicU64,
+}
+
+impl Meeting {
+    pub fn new() -> Meeting {
+        Meeting {
+            begun: [AtomicBool::new(false), AtomicBool::new(false)],
+            missed: AtomicU64::new(0),
+        }
+    }
+
+    /// Whether both have begun, and each found the other.
+    pub fn is_met(&self) -> bool {
+        self.begun[0].load(Ordering::SeqCst)
+            && self.begun[1].load(Ordering::SeqCst)
+            && self.missed.load(Ordering::SeqCst) == 0
+    }
 }
 
 // How often a script looks whether the other has begun.
@@ -93,11 +109,8 @@ fn scripts_run_at_once(rt: HostRuntime) {
         alloc,
         &[b"agent 0 0,0 0,0".as_slice(), b"agent 1 2,0 2,0".as_slice()],
     );
-    let gate = Meeting {
-        begun: [AtomicBool::new(false), AtomicBool::new(false)],
-        missed: AtomicU64::new(0),
-    };
+    let gate = Meeting::new();
     let (ended, _) = drilled(&rt, alloc, MAP, scripts, &gate);
     assert!(rt; ended == Ok(true));
-    assert!(rt; gate.missed.load(Ordering::SeqCst) == 0);
+    assert!(rt; gate.is_met());
 }
