@@ -1,6 +1,6 @@
-ghost use Rattle.std.specs.Prelude.{◌≡◌, ◌||◌};
+ghost use Rattle.std.specs.Prelude.{◌≡◌, ◌+◌, ◌||◌};
 ghost use Rattle.desk_session.specs.Answer.{answering};
-ghost use Rattle.desk_session.specs.Reads.{ReadsUntil};
+ghost use Rattle.desk_session.specs.Reads.{ReadsUntil, TakesAtMost};
 ghost use Rattle.desk_session.specs.Session.{Serves, is_read_failed, is_write_failed};
 
 use crate::answers::answer;
@@ -28,6 +28,7 @@ pub fn serve<C: Counter, R: Source, W: Sink>(
     ensures session { (last : Session) × Serves (answering C.counting) bounds (R.left reader.old) (R.left reader.new)
         (W.held writer.old) (W.held writer.new) (Session.Idle, counter.old) (last, counter.new) result }
     ensures reads { ReadsUntil R.gives reader.old reader.new (is_read_failed result) }
+    ensures bounded { TakesAtMost R.gives (bounds.bytes + 1) reader.old reader.new }
     ensures failed { R.failed reader.new ≡ (R.failed reader.old || is_read_failed result) }
     ensures broken { W.broken writer.new ≡ (W.broken writer.old || is_write_failed result) }
 {

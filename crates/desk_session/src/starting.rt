@@ -1,6 +1,6 @@
-ghost use Rattle.std.specs.Prelude.{◌≡◌, ◌||◌, IfOk, IfErr};
+ghost use Rattle.std.specs.Prelude.{◌≡◌, ◌+◌, ◌||◌, length, IfOk, IfErr};
 ghost use Rattle.desk_session.specs.Start.{HearsMap, StopsInMap, Starts, is_read_fault, is_write_fault};
-ghost use Rattle.desk_session.specs.Reads.{ReadsUntil};
+ghost use Rattle.desk_session.specs.Reads.{ReadsUntil, TakesAtMost};
 ghost use Rattle.desk_session.specs.Session.{is_read_failed};
 
 use crate::bounds::{Bounds, ServeFault, StartFault};
@@ -21,6 +21,8 @@ pub fn hear_map<R: Source>(alloc: Global, reader: &mut R, most: u64) -> Result<V
     ensures heard { IfOk result (λ text. HearsMap (R.left reader.old) (R.left reader.new) most text.items) }
     ensures stopped { IfErr result (StopsInMap (R.left reader.old) (R.left reader.new) most) }
     ensures reads { ReadsUntil R.gives reader.old reader.new (is_read_failed result) }
+    ensures took { IfOk result (λ text. TakesAtMost R.gives (length text.items) reader.old reader.new) }
+    ensures bounded { TakesAtMost R.gives (most + 1) reader.old reader.new }
     ensures failed { R.failed reader.new ≡ (R.failed reader.old || is_read_failed result) }
 {
     let mut text: Vec<u8> = Vec::new(alloc);
@@ -69,6 +71,7 @@ pub fn serve_with_map<R: Source, W: Sink>(
 ) -> Result<u32, StartFault>
     ensures session { Starts (R.left reader.old) (R.left reader.new) (W.held writer.old) (W.held writer.new) bounds mode limit result }
     ensures reads { ReadsUntil R.gives reader.old reader.new (is_read_fault result) }
+    ensures bounded { TakesAtMost R.gives (bounds.bytes + 1) reader.old reader.new }
     ensures failed { R.failed reader.new ≡ (R.failed reader.old || is_read_fault result) }
     ensures broken { W.broken writer.new ≡ (W.broken writer.old || is_write_fault result) }
 {

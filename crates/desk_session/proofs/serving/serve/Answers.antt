@@ -1,6 +1,6 @@
-use Rattle.std.proofs.Common.{rules, arith, ◌≡◌, ◌<◌, false, nat_eq, length}
+use Rattle.std.proofs.Common.{rules, arith, ◌≡◌, ◌+◌, ◌≤◌, ◌<◌, false, nat_eq, length}
 use Rattle.desk_session.proofs.Progress.{progress-byte, progress-line}
-use Rattle.desk_session.proofs.Reading.{one-more, then-failed}
+use Rattle.desk_session.proofs.Reading.{one-more, then-failed, takes-byte, takes-end, takes-failure, takes-fewer}
 use Rattle.desk_session.proofs.Endings.{ends-unread, ends-no_memory, ends-line_unwritten, ends-last_unwritten, ends-last, ends-empty, ends-many_lines, ends-many_bytes}
 use Rattle.desk_session.proofs.serving.serve.Goals as goal
 
@@ -26,6 +26,7 @@ returns-then-bytes-bounds-clause-session g c =
 
 pub session-preserved-in-Ok-push : goal.session-preserved-in-Ok-push
 session-preserved-in-Ok-push g c =
+    let gave = rw c.in-Ok-Some.field-0-is at c.in-Ok-Some.ensures.gives in
     let took = rw c.in-Ok-Some.field-0-is at c.in-Ok-Some.ensures.bytes in
     let other : nat_eq c.in-Ok-Some.byte 10 ≡ false = search rules in
     record {
@@ -34,6 +35,7 @@ session-preserved-in-Ok-push g c =
       bytes_within = omega arith;
       room = λ _. omega arith;
       well = one-more _ _ _ _ _ c.session.invariant.well c.in-Ok-Some.ensures.gives;
+      took = takes-byte _ _ _ _ _ c.in-Ok-Some.byte c.session.invariant.took gave;
       read_sound = search rules;
       write_sound = search rules;
     }
@@ -67,6 +69,7 @@ returns-in-Err-put_reply-2-clause-session g c =
 -- The reply that was put held a reading.
 pub session-preserved-in-Ok-put_reply : goal.session-preserved-in-Ok-put_reply
 session-preserved-in-Ok-put_reply g c =
+    let gave = rw c.in-Ok-Some.field-0-is at c.in-Ok-Some.ensures.gives in
     let took = rw c.in-Ok-Some.field-0-is at c.in-Ok-Some.ensures.bytes in
     let asked = rw c.as_slice-else-byte-ne10.ensures.value at c.answer-reply-else-byte-ne10.ensures in
     record {
@@ -75,6 +78,7 @@ session-preserved-in-Ok-put_reply g c =
       bytes_within = omega arith;
       room = search rules;
       well = one-more _ _ _ _ _ c.session.invariant.well c.in-Ok-Some.ensures.gives;
+      took = takes-byte _ _ _ _ _ c.in-Ok-Some.byte c.session.invariant.took gave;
       read_sound = search rules;
       write_sound = search rules;
     }
@@ -82,6 +86,7 @@ session-preserved-in-Ok-put_reply g c =
 -- The reply that was put held no reading.
 pub session-preserved : goal.session-preserved
 session-preserved g c =
+    let gave = rw c.in-Ok-Some.field-0-is at c.in-Ok-Some.ensures.gives in
     let took = rw c.in-Ok-Some.field-0-is at c.in-Ok-Some.ensures.bytes in
     let asked = rw c.as_slice-else-byte-ne10.ensures.value at c.answer-reply-else-byte-ne10.ensures in
     record {
@@ -90,6 +95,7 @@ session-preserved g c =
       bytes_within = omega arith;
       room = search rules;
       well = one-more _ _ _ _ _ c.session.invariant.well c.in-Ok-Some.ensures.gives;
+      took = takes-byte _ _ _ _ _ c.in-Ok-Some.byte c.session.invariant.took gave;
       read_sound = search rules;
       write_sound = search rules;
     }
@@ -118,3 +124,43 @@ returns-in-Err-push-clause-reads g c = one-more _ _ _ _ _ c.session.invariant.we
 
 pub returns-in-Err-put_reply-2-clause-reads : goal.returns-in-Err-put_reply-2-clause-reads
 returns-in-Err-put_reply-2-clause-reads g c = one-more _ _ _ _ _ c.session.invariant.well c.in-Ok-Some.ensures.gives
+
+-- No more bytes are taken than the bound and one.
+pub returns-in-Err-clause-bounded : goal.returns-in-Err-clause-bounded
+returns-in-Err-clause-bounded g c =
+    takes-fewer _ c.session.bytes _ _ _ (takes-failure _ _ _ _ _ _ c.session.invariant.took c.in-Err.ensures.gives) (omega arith)
+
+pub returns-then-is_empty-clause-bounded : goal.returns-then-is_empty-clause-bounded
+returns-then-is_empty-clause-bounded g c =
+    let gave = rw c.in-Ok-None.field-0-is at c.in-Ok-None.ensures.gives in
+    takes-fewer _ c.session.bytes _ _ _ (takes-end _ _ _ _ _ c.session.invariant.took gave) (omega arith)
+
+pub returns-in-Ok-clause-bounded : goal.returns-in-Ok-clause-bounded
+returns-in-Ok-clause-bounded g c =
+    let gave = rw c.in-Ok-None.field-0-is at c.in-Ok-None.ensures.gives in
+    takes-fewer _ c.session.bytes _ _ _ (takes-end _ _ _ _ _ c.session.invariant.took gave) (omega arith)
+
+pub returns-in-Err-put_reply-clause-bounded : goal.returns-in-Err-put_reply-clause-bounded
+returns-in-Err-put_reply-clause-bounded g c =
+    let gave = rw c.in-Ok-None.field-0-is at c.in-Ok-None.ensures.gives in
+    takes-fewer _ c.session.bytes _ _ _ (takes-end _ _ _ _ _ c.session.invariant.took gave) (omega arith)
+
+pub returns-then-lines-bounds-clause-bounded : goal.returns-then-lines-bounds-clause-bounded
+returns-then-lines-bounds-clause-bounded g c =
+    let gave = rw c.in-Ok-Some.field-0-is at c.in-Ok-Some.ensures.gives in
+    takes-fewer _ (c.session.bytes + 1) _ _ _ (takes-byte _ _ _ _ _ c.in-Ok-Some.byte c.session.invariant.took gave) (omega arith)
+
+pub returns-then-bytes-bounds-clause-bounded : goal.returns-then-bytes-bounds-clause-bounded
+returns-then-bytes-bounds-clause-bounded g c =
+    let gave = rw c.in-Ok-Some.field-0-is at c.in-Ok-Some.ensures.gives in
+    takes-fewer _ (c.session.bytes + 1) _ _ _ (takes-byte _ _ _ _ _ c.in-Ok-Some.byte c.session.invariant.took gave) (omega arith)
+
+pub returns-in-Err-push-clause-bounded : goal.returns-in-Err-push-clause-bounded
+returns-in-Err-push-clause-bounded g c =
+    let gave = rw c.in-Ok-Some.field-0-is at c.in-Ok-Some.ensures.gives in
+    takes-fewer _ (c.session.bytes + 1) _ _ _ (takes-byte _ _ _ _ _ c.in-Ok-Some.byte c.session.invariant.took gave) (omega arith)
+
+pub returns-in-Err-put_reply-2-clause-bounded : goal.returns-in-Err-put_reply-2-clause-bounded
+returns-in-Err-put_reply-2-clause-bounded g c =
+    let gave = rw c.in-Ok-Some.field-0-is at c.in-Ok-Some.ensures.gives in
+    takes-fewer _ (c.session.bytes + 1) _ _ _ (takes-byte _ _ _ _ _ c.in-Ok-Some.byte c.session.invariant.took gave) (omega arith)

@@ -1,6 +1,6 @@
 use Rattle.std.proofs.Common.{length, ◌-◌, ◌≡◌, ◌≤◌, ◌<◌}
 use Rattle.desk_session.specs.Answer.{answering}
-use Rattle.desk_session.specs.Reads.{NoneFailed}
+use Rattle.desk_session.specs.Reads.{NoneFailed, TakesAtMost}
 use Rattle.desk_session.specs.declared.drafts.Session.TheVariants.{Idle}
 use Rattle.desk_session.proofs.Progress.{Progress}
 use Rattle.desk_session.proofs.serving.serve.Given as goal
@@ -12,6 +12,7 @@ invariant-session g l = record {
   bytes_within : l.bytes ≤ l.bounds.bytes;
   room : 0 < length l.line.items → l.lines < l.bounds.lines;
   well : NoneFailed g.R.Source.gives l.fn.reader l.reader;
+  took : TakesAtMost g.R.Source.gives l.bytes l.fn.reader l.reader;
   read_sound : g.R.Source.failed l.reader ≡ g.R.Source.failed l.fn.reader;
   write_sound : g.W.Sink.broken l.writer ≡ g.W.Sink.broken l.fn.writer;
 }

@@ -5,7 +5,7 @@ use Rattle.bench_reader.specs.Lines as text_lines
 use Rattle.desk_session.specs.LinesOf.{complete_lines}
 use Rattle.desk_session.proofs.Pieces.{complete-byte}
 use Rattle.desk_session.proofs.MapLines.{Told, told-fourth, told-other, hears-whole, stops-over}
-use Rattle.desk_session.proofs.Reading.{one-more, then-failed}
+use Rattle.desk_session.proofs.Reading.{one-more, then-failed, takes-byte, takes-kept, takes-end, takes-failure, takes-fewer}
 use Rattle.desk_session.proofs.starting.hear_map.Goals as goal
 use Rattle.desk_session.proofs.starting.hear_map.Goals.{then-lines-eq4, else-lines-eq4}
 
@@ -28,6 +28,7 @@ returns-then-lines-wanted-clause-heard g c =
 
 pub map-preserved-else-lines-wanted : goal.map-preserved-else-lines-wanted
 map-preserved-else-lines-wanted g c =
+    let gave = rw c.in-Ok-Some.field-0-is at c.in-Ok-Some.ensures.gives in
     let took = rw c.in-Ok-Some.field-0-is at c.in-Ok-Some.ensures.bytes in
     let feed : c.in-Ok-Some.byte ≡ 10 = search rules in
     let told : Told (c.map.text.items ++ 10 ∷ []) (c.map.lines + 1) c.if-lines-eq4.wanted = elim c.if-lines-eq4.branch [
@@ -45,11 +46,13 @@ map-preserved-else-lines-wanted g c =
       unfinished = c.if-lines-wanted.false;
       few = told.few;
       well = one-more _ _ _ _ _ c.map.invariant.well c.in-Ok-Some.ensures.gives;
+      took = rw c.in-Ok.ensures.items (takes-kept _ _ _ _ c.map.text.items c.in-Ok-Some.byte c.map.invariant.took gave);
       sound = search rules;
     }
 
 pub map-preserved : goal.map-preserved
 map-preserved g c =
+    let gave = rw c.in-Ok-Some.field-0-is at c.in-Ok-Some.ensures.gives in
     let took = rw c.in-Ok-Some.field-0-is at c.in-Ok-Some.ensures.bytes in
     let other : nat_eq c.in-Ok-Some.byte 10 ≡ false = search rules in
     let same : complete_lines c.push.new.self.items ≡ complete_lines c.map.text.items = ap complete_lines c.in-Ok.ensures.items ∙ complete-byte c.map.text.items c.in-Ok-Some.byte other in
@@ -61,6 +64,7 @@ map-preserved g c =
       unfinished = c.map.invariant.unfinished;
       few = c.map.invariant.few;
       well = one-more _ _ _ _ _ c.map.invariant.well c.in-Ok-Some.ensures.gives;
+      took = rw c.in-Ok.ensures.items (takes-kept _ _ _ _ c.map.text.items c.in-Ok-Some.byte c.map.invariant.took gave);
       sound = search rules;
     }
 
@@ -79,3 +83,38 @@ returns-then-len-most-clause-reads g c = one-more _ _ _ _ _ c.map.invariant.well
 
 pub returns-then-lines-wanted-clause-reads : goal.returns-then-lines-wanted-clause-reads
 returns-then-lines-wanted-clause-reads g c = one-more _ _ _ _ _ c.map.invariant.well c.in-Ok-Some.ensures.gives
+
+-- No more bytes are taken than the bound and one.
+pub returns-in-Err-clause-bounded : goal.returns-in-Err-clause-bounded
+returns-in-Err-clause-bounded g c =
+    takes-fewer _ (length c.map.text.items) _ _ _ (takes-failure _ _ _ _ _ _ c.map.invariant.took c.in-Err.ensures.gives) (omega arith)
+
+pub returns-in-Ok-None-clause-took : goal.returns-in-Ok-None-clause-took
+returns-in-Ok-None-clause-took g c =
+    let gave = rw c.in-Ok-None.field-0-is at c.in-Ok-None.ensures.gives in
+    takes-fewer _ (length c.map.text.items) _ _ _ (takes-end _ _ _ _ _ c.map.invariant.took gave) (omega arith)
+
+pub returns-in-Ok-None-clause-bounded : goal.returns-in-Ok-None-clause-bounded
+returns-in-Ok-None-clause-bounded g c =
+    let gave = rw c.in-Ok-None.field-0-is at c.in-Ok-None.ensures.gives in
+    takes-fewer _ (length c.map.text.items) _ _ _ (takes-end _ _ _ _ _ c.map.invariant.took gave) (omega arith)
+
+pub returns-in-Err-push-clause-bounded : goal.returns-in-Err-push-clause-bounded
+returns-in-Err-push-clause-bounded g c =
+    let gave = rw c.in-Ok-Some.field-0-is at c.in-Ok-Some.ensures.gives in
+    takes-fewer _ (length c.map.text.items + 1) _ _ _ (takes-byte _ _ _ _ _ c.in-Ok-Some.byte c.map.invariant.took gave) (omega arith)
+
+pub returns-then-len-most-clause-bounded : goal.returns-then-len-most-clause-bounded
+returns-then-len-most-clause-bounded g c =
+    let gave = rw c.in-Ok-Some.field-0-is at c.in-Ok-Some.ensures.gives in
+    takes-fewer _ (length c.map.text.items + 1) _ _ _ (takes-byte _ _ _ _ _ c.in-Ok-Some.byte c.map.invariant.took gave) (omega arith)
+
+pub returns-then-lines-wanted-clause-took : goal.returns-then-lines-wanted-clause-took
+returns-then-lines-wanted-clause-took g c =
+    let gave = rw c.in-Ok-Some.field-0-is at c.in-Ok-Some.ensures.gives in
+    rw c.in-Ok.ensures.items (takes-kept _ _ _ _ c.map.text.items c.in-Ok-Some.byte c.map.invariant.took gave)
+
+pub returns-then-lines-wanted-clause-bounded : goal.returns-then-lines-wanted-clause-bounded
+returns-then-lines-wanted-clause-bounded g c =
+    let gave = rw c.in-Ok-Some.field-0-is at c.in-Ok-Some.ensures.gives in
+    takes-fewer _ (length c.map.text.items + 1) _ _ _ (takes-byte _ _ _ _ _ c.in-Ok-Some.byte c.map.invariant.took gave) (omega arith)

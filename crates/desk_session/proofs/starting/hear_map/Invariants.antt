@@ -2,7 +2,7 @@ use Rattle.std.proofs.Common.{length, ◌-◌, ◌+◌, ◌≡◌, ◌≤◌, �
 use Rattle.std.specs.Io.KnownBytes.{Consumes}
 use Rattle.bench_reader.specs.Announced.{rows_announced}
 use Rattle.desk_session.specs.LinesOf.{complete_lines}
-use Rattle.desk_session.specs.Reads.{NoneFailed}
+use Rattle.desk_session.specs.Reads.{NoneFailed, TakesAtMost}
 use Rattle.desk_session.proofs.starting.hear_map.Given as goal
 
 abbrev pub invariant-map : goal.invariant-map
@@ -14,6 +14,7 @@ invariant-map g l = record {
   unfinished : l.lines < l.wanted;
   few : l.wanted ≤ 2052;
   well : NoneFailed g.R.Source.gives l.fn.reader l.reader;
+  took : TakesAtMost g.R.Source.gives (length l.text.items) l.fn.reader l.reader;
   sound : g.R.Source.failed l.reader ≡ g.R.Source.failed l.fn.reader;
 }
 

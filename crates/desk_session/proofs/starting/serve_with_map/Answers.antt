@@ -1,7 +1,7 @@
-use Rattle.std.proofs.Common.{rules, inl, ◌≡◌, ◌-◌, length}
+use Rattle.std.proofs.Common.{rules, arith, inl, ◌≡◌, ◌+◌, ◌-◌, ◌≤◌, length}
 use Rattle.desk_session.specs.Start.{desk_of}
 use Rattle.desk_session.proofs.MapDesk.{started}
-use Rattle.desk_session.proofs.Reading.{and-then, until-then}
+use Rattle.desk_session.proofs.Reading.{and-then, until-then, takes-more, takes-fewer}
 use Rattle.desk_session.proofs.starting.serve_with_map.Goals as goal
 
 pub returns-in-Ok-serve-clause-session : goal.returns-in-Ok-serve-clause-session
@@ -26,3 +26,21 @@ returns-in-Ok-serve-clause-reads g c = and-then _ _ _ _ c.in-Ok.ensures.reads c.
 
 pub returns-clause-reads : goal.returns-clause-reads
 returns-clause-reads g c = until-then _ _ _ _ _ c.in-Ok.ensures.reads c.in-Err-serve.ensures.reads
+
+-- What the map's text leaves of the bound is the session's.
+pub returns-in-Ok-serve-clause-bounded : goal.returns-in-Ok-serve-clause-bounded
+returns-in-Ok-serve-clause-bounded g c =
+    let within = c.in-Ok.ensures.heard.within in
+    let bytes : c.len.result ≡ length c.in-Ok.text.items = search rules in
+    takes-more _ _ _ _ _ _ _ c.in-Ok.ensures.took c.in-Ok-serve.ensures.bounded (omega arith)
+
+pub returns-clause-bounded : goal.returns-clause-bounded
+returns-clause-bounded g c =
+    let within = c.in-Ok.ensures.heard.within in
+    let bytes : c.len.result ≡ length c.in-Ok.text.items = search rules in
+    takes-more _ _ _ _ _ _ _ c.in-Ok.ensures.took c.in-Err-serve.ensures.bounded (omega arith)
+
+pub returns-in-Err-read_map-clause-bounded : goal.returns-in-Err-read_map-clause-bounded
+returns-in-Err-read_map-clause-bounded g c =
+    let within = c.in-Ok.ensures.heard.within in
+    takes-fewer _ _ _ _ _ c.in-Ok.ensures.took (omega arith)
