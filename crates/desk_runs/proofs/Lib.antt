@@ -1,4 +1,5 @@
 pub mod Running
+pub mod Unserved
 pub mod ScriptSessions
 pub mod Numbering
 pub mod SameReports

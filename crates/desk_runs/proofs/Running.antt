@@ -1,5 +1,5 @@
 -- A run of `serve` is a session over the desk of its files, with no journal, of which the end is told.
-use Rattle.std.proofs.Common.{◌≡◌, ℕ, List, Option, Some, None, Result, Ok, Err, inl, inr, refl, ap, subst}
+use Rattle.std.proofs.Common.{ℕ, List, Option, Some, None, Result, Ok, Err, inl, inr, refl, ap, subst}
 use Rattle.plan_table.specs.declared.tracks.Mode.{Mode}
 use Rattle.desk_core.specs.State.{DeskState}
 use Rattle.desk_session.specs.Answer.{answering}

@@ -1,5 +1,5 @@
 -- The fault of a run by the fault of a part of it: want of memory is one fault, wherever it came.
-use Rattle.std.specs.Prelude.{ℕ, Result, Ok, Err}
+use Rattle.std.specs.Prelude.{ℕ, Result, Ok, Err, Bool, true, false}
 use Rattle.bench_reader.specs.declared.maps.MapFault.{MapFault}
 use Rattle.bench_reader.specs.declared.maps.MapFault.TheVariants as map
 use Rattle.bench_reader.specs.declared.scens.ScenFault.{ScenFault}
@@ -15,7 +15,7 @@ use Rattle.desk_session.specs.declared.bounds.ServeFault.TheVariants as session
 use Rattle.desk_session.specs.declared.bounds.StartFault.{StartFault}
 use Rattle.desk_session.specs.declared.bounds.StartFault.TheVariants as start
 use Rattle.desk_runs.specs.declared.faults.RunFault.{RunFault}
-use Rattle.desk_runs.specs.declared.faults.RunFault.TheVariants.{Map, Scen, Tasks, Journal, Replay, Serve, OutOfMemory}
+use Rattle.desk_runs.specs.declared.faults.RunFault.TheVariants.{Map, Scen, Tasks, Journal, Replay, Serve, WriteFailed, OutOfMemory}
 
 abbrev pub of_map : MapFault → RunFault
 of_map map.OutOfMemory = OutOfMemory
@@ -49,3 +49,22 @@ of_start (start.Serve why) = of_session why
 abbrev pub run_answer : Result ℕ ServeFault → Result ℕ RunFault
 run_answer (Ok lines) = Ok lines
 run_answer (Err why) = Err (of_session why)
+
+-- faults of the source, and of the sink
+abbrev pub is_of_source : RunFault → Bool
+is_of_source (Serve session.ReadFailed) = true
+is_of_source other = false
+
+abbrev pub is_of_sink : RunFault → Bool
+is_of_sink (Serve session.WriteFailed) = true
+is_of_sink WriteFailed = true
+is_of_sink other = false
+
+-- the run ended by such a fault
+abbrev pub is_read_fault : {T : Type 0} → Result T RunFault → Bool
+is_read_fault (Ok done) = false
+is_read_fault (Err fault) = is_of_source fault
+
+abbrev pub is_write_fault : {T : Type 0} → Result T RunFault → Bool
+is_write_fault (Ok done) = false
+is_write_fault (Err fault) = is_of_sink fault

@@ -1,16 +1,16 @@
 -- A session over the desk of a run's files, after which the desk is handed back (this project's choice).
-use Rattle.std.specs.Prelude.{◌≡◌, ◌⊎◌, ℕ, List, Option, Some, None, Result, Ok, Err}
+use Rattle.std.specs.Prelude.{◌≡◌, ◌⊎◌, ℕ, List, Option, Some, None, Result, Ok, Err, Bool}
 use Rattle.plan_table.specs.declared.tracks.Mode.{Mode}
 use Rattle.desk_core.specs.State.{DeskState}
 use Rattle.desk_session.specs.Answer.{answering}
 use Rattle.desk_session.specs.Counting.{desk_counting}
-use Rattle.desk_session.specs.Session.{Serves}
+use Rattle.desk_session.specs.Session.{Serves, is_read_failed, is_write_failed}
 use Rattle.desk_session.specs.Start.{HearsMap, StopsInMap, bounds_after}
 use Rattle.desk_session.specs.declared.bounds.Bounds.{Bounds}
 use Rattle.desk_session.specs.declared.bounds.ServeFault.{ServeFault}
 use Rattle.desk_session.specs.declared.drafts.Session.{Session}
 use Rattle.desk_session.specs.declared.drafts.Session.TheVariants.{Idle}
-use Rattle.desk_runs.specs.Faults.{of_session}
+use Rattle.desk_runs.specs.Faults.{of_session, is_of_source, is_of_sink}
 use Rattle.desk_runs.specs.Opened.{OpensDesk, IsDeskFault}
 use Rattle.desk_runs.specs.Runs.{run_bounds}
 use Rattle.desk_runs.specs.declared.faults.RunFault.{RunFault}
@@ -52,3 +52,12 @@ SitsAtReader scen agents mode limit journal left0 left1 held0 held1 (Err fault) 
 abbrev pub Sits : Option (List ℕ) → Option (List ℕ) → ℕ → Mode → ℕ → (journal left0 left1 held0 held1 : Option (List ℕ)) → Result (DeskState × Result ℕ ServeFault) RunFault → Type 0
 Sits (Some map) scen agents mode limit journal left0 left1 held0 held1 result = SitsOver map scen agents mode limit journal run_bounds left0 left1 held0 held1 result
 Sits None scen agents mode limit journal left0 left1 held0 held1 result = SitsAtReader scen agents mode limit journal left0 left1 held0 held1 result
+
+-- the source failed, before the session or in it; and so the sink
+abbrev pub source_failed : Result (DeskState × Result ℕ ServeFault) RunFault → Bool
+source_failed (Ok sat) = is_read_failed sat.1
+source_failed (Err fault) = is_of_source fault
+
+abbrev pub sink_failed : Result (DeskState × Result ℕ ServeFault) RunFault → Bool
+sink_failed (Ok sat) = is_write_failed sat.1
+sink_failed (Err fault) = is_of_sink fault

@@ -1,6 +1,8 @@
-ghost use Rattle.std.specs.Prelude.{option_map};
+ghost use Rattle.std.specs.Prelude.{◌≡◌, ◌||◌, option_map};
+ghost use Rattle.desk_session.specs.Reads.{ReadsUntil};
+ghost use Rattle.desk_runs.specs.Faults.{is_read_fault, is_write_fault};
 ghost use Rattle.desk_runs.specs.Runs.{Runs};
-ghost use Rattle.desk_runs.specs.Sittings.{Sits, SitsOver};
+ghost use Rattle.desk_runs.specs.Sittings.{Sits, SitsOver, sink_failed, source_failed};
 
 use crate::faults::RunFault;
 use crate::opening::open_desk;
@@ -39,7 +41,11 @@ pub fn run_serve<R: Source, W: Sink>(
     reader: &mut R,
     writer: &mut W,
 ) -> Result<u32, RunFault>
-    ensures { Runs (option_map (λ text. text.now) map.entry) (option_map (λ text. text.now) scen.entry) agents mode limit (R.left reader.old) (R.left reader.new) (W.held writer.old) (W.held writer.new) result }
+    ensures runs { Runs (option_map (λ text. text.now) map.entry) (option_map (λ text. text.now) scen.entry) agents mode limit
+        (R.left reader.old) (R.left reader.new) (W.held writer.old) (W.held writer.new) result }
+    ensures reads { ReadsUntil R.gives reader.old reader.new (is_read_fault result) }
+    ensures failed { R.failed reader.new ≡ (R.failed reader.old || is_read_fault result) }
+    ensures broken { W.broken writer.new ≡ (W.broken writer.old || is_write_fault result) }
 {
     match serve_desk(alloc, map, scen, agents, limit, mode, None, reader, writer) {
         Ok((_desk, ended)) => match ended {
@@ -68,8 +74,11 @@ pub fn serve_desk<R: Source, W: Sink>(
     reader: &mut R,
     writer: &mut W,
 ) -> Result<(Desk, Result<u32, ServeFault>), RunFault>
-    ensures { Sits (option_map (λ text. text.now) map.entry) (option_map (λ text. text.now) scen.entry) agents mode limit (option_map (λ text. text.now) journal.entry)
+    ensures sits { Sits (option_map (λ text. text.now) map.entry) (option_map (λ text. text.now) scen.entry) agents mode limit (option_map (λ text. text.now) journal.entry)
         (R.left reader.old) (R.left reader.new) (W.held writer.old) (W.held writer.new) result }
+    ensures reads { ReadsUntil R.gives reader.old reader.new (source_failed result) }
+    ensures failed { R.failed reader.new ≡ (R.failed reader.old || source_failed result) }
+    ensures broken { W.broken writer.new ≡ (W.broken writer.old || sink_failed result) }
 {
     if let Some(map) = map {
         return serve_over(
@@ -103,8 +112,11 @@ fn serve_over<R: Source, W: Sink>(
     writer: &mut W,
     bounds: Bounds,
 ) -> Result<(Desk, Result<u32, ServeFault>), RunFault>
-    ensures { SitsOver map.now (option_map (λ text. text.now) scen.entry) agents mode limit (option_map (λ text. text.now) journal.entry) bounds
+    ensures sits { SitsOver map.now (option_map (λ text. text.now) scen.entry) agents mode limit (option_map (λ text. text.now) journal.entry) bounds
         (R.left reader.old) (R.left reader.new) (W.held writer.old) (W.held writer.new) result }
+    ensures reads { ReadsUntil R.gives reader.old reader.new (source_failed result) }
+    ensures failed { R.failed reader.new ≡ (R.failed reader.old || source_failed result) }
+    ensures broken { W.broken writer.new ≡ (W.broken writer.old || sink_failed result) }
 {
     match open_desk(alloc, map, scen, agents, limit, mode, journal) {
         Ok(mut desk) => {
