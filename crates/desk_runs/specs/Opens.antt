@@ -1,5 +1,5 @@
 -- The scene that a run opens: a map, a mode, and the agents of the first tasks of a scenario (this project's choice).
-use Rattle.std.specs.Prelude.{◌≡◌, ◌⊎◌, ℕ, ◌≤◌, List, [], Option, Some, None, Err, length, take}
+use Rattle.std.specs.Prelude.{◌≡◌, ◌⊎◌, ℕ, List, [], Option, Some, None, Ok, Err}
 use Rattle.grid_cells.specs.Grid.{Chart}
 use Rattle.plan_table.specs.declared.tracks.Mode.{Mode}
 use Rattle.bench_reader.specs.Lines.{lines_of}
@@ -11,7 +11,7 @@ use Rattle.bench_reader.specs.declared.maps.MapFault.{MapFault}
 use Rattle.bench_reader.specs.declared.scens.ScenFault.{ScenFault}
 use Rattle.bench_reader.specs.declared.tasks.Task.{Task}
 use Rattle.scene_edits.specs.Scene.{SceneState}
-use Rattle.scene_edits.specs.Tasks.{rows_from, TasksAnswered}
+use Rattle.scene_edits.specs.Tasks.{TasksAnswered}
 use Rattle.scene_edits.specs.declared.tasks.TaskFault.{TaskFault}
 use Rattle.desk_runs.specs.Faults.{of_map, of_scen, of_tasks}
 use Rattle.desk_runs.specs.declared.faults.RunFault.{RunFault}
@@ -22,14 +22,15 @@ pub record OpensBare (map : List ℕ) (mode : Mode) (scene : SceneState) : Type 
   pub reads : IsMapText map grid
   pub is : scene ≡ record { grid = grid; rows = []; mode = mode }
 
--- the scene of a map with the first tasks of a scenario: agent i rests at the start of task i
+-- the scene that the first tasks of a scenario make on a map, in that mode: agent i rests at the start of task i
 pub record OpensWith (map scen : List ℕ) (agents : ℕ) (mode : Mode) (scene : SceneState) : Type 0 where
   pub grid : Chart
   pub tasks : List Task
   pub reads : IsMapText map grid
   pub lists : IsScenText grid.size scen tasks
-  pub enough : agents ≤ length tasks
-  pub is : scene ≡ record { grid = grid; rows = rows_from 0 (take agents tasks); mode = mode }
+  pub staying : SceneState
+  pub answered : TasksAnswered grid tasks agents (Ok staying)
+  pub is : scene ≡ record { grid = staying.grid; rows = staying.rows; mode = mode }
 
 -- the scene of a map and, where one is given, a scenario
 abbrev pub Opens : List ℕ → Option (List ℕ) → ℕ → Mode → SceneState → Type 0
