@@ -7,6 +7,7 @@ ghost use Rattle.desk_runs.specs.Drills.{Drills, IsEnd, drill_text, same_line, t
 
 use crate::auditing::report_of;
 use crate::faults::RunFault;
+use crate::hearing::{AtGate, Hearing};
 use crate::reporting::put_report;
 use crate::scenes::scene_of;
 use crate::scripts::serve_scripts;
@@ -49,6 +50,33 @@ pub fn run_drill<R: Threads + Wait + Sync, G: Gate, W: Sink>(
     requires workers { (1 ≤ workers) × (workers ≤ 64) }
     ensures { IfOk result (Drills map.now (option_map (λ text. text.now) scen.entry) agents mode (texts_of scripts.items) (W.held writer.old) (W.held writer.new)) }
 {
+    let along = AtGate { gate };
+    hear_drill(
+        rt, alloc, map, scen, agents, mode, workers, scripts, &along, writer,
+    )
+}
+
+/// Runs a drill as `run_drill` does, with someone who goes along: they are told when each script's
+/// thread begins, by its number from 0, and hear the first word of each line that it is answered.
+///
+/// # Errors
+///
+/// As `run_drill`.
+pub fn hear_drill<R: Threads + Wait + Sync, H: Hearing + Sync, W: Sink>(
+    rt: &R,
+    alloc: Global,
+    map: &[u8],
+    scen: Option<&[u8]>,
+    agents: u32,
+    mode: Mode,
+    workers: u32,
+    scripts: Vec<Vec<u8>>,
+    hearing: &H,
+    writer: &mut W,
+) -> Result<bool, RunFault>
+    requires workers { (1 ≤ workers) × (workers ≤ 64) }
+    ensures { IfOk result (Drills map.now (option_map (λ text. text.now) scen.entry) agents mode (texts_of scripts.items) (W.held writer.old) (W.held writer.new)) }
+{
     if scripts.len() > MOST_SCRIPTS {
         return Err(RunFault::TooManyScripts);
     }
@@ -60,7 +88,7 @@ pub fn run_drill<R: Threads + Wait + Sync, G: Gate, W: Sink>(
         Ok(shared) => shared,
         Err(fault) => return Err(fault),
     };
-    let (first, ended) = serve_scripts(rt, alloc, &shared, first, scripts.as_slice(), gate);
+    let (first, ended) = serve_scripts(rt, alloc, &shared, first, scripts.as_slice(), hearing);
     match ended {
         Ok(()) => {}
         Err(fault) => return Err(fault),

@@ -4,6 +4,8 @@
 mod auditing;
 mod drilling;
 mod faults;
+mod heard;
+mod hearing;
 mod laws;
 mod opening;
 mod reporting;
@@ -13,8 +15,9 @@ mod scripts;
 mod serving;
 
 pub use auditing::run_audit;
-pub use drilling::{MOST_SCRIPTS, run_drill};
+pub use drilling::{MOST_SCRIPTS, hear_drill, run_drill};
 pub use faults::{Fault, RunFault};
+pub use hearing::{Hearing, MOST_HEARD};
 pub use laws::saved_desks_come_back;
 pub use opening::open_desk;
 pub use saving::save_desk;

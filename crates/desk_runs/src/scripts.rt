@@ -4,9 +4,10 @@ ghost use Rattle.desk_shared.specs.Passes.{Owns};
 ghost use Rattle.desk_runs.specs.Drills.{AreServed, IsSession, KeepsFrom, texts_of};
 
 use crate::faults::RunFault;
+use crate::heard::Heard;
+use crate::hearing::Hearing;
 use crate::serving::BOUNDS;
-use desk_audit::Gate;
-use desk_report::{Sink, Tap, WriteFailed};
+use desk_report::Tap;
 use desk_session::{ServeFault, serve};
 use desk_shared::{Pass, SharedDesk};
 use desk_window::Window;
@@ -15,22 +16,6 @@ use std::snapshot::Snapshot;
 use std::sync::Wait;
 use std::thread;
 use std::thread::{Promise, Scope, Threads};
-
-// A sink that takes all bytes and keeps none.
-#[derive(Drop)]
-struct Discard;
-
-impl Sink for Discard {
-    ghost use Rattle.std.specs.Prelude.{None, false};
-
-    ghost held = { λ _. None };
-
-    ghost broken = { λ _. false };
-
-    fn put(&mut self, bytes: &[u8]) -> Result<usize, WriteFailed> {
-        Ok(bytes.len())
-    }
-}
 
 // What the thread of a script gives back: the pass, and how the session ended.
 type Ended = (Pass, Result<u32, ServeFault>);
@@ -47,30 +32,31 @@ impl<'a> Promise<Ended> for Script<'a> {
     ghost kept_by = { λ p r. Owns p.desk.now r.0 × IsSession p.desk.now p.before.value.known p.text.now r.0.known r.1 };
 }
 
-// Serves the script to its end, or to its fault. The thread begins at the gate.
-fn serve_script<R: Wait, G: Gate>(
+// Serves the script to its end, or to its fault. Whoever goes along is told when the thread begins.
+fn serve_script<R: Wait, H: Hearing>(
     rt: &R,
     alloc: Global,
     desk: &SharedDesk,
     pass: Pass,
     text: &[u8],
     number: u32,
-    gate: &G,
+    hearing: &H,
 ) -> Ended
     requires { Owns desk.now pass }
     ensures owned { Owns desk.now result.0 }
     ensures session { IsSession desk.now pass.known text.now result.0.known result.1 }
 {
-    gate.begins(number);
+    hearing.begins(number);
     let mut reader = Tap::new(text);
     let mut window = Window::new(rt, desk, pass);
-    let ended = serve(alloc, &mut window, &mut reader, &mut Discard, BOUNDS);
+    let mut heard = Heard::new(hearing, number);
+    let ended = serve(alloc, &mut window, &mut reader, &mut heard, BOUNDS);
     (window.into_pass(), ended)
 }
 
 // Serves the scripts, the first of them as planner number + 1, each in a thread that is joined
 // before this returns, and joins their passes into the first one.
-fn serve_all<'s, E: 's, R: Threads + Wait + Sync, G: Gate>(
+fn serve_all<'s, E: 's, R: Threads + Wait + Sync, H: Hearing + Sync>(
     rt: &'s R,
     alloc: Global,
     scope: &'s Scope<'s, E>,
@@ -78,7 +64,7 @@ fn serve_all<'s, E: 's, R: Threads + Wait + Sync, G: Gate>(
     first: &mut Pass,
     scripts: &'s [Vec<u8>],
     number: u32,
-    gate: &'s G,
+    hearing: &'s H,
 ) -> Result<(), RunFault>
     requires owned { Owns desk.now first.old }
     requires few { number + length scripts.now < 256 }
@@ -106,12 +92,12 @@ fn serve_all<'s, E: 's, R: Threads + Wait + Sync, G: Gate>(
             requires { Owns desk.now pass }
             ensures owned { Owns desk.entry.now result.0 }
             ensures session { IsSession desk.entry.now pass.known text.entry.now result.0.known result.1 }
-        { serve_script(rt, alloc, desk, pass, text, number, gate) },
+        { serve_script(rt, alloc, desk, pass, text, number, hearing) },
     );
     let Ok(child) = started else {
         return Err(RunFault::OutOfMemory);
     };
-    let others = serve_all(rt, alloc, scope, desk, first, later, number + 1, gate);
+    let others = serve_all(rt, alloc, scope, desk, first, later, number + 1, hearing);
     let (pass, ended) = child.join(rt);
     desk.join(first, pass);
     match ended {
@@ -120,19 +106,19 @@ fn serve_all<'s, E: 's, R: Threads + Wait + Sync, G: Gate>(
     }
 }
 
-/// Serves the scripts, the first as planner 1, each in a thread of its own that begins at the gate
-/// with the script's number from 0. The threads and their passes are joined into the first pass.
+/// Serves the scripts, the first as planner 1, each in a thread of its own; whoever goes along is
+/// told its number from 0 as it begins. The threads and their passes are joined into the first pass.
 ///
 /// # Errors
 ///
 /// The fault of the first script that has one, or the start of a thread was refused.
-pub fn serve_scripts<R: Threads + Wait + Sync, G: Gate>(
+pub fn serve_scripts<R: Threads + Wait + Sync, H: Hearing + Sync>(
     rt: &R,
     alloc: Global,
     desk: &SharedDesk,
     first: Pass,
     scripts: &[Vec<u8>],
-    gate: &G,
+    hearing: &H,
 ) -> (Pass, Result<(), RunFault>)
     requires owned { Owns desk.now first }
     requires few { length scripts.now < 256 }
@@ -155,7 +141,7 @@ pub fn serve_scripts<R: Threads + Wait + Sync, G: Gate>(
             ensures served { OnOk result.1 (AreServed first.known.start result.0.known.made 1 (texts_of scripts.entry.now)) }
         {
             let mut first = first;
-            let ended = serve_all(rt, alloc, scope, desk, &mut first, scripts, 0, gate);
+            let ended = serve_all(rt, alloc, scope, desk, &mut first, scripts, 0, hearing);
             (first, ended)
         },
     )

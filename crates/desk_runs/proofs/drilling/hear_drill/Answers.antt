@@ -1,5 +1,5 @@
 use Rattle.std.proofs.Common.{◌∙◌}
-use Rattle.desk_runs.proofs.drilling.run_drill.Goals as goal
+use Rattle.desk_runs.proofs.drilling.hear_drill.Goals as goal
 
 pub returns-in-Ok-put_drill : goal.returns-in-Ok-put_drill
 returns-in-Ok-put_drill g c =
