@@ -1,0 +1,97 @@
+//! What words are read as, in a line. What is as it is where no word names it is left out.
+use clap::Error;
+use desk_words::{Asked, AuditWords, DrillWords, ServeWords, Words};
+use plan_table::Mode;
+use std::alloc::{AllocError, Global};
+
+/// What words are read as.
+pub fn told(alloc: Global, asked: &Asked<'_>) -> Result<String, AllocError> {
+    let mut text = String::new(alloc);
+    match asked {
+        Asked::NoMemory => text.push_str("no memory")?,
+        Asked::Refused(error) => put_refusal(&mut text, error)?,
+        Asked::For { words, verbose } => {
+            put_words(&mut text, words)?;
+            if *verbose {
+                text.push_str(" verbose")?;
+            }
+        }
+    }
+    Ok(text)
+}
+
+fn put_refusal(text: &mut String, error: &Error) -> Result<(), AllocError> {
+    if !error.use_stderr() {
+        return text.push_str("help");
+    }
+    let alloc = *text.allocator();
+    let kind = error.kind();
+    let refused = format!(in alloc; "refused {kind:?}")?;
+    text.push_str(refused.as_str())
+}
+
+fn put_words(text: &mut String, words: &Words<'_>) -> Result<(), AllocError> {
+    match words {
+        Words::Version => text.push_str("version"),
+        Words::Serve(serve) => put_serve(text, serve),
+        Words::Audit(audit) => put_audit(text, audit),
+        Words::Drill(drill) => put_drill(text, drill),
+    }
+}
+
+fn put_serve(text: &mut String, words: &ServeWords<'_>) -> Result<(), AllocError> {
+    text.push_str("serve")?;
+    put_file(text, "map", words.map)?;
+    put_file(text, "scen", words.scen)?;
+    put_number(text, "agents", words.agents, 0)?;
+    put_number(text, "limit", words.limit, 100_000)?;
+    put_mode(text, words.mode)?;
+    put_file(text, "journal", words.journal)?;
+    put_file(text, "save", words.save)
+}
+
+fn put_audit(text: &mut String, words: &AuditWords<'_>) -> Result<(), AllocError> {
+    text.push_str("audit")?;
+    put_file(text, "map", Some(words.map))?;
+    put_file(text, "scen", words.scen)?;
+    put_number(text, "agents", words.agents, 0)?;
+    put_mode(text, words.mode)?;
+    put_file(text, "journal", words.journal)?;
+    put_number(text, "workers", words.workers, 4)
+}
+
+fn put_drill(text: &mut String, words: &DrillWords<'_>) -> Result<(), AllocError> {
+    text.push_str("drill")?;
+    put_file(text, "map", Some(words.map))?;
+    put_file(text, "scen", words.scen)?;
+    put_number(text, "agents", words.agents, 0)?;
+    put_mode(text, words.mode)?;
+    put_number(text, "workers", words.workers, 4)?;
+    for script in words.scripts.as_slice() {
+        put_file(text, "script", Some(*script))?;
+    }
+    Ok(())
+}
+
+fn put_file(text: &mut String, name: &str, file: Option<&str>) -> Result<(), AllocError> {
+    let alloc = *text.allocator();
+    match file {
+        None => Ok(()),
+        Some(file) => text.push_str(format!(in alloc; " {name}={file}")?.as_str()),
+    }
+}
+
+fn put_number(text: &mut String, name: &str, number: u32, usual: u32) -> Result<(), AllocError> {
+    let alloc = *text.allocator();
+    if number == usual {
+        return Ok(());
+    }
+    text.push_str(format!(in alloc; " {name}={number}")?.as_str())
+}
+
+fn put_mode(text: &mut String, mode: Mode) -> Result<(), AllocError> {
+    match mode {
+        Mode::Stay => Ok(()),
+        Mode::Disappear => text.push_str(" mode=disappear"),
+    }
+}

@@ -1,0 +1,71 @@
+//! What the program says of itself.
+
+/// The program's name and version, and the checker's logic that it is proved with.
+pub const VERSION: &str = "mapf_desk 1.0.0\nproved with rattle-kit-13b logic dac8208d650f15bf";
+
+/// What is said on a terminal where a map is to be typed.
+pub const WAITS: &str = "\
+mapf_desk: type a map first: type octile, height H, width W, map, and H rows of W letters, . for
+open and @ for closed; then a session line at a time, as: agent 0 0,0 2,0. --help tells more, and
+the end of input (Ctrl-D) ends the session.";
+
+pub const ABOUT: &str =
+    "A live plan desk for multi-agent path finding: it takes planners' edits of one \
+map's agents and paths, and reports conflicts, costs and bounds that are always current.";
+
+pub const PROGRAM_HELP: &str = "\
+serve answers a planner's lines, one by one; audit makes a report from scratch, in threads; drill
+runs planners' scripts at once over one shared desk, and audits what they leave. With no words,
+mapf_desk is mapf_desk serve: a map stands first on standard input, and a session follows it.
+
+Three lines of a session, and what they are answered:
+  agent 0 0,0 2,0            version 1
+  path 0 0,0 1,0 2,0         version 2
+  solves vertex swap         solves yes
+
+Statuses: 0 done; 1 the drill's audit differs; 2 a fault, told on standard error in one line, or in
+two with --verbose where more is known of it.
+All lines, files and faults: docs/FORMATS.md, byte for byte; the rules: docs/RULES.md.
+
+Example:
+  printf 'type octile\\nheight 1\\nwidth 3\\nmap\\n...\\nagent 0 0,0 2,0\\nreport\\n' | mapf_desk";
+
+pub const SERVE_HELP: &str = "\
+Each line of standard input is answered on standard output by one line, but for blank lines and
+remarks (#), which have no answer, and report, whose answer ends with the line end. A cell is X,Y.
+
+An edit is committed at once:
+  agent A START GOAL    a new agent           path A CELL..         its path, from its start
+  drop A                it goes               tail A TIME CELL..    the path goes on from TIME
+  goal A X,Y            another goal          open X,Y  close X,Y   a cell of the map
+Several edits in one commit, all or none: begin, edits and watch lines, then commit or cancel.
+Questions: version; report; distance A X,Y; solves KIND.. of vertex, edge, follow, swap, cycle.
+
+With --save F the journal is in F when the session is over, however it ended, and with --journal F
+the next session goes on from there; both may name one file. F is whole at any moment.
+
+Statuses: 0 the input has ended; 2 a fault, told on standard error.
+
+Example:
+  mapf_desk serve --map demo/warehouse.map --scen demo/warehouse.scen --agents 10 --save plan";
+
+pub const AUDIT_HELP: &str = "\
+The report is made from scratch: nothing that a desk keeps is used. Each worker is a thread of its
+own and tells its share of the agents.
+
+Statuses: 0 done; 2 a fault, told on standard error.
+
+Example:
+  mapf_desk audit --map demo/warehouse.map --scen demo/warehouse.scen --agents 10 --workers 4";
+
+pub const DRILL_HELP: &str = "\
+Each script is a session, as serve takes it, and is served as a planner of its own: the first is
+planner 1. The scripts run at once and their answers aren't kept. At the end the version and the
+report are printed, and audit same where a report made from scratch is the same, or audit differs.
+With --verbose a line on standard error tells of each script how many of its lines were accepted,
+refused and bad, as: demo/east.script: 6 accepted, 0 refused, 0 bad
+
+Statuses: 0 audit same; 1 audit differs; 2 a fault, told on standard error.
+
+Example:
+  mapf_desk drill --map demo/corridor.map demo/east.script demo/west.script";

@@ -1,0 +1,121 @@
+//! What the program's words ask for.
+use crate::commands::command;
+use crate::words::{Asked, AuditWords, DrillWords, ServeWords, Words};
+use clap::ArgMatches;
+use plan_table::Mode;
+use std::alloc::{AllocError, Global};
+
+/// How many commits the journal takes where the words don't say.
+const USUAL_LIMIT: u32 = 100_000;
+
+/// How many threads make a report where the words don't say.
+const USUAL_WORKERS: u32 = 4;
+
+fn mode_of(matches: &ArgMatches<'_>) -> Mode {
+    match matches.get_str("mode") {
+        Some("disappear") => Mode::Disappear,
+        _ => Mode::Stay,
+    }
+}
+
+fn agents_of(matches: &ArgMatches<'_>) -> u32 {
+    matches.get_one::<u32>("agents").unwrap_or(0)
+}
+
+fn workers_of(matches: &ArgMatches<'_>) -> u32 {
+    matches.get_one::<u32>("workers").unwrap_or(USUAL_WORKERS)
+}
+
+// The scripts that are named, in their order.
+fn scripts_of<'a>(alloc: Global, matches: &ArgMatches<'a>) -> Result<Vec<&'a str>, AllocError> {
+    match matches.get_strs("script") {
+        Some(scripts) => scripts.to_vec(alloc),
+        None => Ok(Vec::new(alloc)),
+    }
+}
+
+fn serve_words<'a>(matches: &ArgMatches<'a>) -> ServeWords<'a> {
+    ServeWords {
+        map: matches.get_str("map"),
+        scen: matches.get_str("scen"),
+        agents: agents_of(matches),
+        limit: matches.get_one::<u32>("limit").unwrap_or(USUAL_LIMIT),
+        mode: mode_of(matches),
+        journal: matches.get_str("journal"),
+        save: matches.get_str("save"),
+    }
+}
+
+fn audit_words<'a>(matches: &ArgMatches<'a>) -> AuditWords<'a> {
+    AuditWords {
+        map: matches.get_str("map").unwrap_or(""),
+        scen: matches.get_str("scen"),
+        agents: agents_of(matches),
+        mode: mode_of(matches),
+        journal: matches.get_str("journal"),
+        workers: workers_of(matches),
+    }
+}
+
+fn drill_words<'a>(alloc: Global, matches: &ArgMatches<'a>) -> Result<DrillWords<'a>, AllocError> {
+    Ok(DrillWords {
+        map: matches.get_str("map").unwrap_or(""),
+        scen: matches.get_str("scen"),
+        agents: agents_of(matches),
+        mode: mode_of(matches),
+        workers: workers_of(matches),
+        scripts: scripts_of(alloc, matches)?,
+    })
+}
+
+// What is asked for where no word names it.
+fn usual_words<'a>() -> ServeWords<'a> {
+    ServeWords {
+        map: None,
+        scen: None,
+        agents: 0,
+        limit: USUAL_LIMIT,
+        mode: Mode::Stay,
+        journal: None,
+        save: None,
+    }
+}
+
+// The version is told whatever else is asked for, as help is.
+fn words_of<'a>(alloc: Global, matches: &ArgMatches<'a>) -> Result<Words<'a>, AllocError> {
+    if matches.get_flag("version") {
+        return Ok(Words::Version);
+    }
+    match matches.subcommand() {
+        Some(("drill", inner)) => Ok(Words::Drill(drill_words(alloc, inner)?)),
+        Some(("audit", inner)) => Ok(Words::Audit(audit_words(inner))),
+        Some((_, inner)) => Ok(Words::Serve(serve_words(inner))),
+        None => Ok(Words::Serve(usual_words())),
+    }
+}
+
+// Whether more is to be told: the flag stands before the word or behind it.
+fn is_verbose(matches: &ArgMatches<'_>) -> bool {
+    matches.get_flag("verbose")
+        || match matches.subcommand() {
+            Some((_, inner)) => inner.get_flag("verbose"),
+            None => false,
+        }
+}
+
+/// What the program's words, its name first, ask for.
+pub fn read_words<'a>(alloc: Global, words: &'a [String]) -> Asked<'a> {
+    let Ok(command) = command(alloc) else {
+        return Asked::NoMemory;
+    };
+    match command.try_get_matches_from(words) {
+        Ok(matches) => match words_of(alloc, &matches) {
+            Ok(words) => Asked::For {
+                words,
+                verbose: is_verbose(&matches),
+            },
+            Err(_) => Asked::NoMemory,
+        },
+        Err(error) => Asked::Refused(error),
+    }
+}

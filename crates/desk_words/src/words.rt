@@ -1,0 +1,77 @@
+use clap::Error;
+use plan_table::Mode;
+
+/// What the words ask for.
+#[derive(Drop)]
+pub enum Words<'a> {
+    /// What this program is, and what it is proved with.
+    Version,
+    Serve(ServeWords<'a>),
+    Audit(AuditWords<'a>),
+    Drill(DrillWords<'a>),
+}
+
+impl Words<'_> {
+    /// Whether a map is to come on standard input.
+    pub fn waits_for_a_map(&self) -> bool {
+        match self {
+            Words::Serve(serve) => serve.map.is_none(),
+            _ => false,
+        }
+    }
+}
+
+/// The words of `serve`.
+#[derive(Drop)]
+pub struct ServeWords<'a> {
+    /// The map's file; without one the map stands first on standard input.
+    pub map: Option<&'a str>,
+    pub scen: Option<&'a str>,
+    /// How many agents the scenario gives, 0 to 8,192.
+    pub agents: u32,
+    /// How many entries the journal takes, 1 to 1,000,000.
+    pub limit: u32,
+    pub mode: Mode,
+    /// The file of a journal that is committed first.
+    pub journal: Option<&'a str>,
+    /// The file that the journal is saved in.
+    pub save: Option<&'a str>,
+}
+
+/// The words of `audit`.
+#[derive(Drop)]
+pub struct AuditWords<'a> {
+    pub map: &'a str,
+    pub scen: Option<&'a str>,
+    /// How many agents the scenario gives, 0 to 8,192.
+    pub agents: u32,
+    pub mode: Mode,
+    /// The file of a journal that is committed first.
+    pub journal: Option<&'a str>,
+    /// How many threads make the report, 1 to 64.
+    pub workers: u32,
+}
+
+/// The words of `drill`.
+#[derive(Drop)]
+pub struct DrillWords<'a> {
+    pub map: &'a str,
+    pub scen: Option<&'a str>,
+    /// How many agents the scenario gives, 0 to 8,192.
+    pub agents: u32,
+    pub mode: Mode,
+    /// How many threads make the audit's report, 1 to 64.
+    pub workers: u32,
+    /// The files of the scripts, in the order of their planners.
+    pub scripts: Vec<&'a str>,
+}
+
+/// What the words come to.
+#[derive(Drop)]
+pub enum Asked<'a> {
+    /// What is asked for, and whether more is to be told than that asks for.
+    For { words: Words<'a>, verbose: bool },
+    /// Words that aren't the program's, or a request for help.
+    Refused(Error),
+    NoMemory,
+}
