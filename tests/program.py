@@ -1,7 +1,7 @@
 #!/usr/bin/env python3
 """Runs the built program as its users do: words, files, pipes and devices. docs/FORMATS.md says what is right.
 
-program.py [PROGRAM]     the program that `rt ci` or `./desk --prove` built where none is named
+program.py [PROGRAM [TEST..]]     the program that `rt ci` or `./desk --prove` built where none is named; those tests alone
 The last line is 'N passed, M failed'; status 1 where one failed.
 """
 import os
@@ -30,6 +30,11 @@ FILES = {
     "j": JOURNAL,
     "one": b"agent 0 0,0 0,0\n",
     "two": b"agent 1 2,0 2,0\n",
+    "meeting": b"agent 0 1,0 1,0\nagent 1 0,0 1,0\npath 1 0,0 1,0\n",
+    "mixed": b"# ten lines are accepted, three refused, four bad\n\nbegin\nwatch map\nagent 5 1,0 1,0\ncommit\nversion\nreport\ndistance 5 0,0\n"
+             b"solves vertex\ncancel\ndrop 9\npath 5 0,0\ndistance 9 0,0\nfly\npath x\nwatch map\nbegin\ncancel",
+    "none_at_all": b"",
+    "long": b"agent 0 0,0 0,0\n" + b"\n" * 1000000,
     "map_octile": b"type tile\n",
     "map_header": b"type octile\nheight 1\nwide 3\n",
     "map_size": b"type octile\nheight 0\nwidth 3\nmap\n",
@@ -157,6 +162,11 @@ ANSWERS = [
      "version 1\n" + ARRIVED),
     ("drill_of_two_scripts", "drill --map m one two", b"", "version 2\n" + TWO + "audit same\n"),
     ("drill_by_one_worker", "drill --map m --workers 1 one two", b"", "version 2\n" + TWO + "audit same\n"),
+    ("drill_of_a_scenario", "drill --map m --scen s --agents 1 none_at_all", b"", "version 0\n" + RESTING + "audit same\n"),
+    ("drill_where_agents_stay", "drill --map m meeting", b"",
+     "version 3\n" + MET + "conflicts 2\nparked 1 0 1 1,0\nfollow 0 1 0 1,0\n" + TAIL + "audit same\n"),
+    ("drill_where_agents_disappear", "drill --map m --mode disappear meeting", b"", "version 3\n" + MET + "conflicts 0\n" + TAIL + "audit same\n"),
+    ("no_more_is_told_of_an_audit", "audit --map m -v", b"", "version 0\n" + EMPTY),
 ]
 
 
@@ -237,9 +247,12 @@ def version():
     status, said, complained = run(["--version"])
     want("the status", status, 0)
     want("standard error", complained, "")
+    want("the version before a word", run(["--version", "serve", "--map", "none"]), (status, said, complained))
     lines = said.splitlines()
     want("the first line's first word", lines[0].split()[0], "mapf_desk")
-    want("the second line's beginning", lines[1][:12], "proved with ")
+    with open(f"{TOP}/README.md") as readme:
+        kit = [line.strip() for line in readme if line.startswith("    rattle-kit")]
+    want("the second line", lines[1:], [f"proved with {line}" for line in kit])
     want("how many lines", len(lines), 2)
 
 
@@ -604,6 +617,30 @@ def reasons_of_streams():
     want("standard error", complained, "mapf_desk: read failed\n  Is a directory (os error 21)\n")
 
 
+ONE, MIXED, TWO_ALONE = "  one: 1 accepted, 0 refused, 0 bad\n", "  mixed: 10 accepted, 3 refused, 4 bad\n", "  two: 1 accepted, 0 refused, 0 bad\n"
+
+
+def scripts_counted():
+    """--verbose tells of each script how its lines were answered, in the scripts' order, and changes nothing else."""
+    scripts = ["one", "mixed", "two", "none_at_all"]
+    plain = run(["drill", "--map", "m", *scripts])
+    want("what it does plainly", (plain[0], plain[1].split("\n")[:2], plain[2]), (0, ["version 3", "agents 3"], ""))
+    counts = ONE + MIXED + TWO_ALONE + "  none_at_all: 0 accepted, 0 refused, 0 bad\n"
+    want("what it does", run(["drill", "--map", "m", "-v", *scripts]), (plain[0], plain[1], counts))
+    want("what it does", run(["--verbose", "drill", *scripts, "--map", "m"]), (plain[0], plain[1], counts))
+
+
+def scripts_counted_behind_a_fault():
+    """The counts follow the lines of a fault; where no script was served, there are none."""
+    counts = ONE.replace("one", "two") + ONE.replace("one", "long")
+    want("a script's fault", run(["drill", "--map", "m", "-v", "two", "long"]), (2, "", "mapf_desk: too many lines\n" + counts))
+    with open("/dev/full", "wb") as full:
+        _, _, complained = run(["drill", "--map", "m", "-v", "one"], stdout=full)
+    want("standard error", complained, "mapf_desk: write failed\n  No space left on device (os error 28)\n" + ONE)
+    is_fault(["drill", "--map", "m", "-v", *["one"] * 256], "too many scripts")
+    is_fault(["drill", "--map", "m", "-v", "--agents", "1", "one"], "--agents needs --scen")
+
+
 def stages():
     """Audits and drills tell on a terminal what they are at, and nothing elsewhere."""
     for words, said in ((["audit", "--map", "m"], 2), (["drill", "--map", "m", "one", "two"], 2), (["serve", "--map", "m"], 0)):
@@ -628,7 +665,8 @@ def tests():
     for words, more in REASONS:
         yield f"reason: {words}", lambda words=words, more=more: is_reason(words.split(), more)
     for test in (saved, saved_in_another_mode, saved_from_a_map_on_standard_input, not_saved_where_no_session_begins, saved_after_a_fault,
-                 not_saved_on_a_full_disk, saved_into_a_folder, killed, killed_while_saving, reasons_of_streams, stages):
+                 not_saved_on_a_full_disk, saved_into_a_folder, killed, killed_while_saving, reasons_of_streams, scripts_counted,
+                 scripts_counted_behind_a_fault, stages):
         yield test.__name__, test
     yield "map_on_standard_input", lambda: is_fault([], "map: bad size", FILES["map_size"])
     yield "no_answer_goes_out_whole", lambda: full_output(["serve", "--map", "m"], b"version\n")
@@ -642,6 +680,7 @@ def tests():
 def main():
     global PROGRAM
     PROGRAM = os.path.abspath(sys.argv[1] if len(sys.argv) > 1 else PROGRAM)
+    names = sys.argv[2:]
     passed, failed = 0, 0
     with tempfile.TemporaryDirectory() as folder:
         os.chdir(folder)
@@ -649,6 +688,8 @@ def main():
             with open(name, "wb") as file:
                 file.write(text)
         for name, test in tests():
+            if names and name not in names:
+                continue
             try:
                 test()
                 passed += 1

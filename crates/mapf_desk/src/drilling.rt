@@ -3,11 +3,11 @@ use crate::details::Texts;
 use crate::files::{file_bytes, named_bytes};
 use crate::finishing::finish;
 use crate::stages::tell_stage;
+use crate::tallies::Tallies;
 use crate::telling::More;
-use crate::words::DrillWords;
-use desk_audit::NoGate;
 use desk_report::Spout;
-use desk_runs::{Fault, RunFault, run_drill};
+use desk_runs::{Fault, RunFault, hear_drill};
+use desk_words::DrillWords;
 use std::alloc::Global;
 use std::io;
 use std::io::{BufWriter, Write};
@@ -35,7 +35,8 @@ fn bytes_of_all<'a, R: Files + AllocGlobal>(
 }
 
 /// Runs a drill as the words ask for, onto standard output, and answers whether the audit's report
-/// is the same. Where it is wanted, its stages are told on standard error.
+/// is the same. Where it is wanted, its stages are told on standard error, and more is known then of
+/// the scripts that were served.
 ///
 /// # Errors
 ///
@@ -45,6 +46,7 @@ pub fn drill_files<'a, R: Files + AllocGlobal + Print + Eprint + Threads + Wait 
     words: &DrillWords<'a>,
     stages: bool,
     more: &mut More,
+    verbose: bool,
 ) -> Result<bool, Fault<'a>> {
     if words.agents > 0 && words.scen.is_none() {
         return Err(Fault::AgentsWithoutScen);
@@ -63,19 +65,38 @@ pub fn drill_files<'a, R: Files + AllocGlobal + Print + Eprint + Threads + Wait 
         Err(fault) => return Err(fault),
     };
     tell_stage(rt, stages, "serving the scripts, and auditing the desk");
-    let alloc = rt.alloc();
-    let Ok(buffered) = BufWriter::new(alloc, io::writer(rt)) else {
-        return Err(Fault::Run(RunFault::OutOfMemory));
-    };
     let texts = Texts {
         map: Some(map.as_slice()),
         scen: scen.as_deref(),
         journal: None,
     };
-    match drill_texts(rt, alloc, texts, scripts, words, buffered, more) {
+    match drill_counted(rt, texts, scripts, words, more, verbose) {
         Ok(same) => Ok(same),
         Err(fault) => Err(Fault::Run(fault)),
     }
+}
+
+// Runs a drill of the texts onto standard output. Where it is wanted, what each script was answered
+// is counted.
+fn drill_counted<R: AllocGlobal + Print + Threads + Wait + Sync>(
+    rt: &R,
+    texts: Texts<'_>,
+    scripts: Vec<Vec<u8>>,
+    words: &DrillWords<'_>,
+    more: &mut More,
+    verbose: bool,
+) -> Result<bool, RunFault> {
+    let alloc = rt.alloc();
+    let Ok(buffered) = BufWriter::new(alloc, io::writer(rt)) else {
+        return Err(RunFault::OutOfMemory);
+    };
+    let counted = if verbose { scripts.len() } else { 0 };
+    let Ok(tallies) = Tallies::new(alloc, counted) else {
+        return Err(RunFault::OutOfMemory);
+    };
+    let ended = drill_texts(rt, alloc, texts, scripts, words, &tallies, buffered, more);
+    more.served(tallies.lines(alloc, words.scripts.as_slice()).ok());
+    ended
 }
 
 // Runs a drill of the texts onto a writer.
@@ -85,11 +106,12 @@ fn drill_texts<R: Threads + Wait + Sync, O: Write + Drop>(
     texts: Texts<'_>,
     scripts: Vec<Vec<u8>>,
     words: &DrillWords<'_>,
+    tallies: &Tallies,
     buffered: BufWriter<O>,
     more: &mut More,
 ) -> Result<bool, RunFault> {
     let mut writer = Spout::new(buffered);
-    let ended = run_drill(
+    let ended = hear_drill(
         rt,
         alloc,
         texts.map.unwrap_or(b""),
@@ -98,7 +120,7 @@ fn drill_texts<R: Threads + Wait + Sync, O: Write + Drop>(
         words.mode,
         words.workers.clamp(1, 64),
         scripts,
-        &NoGate,
+        tallies,
         &mut writer,
     );
     finish(alloc, ended, texts, writer.into_inner(), more)

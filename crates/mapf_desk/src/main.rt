@@ -3,23 +3,22 @@
 #![tactic(auto)]
 
 mod auditing;
-mod commands;
 mod details;
 mod drilling;
 mod files;
 mod finishing;
-mod helping;
+mod named;
 mod saving;
 mod serving;
 mod stages;
 mod streams;
+mod tallies;
 mod telling;
-mod words;
 
 use auditing::audit_files;
 use desk_runs::{Fault, RunFault};
+use desk_words::{Asked, VERSION, WAITS, Words, read_words};
 use drilling::drill_files;
-use helping::{VERSION, WAITS};
 use serving::serve_streams;
 use std::env;
 use std::io::{Error, ErrorKind, IsTerminal};
@@ -27,8 +26,7 @@ use std::process::ExitCode;
 use std::rt::Files;
 use std::sync::Wait;
 use std::thread::Threads;
-use telling::{FAULT, More, tell, tell_more};
-use words::{Asked, Words, read_words};
+use telling::{FAULT, More, tell, tell_more, tell_served};
 
 /// The status of a drill whose reports differ.
 const DIFFERS: u8 = 1;
@@ -54,7 +52,7 @@ fn obey<'a, R: Files + AllocGlobal + Print + Eprint + Input + Threads + Wait + S
             Ok(()) => Ok(ExitCode::SUCCESS),
             Err(fault) => Err(fault),
         },
-        Words::Drill(drill) => match drill_files(rt, drill, stages, more) {
+        Words::Drill(drill) => match drill_files(rt, drill, stages, more, verbose) {
             Ok(true) => Ok(ExitCode::SUCCESS),
             Ok(false) => Ok(ExitCode::from(DIFFERS)),
             Err(fault) => Err(fault),
@@ -100,8 +98,10 @@ fn main(rt: HostRuntime) -> ExitCode {
         let _told = eprintln!(rt; "{WAITS}");
     }
     let mut more = More::none();
-    match obey(&rt, &words, &mut more, verbose, rt.stderr().is_terminal()) {
+    let status = match obey(&rt, &words, &mut more, verbose, rt.stderr().is_terminal()) {
         Ok(status) => status,
         Err(fault) => tell_more(&rt, &fault, &more, verbose),
-    }
+    };
+    tell_served(&rt, &more);
+    status
 }

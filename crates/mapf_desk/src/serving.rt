@@ -1,37 +1,19 @@
 //! The word `serve`.
 use crate::details::{Texts, more_of};
-use crate::files::named_bytes;
-use crate::saving::{look_ahead, save_journal};
+use crate::named::read_named;
+use crate::saving::save_journal;
 use crate::streams::{Answers, Lines, Outlet};
 use crate::telling::{More, tell_more};
-use crate::words::ServeWords;
-use desk_core::Desk;
+use desk_core::{Desk, Limit, MOST_ENTRIES};
 use desk_report::{Spout, Tap};
 use desk_runs::{Fault, RunFault, serve_desk};
 use desk_session::ServeFault;
+use desk_words::ServeWords;
 use std::alloc::Global;
 use std::cell::RefCell;
 use std::io;
 use std::io::{BufReader, BufWriter, Error, Read, Write};
 use std::rt::Files;
-
-// The bytes of the files that the words name.
-#[derive(Drop)]
-struct Named {
-    map: Option<Vec<u8>>,
-    scen: Option<Vec<u8>>,
-    journal: Option<Vec<u8>>,
-}
-
-impl Named {
-    fn texts(&self) -> Texts<'_> {
-        Texts {
-            map: self.map.as_deref(),
-            scen: self.scen.as_deref(),
-            journal: self.journal.as_deref(),
-        }
-    }
-}
 
 /// Serves a session from standard input to standard output, as the words ask for, and saves the
 /// desk's journal where they ask for it. What was answered before a fault has gone out, and is
@@ -96,36 +78,6 @@ fn save_named<'a, R: Files + AllocGlobal>(
     }
 }
 
-// Reads the files, and looks whether the last one can be written.
-fn read_named<'a, R: Files + AllocGlobal>(
-    rt: &R,
-    words: &ServeWords<'a>,
-    more: &mut More,
-) -> Result<Named, Fault<'a>> {
-    if words.agents > 0 && words.scen.is_none() {
-        return Err(Fault::AgentsWithoutScen);
-    }
-    let map = match named_bytes(rt, words.map, more) {
-        Ok(map) => map,
-        Err(fault) => return Err(fault),
-    };
-    let scen = match named_bytes(rt, words.scen, more) {
-        Ok(scen) => scen,
-        Err(fault) => return Err(fault),
-    };
-    let journal = match named_bytes(rt, words.journal, more) {
-        Ok(journal) => journal,
-        Err(fault) => return Err(fault),
-    };
-    if let Some(file) = words.save {
-        match look_ahead(rt, file, more) {
-            Ok(()) => {}
-            Err(fault) => return Err(fault),
-        }
-    }
-    Ok(Named { map, scen, journal })
-}
-
 // How a session went: the desk that it left, where one was opened, its fault, and the system's
 // reason for that.
 #[derive(Drop)]
@@ -172,6 +124,14 @@ fn serve_between<I: Read + Drop, O: Write + Drop>(
     sat
 }
 
+// The journal's limit, which the words' parser has held to its range.
+fn limit_of(words: &ServeWords<'_>) -> Limit {
+    match Limit::new(words.limit.clamp(1, MOST_ENTRIES)) {
+        Some(limit) => limit,
+        None => unreachable!(),
+    }
+}
+
 // Serves a session from a reader to an outlet.
 fn serve_lines<I: Read + Drop, O: Write + Drop>(
     alloc: Global,
@@ -186,7 +146,7 @@ fn serve_lines<I: Read + Drop, O: Write + Drop>(
     let mut reader = Tap::new(lines);
     let mut writer = Spout::new(Answers::new(outlet));
     let Texts { map, scen, journal } = texts;
-    let (agents, limit, mode) = (words.agents, words.limit, words.mode);
+    let (agents, limit, mode) = (words.agents, limit_of(words), words.mode);
     let sat = serve_desk(
         alloc,
         map,

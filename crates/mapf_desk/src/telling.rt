@@ -6,16 +6,20 @@ use std::process::ExitCode;
 /// The status of a fault.
 pub const FAULT: u8 = 2;
 
-/// What more is known of a fault, where anything is.
+/// What more is known of a run: of its fault, where anything is, and of the scripts that it served.
 #[derive(Drop)]
 pub struct More {
     text: Option<String>,
+    served: Option<String>,
 }
 
 impl More {
     /// No more is known.
     pub fn none() -> More {
-        More { text: None }
+        More {
+            text: None,
+            served: None,
+        }
     }
 
     /// That is known, if anything.
@@ -29,6 +33,11 @@ impl More {
             Ok(text) => Some(text),
             Err(_) => None,
         };
+    }
+
+    /// These lines are known of the scripts that were served, if any.
+    pub fn served(&mut self, lines: Option<String>) {
+        self.served = lines;
     }
 }
 
@@ -47,4 +56,11 @@ pub fn tell_more<R: Eprint, D: Display>(rt: &R, fault: &D, more: &More, verbose:
         }
     }
     ExitCode::from(FAULT)
+}
+
+/// Tells what is known of the scripts that were served.
+pub fn tell_served<R: Eprint>(rt: &R, more: &More) {
+    if let Some(lines) = &more.served {
+        let _told = eprint!(rt; "{lines}");
+    }
 }
