@@ -1,23 +1,21 @@
 -- The entries of a fleet after one route is put in or taken out.
-use Rattle.std.proofs.Common.{◌≡◌, ◌≢◌, ◌⊎◌, inl, inr, ℕ, zero, suc, ◌+◌, ◌-◌, ◌<◌, ◌≤◌, ◌%◌, List, length, Some, None, refl, sym, ap, ◌∙◌, subst, arith}
+use Rattle.std.proofs.Common.{◌≡◌, ◌≢◌, ◌⊎◌, inl, inr, ℕ, ◌+◌, ◌-◌, ◌%◌, List, length, Some, None, refl, sym, ap, ◌∙◌, subst, arith}
 use mathlib.Core.Logic.{◌↔◌}
 use Rattle.std.specs.Prelude.{IsSome, IsTrue, slice_index, false}
 use Rattle.std.specs.Option.{unwrap_or, option_map, option_and_then}
 use Rattle.std.specs.List.{Contains}
 use Rattle.std.proofs.lemmas.List.Elements.{Contains-get_or}
-use Rattle.std.proofs.lemmas.List.{same_lists, get_or_default}
 use Rattle.grid_cells.specs.Cell.{Point}
 use Rattle.plan_table.specs.Path.{last_index}
 use Rattle.plan_table.specs.Route.{Route, Fleet, position, position_of, last_of, leaves_of}
 use Rattle.conflict_ledger.specs.Entries.{IsFollowing}
 use Rattle.conflict_ledger.specs.Cycles.{MovesOut, IsRing}
 use Rattle.conflict_ledger.specs.ConflictList.{Stands}
-use Rattle.conflict_ledger.specs.RingWalk.{IsNext}
 use Rattle.conflict_ledger.specs.declared.entries.Conflict.{Conflict}
 use Rattle.conflict_ledger.specs.declared.entries.Conflict.TheVariants.{Vertex, Parked, Edge, Following, Swapping, Cycle}
 use Rattle.conflict_ledger.specs.Naming.{Names, IsPair, time_of}
 use Rattle.conflict_ledger.specs.Change.{SameBut, IsNear, RingsAfterArrival}
-use Rattle.conflict_ledger.proofs.RoundTrips.{IsNext-unique, ring_next, after_inside, after_end, after_within}
+use Rattle.conflict_ledger.proofs.RoundTrips.{after_within}
 
 module _ (old new : Fleet) (agent : ℕ) (same : SameBut old new agent) where
   pub there : (a time : ℕ) → a ≢ agent → position_of old a time ≡ position_of new a time
@@ -36,13 +34,6 @@ module _ (old new : Fleet) (agent : ℕ) (same : SameBut old new agent) where
     leader_goes_on = subst IsSome (there leader (time + 1) nl) h.leader_goes_on;
     follower_to = sym (there follower (time + 1) nf) ∙ h.follower_to;
     moves = λ is. h.moves (there follower time nf ∙ is);
-  }
-
-  moves_out_stays : (time a : ℕ) (cell : Point) → a ≢ agent → MovesOut old time a cell → MovesOut new time a cell
-  moves_out_stays time a cell apart h = record {
-    from = sym (there a time apart) ∙ h.from;
-    goes_on = subst IsSome (there a (time + 1) apart) h.goes_on;
-    moves = λ is. h.moves (there a (time + 1) apart ∙ is);
   }
 
   -- an entry of two agents that does not name the agent stays
@@ -125,86 +116,6 @@ module _ (old new : Fleet) (agent : ℕ) (same : SameBut old new agent) where
       goes_on = subst IsSome (sym (there other (time + 1) apart)) h.goes_on;
       moves = λ still. h.moves (sym (there other (time + 1) apart) ∙ still);
     }
-
--- ---- two rings of one time that share an agent are one
-module _ (fleet : Fleet) (time : ℕ) where
-  -- the next of a member is a member
-  next_inside : (r s : List ℕ) → IsRing fleet time r → IsRing fleet time s → (k : ℕ) → k < length r → Contains s (slice_index r k) → Contains s (slice_index r ((k + 1) % length r))
-  next_inside r s is_r is_s k within (j, inside, at) =
-      let here : slice_index s j ≡ slice_index r k = get_or_default s j 0 (slice_index r k) inside ∙ at in
-      let left : IsNext fleet time (slice_index r k) (slice_index r ((k + 1) % length r)) = ring_next fleet time r is_r k within in
-      let right : IsNext fleet time (slice_index r k) (slice_index s ((j + 1) % length s)) = subst (λ a. IsNext fleet time a (slice_index s ((j + 1) % length s))) here (ring_next fleet time s is_s j inside) in
-      let one : slice_index s ((j + 1) % length s) ≡ slice_index r ((k + 1) % length r) = IsNext-unique fleet time (slice_index r k) _ _ right left in
-      subst (Contains s) one (Contains-get_or s ((j + 1) % length s) 0 (after_within j (length s) inside))
-
-  module _ (r s : List ℕ) (is_r : IsRing fleet time r) (is_s : IsRing fleet time s) where
-    -- from a place to a later one
-    climb : (k steps : ℕ) → k + steps < length r → Contains s (slice_index r k) → Contains s (slice_index r (k + steps))
-    climb k zero within h = subst (λ q. Contains s (slice_index r q)) {x = k} (omega arith) h
-    climb k (suc steps) within h =
-        let before : Contains s (slice_index r (k + steps)) = climb k steps (omega arith) h in
-        let more : Contains s (slice_index r ((k + steps + 1) % length r)) = next_inside r s is_r is_s (k + steps) (omega arith) before in
-        let place : (k + steps + 1) % length r ≡ k + suc steps = after_inside (k + steps) (length r) (omega arith) ∙ omega arith in
-        subst (λ q. Contains s (slice_index r q)) place more
-
-    -- so all members of one are members of the other
-    pub all_inside : (i : ℕ) → i < length r → Contains s (slice_index r i) → (k : ℕ) → k < length r → Contains s (slice_index r k)
-    all_inside i within h k inside =
-        let last : Contains s (slice_index r (length r - 1)) = subst (λ q. Contains s (slice_index r q)) {x = i + (length r - 1 - i)} (omega arith) (climb i (length r - 1 - i) (omega arith) h) in
-        let wrapped : Contains s (slice_index r ((length r - 1 + 1) % length r)) = next_inside r s is_r is_s (length r - 1) (omega arith) last in
-        let first : Contains s (slice_index r 0) = subst (λ q. Contains s (slice_index r q)) (after_end (length r - 1) (length r) (omega arith)) wrapped in
-        subst (λ q. Contains s (slice_index r q)) {x = 0 + k} (omega arith) (climb 0 k (omega arith) first)
-
-  pub inside_all : (r s : List ℕ) → IsRing fleet time r → IsRing fleet time s → (m : ℕ) → Contains r m → Contains s m → (a : ℕ) → Contains r a → Contains s a
-  inside_all r s is_r is_s m (i, within, at_i) in_s a (k, inside, at_k) =
-      let here : slice_index r i ≡ m = get_or_default r i 0 m within ∙ at_i in
-      let there_k : slice_index r k ≡ a = get_or_default r k 0 a inside ∙ at_k in
-      subst (Contains s) there_k (all_inside r s is_r is_s i within (subst (Contains s) (sym here) in_s) k inside)
-
-  least_of : (r : List ℕ) → IsRing fleet time r → (a : ℕ) → Contains r a → slice_index r 0 ≤ a
-  least_of r is a (k, inside, at_k) = subst (λ v. slice_index r 0 ≤ v) at_k (is.least_first k a inside)
-
-  same_walk : (r s : List ℕ) → IsRing fleet time r → IsRing fleet time s → slice_index r 0 ≡ slice_index s 0 → (k : ℕ) → k < length r → k < length s → slice_index r k ≡ slice_index s k
-  same_walk r s is_r is_s starts zero a b = starts
-  same_walk r s is_r is_s starts (suc k) a b =
-      let before : slice_index r k ≡ slice_index s k = same_walk r s is_r is_s starts k (omega arith) (omega arith) in
-      let left : IsNext fleet time (slice_index s k) (slice_index r ((k + 1) % length r)) = subst (λ q. IsNext fleet time q (slice_index r ((k + 1) % length r))) before (ring_next fleet time r is_r k (omega arith)) in
-      let one : slice_index r ((k + 1) % length r) ≡ slice_index s ((k + 1) % length s) = IsNext-unique fleet time (slice_index s k) _ _ left (ring_next fleet time s is_s k (omega arith)) in
-      let in_r : (k + 1) % length r ≡ suc k = after_inside k (length r) (omega arith) ∙ omega arith in
-      let in_s : (k + 1) % length s ≡ suc k = after_inside k (length s) (omega arith) ∙ omega arith in
-      sym (ap (slice_index r) in_r) ∙ (one ∙ ap (slice_index s) in_s)
-
-  -- neither is shorter: its last agent's next would stand twice in the other
-  not_shorter : (r s : List ℕ) → IsRing fleet time r → IsRing fleet time s → slice_index r 0 ≡ slice_index s 0 → length r < length s → ⊥
-  not_shorter r s is_r is_s starts shorter =
-      let k : ℕ = length r - 1 in
-      let last : slice_index r k ≡ slice_index s k = same_walk r s is_r is_s starts k (omega (arith, is_r.three)) (omega (arith, is_r.three)) in
-      let left : IsNext fleet time (slice_index s k) (slice_index r ((k + 1) % length r)) = subst (λ q. IsNext fleet time q (slice_index r ((k + 1) % length r))) last (ring_next fleet time r is_r k (omega (arith, is_r.three))) in
-      let one : slice_index r ((k + 1) % length r) ≡ slice_index s ((k + 1) % length s) = IsNext-unique fleet time (slice_index s k) _ _ left (ring_next fleet time s is_s k (omega arith)) in
-      let back : (k + 1) % length r ≡ 0 = after_end k (length r) (omega (arith, is_r.three)) in
-      let on : (k + 1) % length s ≡ k + 1 = after_inside k (length s) (omega (arith, is_r.three)) in
-      is_s.distinct 0 (k + 1) 0 (omega arith) (omega (arith, is_r.three)) (sym starts ∙ (sym (ap (slice_index r) back) ∙ (one ∙ ap (slice_index s) on)))
-
-  -- two rings that share an agent are one
-  pub rings_meet : (r s : List ℕ) → IsRing fleet time r → IsRing fleet time s → (m : ℕ) → Contains r m → Contains s m → r ≡ s
-  rings_meet r s is_r is_s m in_r in_s =
-      let first_r : Contains r (slice_index r 0) = Contains-get_or r 0 0 (omega (arith, is_r.three)) in
-      let first_s : Contains s (slice_index s 0) = Contains-get_or s 0 0 (omega (arith, is_s.three)) in
-      let a : slice_index s 0 ≤ slice_index r 0 = least_of s is_s _ (inside_all r s is_r is_s m in_r in_s _ first_r) in
-      let b : slice_index r 0 ≤ slice_index s 0 = least_of r is_r _ (inside_all s r is_s is_r m in_s in_r _ first_s) in
-      let starts : slice_index r 0 ≡ slice_index s 0 = omega arith in
-      let x = not_shorter r s is_r is_s starts in
-      let y = not_shorter s r is_s is_r (sym starts) in
-      let long : length r ≡ length s = same_length (length r) (length s) x y in
-      same_lists r s long (λ k d within. get_or_default r k d 0 within ∙ (same_walk r s is_r is_s starts k within (omega arith) ∙ get_or_default s k 0 d (omega arith)))
-    where
-      same_length : (p q : ℕ) → (p < q → ⊥) → (q < p → ⊥) → p ≡ q
-      same_length p q f g = grind arith
-
-  -- so at most one ring has a member that moves out of a cell
-  pub one_ring_at : (r s : List ℕ) → IsRing fleet time r → IsRing fleet time s → (cell : Point) (a b : ℕ) → Contains r a → Contains s b → MovesOut fleet time a cell → MovesOut fleet time b cell → r ≡ s
-  one_ring_at r s is_r is_s cell a b in_r in_s out_a out_b =
-      rings_meet r s is_r is_s a in_r (subst (Contains s) (sym (is_s.alone b a cell in_s out_b.from out_a)) in_s)
 
 -- ---- where the entries of an agent are looked for
 pub near_of : (fleet : Fleet) (agent : ℕ) (entry : Conflict) → IsPair entry → Names entry agent → Stands fleet entry → (other : ℕ) × Names entry other × (other ≢ agent) × IsNear fleet agent (time_of entry) other

@@ -1,5 +1,5 @@
 -- What the search for one pair of agents adds.
-use Rattle.std.proofs.Common.{◌≡◌, ℕ, List, Some, Option, refl, sym, ap, subst, ◌∙◌, ◌⊎◌, inl, inr}
+use Rattle.std.proofs.Common.{◌≡◌, ℕ, List, Some, Option, refl, ◌∙◌, ◌⊎◌, inl, inr}
 use Rattle.std.specs.Prelude.{IfSome, Result, Ok, Err, OnOk}
 use Rattle.std.specs.List.{Contains}
 use Rattle.std.proofs.lemmas.Option.{MatchOption-at_some}
@@ -7,31 +7,21 @@ use Rattle.grid_cells.specs.Cell.{Point}
 use Rattle.conflict_ledger.specs.Entries.{IsVertex, IsParked, IsEdge, IsFollowing, IsSwapping}
 use Rattle.conflict_ledger.specs.ConflictList.{Stands}
 use Rattle.plan_table.specs.Route.{Fleet}
-use Rattle.conflict_ledger.specs.Finding.{HasPair, HasRing, AreFound, AddsFound, Adds}
+use Rattle.conflict_ledger.specs.Finding.{HasPair, HasRing, AllStand}
+use Rattle.conflict_ledger.specs.Gathering.{Offers}
 use Rattle.conflict_ledger.specs.Naming.{IsOfPair}
 use Rattle.conflict_ledger.specs.declared.entries.Conflict.{Conflict}
 use Rattle.conflict_ledger.specs.declared.entries.Conflict.TheVariants.{Vertex, Parked, Edge, Following, Swapping, Cycle}
 
-pub AreFound-more : (fleet : Fleet) (old new : List Conflict) (found : Option Conflict) → AreFound fleet old → IfSome found (Stands fleet) → AddsFound old new found → AreFound fleet new
-AreFound-more fleet old new found are stands adds = record {
-  listed = adds.listed;
-  each = λ entry in_new. elim (adds.only entry in_new) [
-    | inl in_old ↦ are.each entry in_old
-    | inr is ↦ MatchOption-at_some _ (Stands fleet) entry is stands
-  ];
-}
+pub stand_more : (fleet : Fleet) (old new : List Conflict) (found : Option Conflict) → AllStand fleet old → IfSome found (Stands fleet) → Offers old new found → AllStand fleet new
+stand_more fleet old new found are stands offers entry in_new = elim (offers.only entry in_new) [
+  | inl in_old ↦ are entry in_old
+  | inr is ↦ MatchOption-at_some _ (Stands fleet) entry is stands
+]
 
 pub OnOk_then : {T E : Type 0} (r : Result T E) (P Q : Type 0) → (P → Q) → OnOk r P → OnOk r Q
 OnOk_then (Ok x) P Q f h = f h
 OnOk_then (Err e) P Q f h = h
-
-pub adds_found : (old new : List Conflict) (entry : Conflict) → Adds old new entry → AddsFound old new (Some entry)
-adds_found old new entry adds = record {
-  listed = adds.listed;
-  keeps = adds.keeps;
-  has = λ e is. subst (Contains new) (Rattle.std.proofs.lemmas.Option.same_Some entry e is) adds.has;
-  only = λ e in_new. elim (adds.only e in_new) [ inl in_old ↦ inl in_old | inr is ↦ inr (ap Some (sym is)) ];
-}
 
 module _ (fleet : Fleet) (time first second : ℕ) (v p e f s : Option Conflict)
     (vs : (cell : Point) → IsVertex fleet time first second cell → v ≡ Some (Vertex time first second cell))

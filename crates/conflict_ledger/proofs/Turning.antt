@@ -17,7 +17,7 @@ use Rattle.conflict_ledger.specs.Change.{SameBut, IsFree}
 use Rattle.conflict_ledger.specs.Sight.{Shows, own_place}
 use Rattle.conflict_ledger.specs.Gathering.{IsAgents}
 use Rattle.conflict_ledger.specs.Turns.{IsLeft, IsLeftAt}
-use Rattle.conflict_ledger.specs.Kept.{Kept, Holds, HasEntries, GainsAll, LosesAll, KeepsRingsOf, AreRingsOf, IsRingOf}
+use Rattle.conflict_ledger.specs.Kept.{HasEntries, GainsAll, LosesAll}
 use Rattle.conflict_ledger.specs.declared.entries.Conflict.{Conflict}
 use Rattle.conflict_ledger.specs.declared.entries.Conflict.TheVariants.{Vertex, Parked, Edge, Following, Swapping, Cycle}
 use Rattle.conflict_ledger.proofs.Change.{there, pairs_after_change, near_of, rings_after_arrival}
@@ -73,22 +73,6 @@ found fleet time cell (x ∷ xs) = elim (at_or_not (position_of fleet x time) ce
     | inr none ↦ inr (λ m h at. elim (Contains-cons_cases x xs m h) [ inl e ↦ apart (subst (λ (q : ℕ). position_of fleet q time ≡ Some cell) (sym e) at) | inr later ↦ none m later at ])
   ]
 ]
-
-left_ring : (fleet : Fleet) (route : Option Route) (e : Conflict) → IsLeft fleet route e → IsRingOf fleet e
-left_ring fleet route (Vertex x a b c) left = absurd left
-left_ring fleet route (Parked x a b c) left = absurd left
-left_ring fleet route (Edge x a b c n) left = absurd left
-left_ring fleet route (Following x a b c) left = absurd left
-left_ring fleet route (Swapping x a b c n) left = absurd left
-left_ring fleet route (Cycle x r) left = left.round.round
-
-pair_ring : (fleet : Fleet) (e : Conflict) → IsPair e → IsRingOf fleet e
-pair_ring fleet (Vertex x a b c) pair = tt
-pair_ring fleet (Parked x a b c) pair = tt
-pair_ring fleet (Edge x a b c n) pair = tt
-pair_ring fleet (Following x a b c) pair = tt
-pair_ring fleet (Swapping x a b c n) pair = tt
-pair_ring fleet (Cycle x r) pair = absurd pair
 
 -- a member of a ring moves out of its cell
 moves_from : (fleet : Fleet) (time a : ℕ) (ring : List ℕ) → IsRing fleet time ring → Contains ring a → (cell : Point) × MovesOut fleet time a cell
@@ -201,128 +185,82 @@ module _ (index : Contents) (agent : ℕ) (route : Option Route) (out into : Fle
       ]
 
   module _ (broken joined pairs : List Conflict) (b_is : (e : Conflict) → Contains broken e ↔ IsLeft out route e) (j_is : (e : Conflict) → Contains joined e ↔ IsLeft into route e) (p_is : (e : Conflict) → Contains pairs e ↔ IsAgents into agent e) where
-    pub broken_rings : AreRingsOf out broken
-    broken_rings e h = left_ring out route e ((b_is e).0 h)
-
-    pub joined_rings : AreRingsOf into joined
-    joined_rings e h = left_ring into route e ((j_is e).0 h)
-
-    pub pairs_rings : (fleet : Fleet) → AreRingsOf fleet pairs
-    pairs_rings fleet e h = pair_ring fleet e ((p_is e).0 h).pair
-
-    pub held_rings : (fleet : Fleet) (k : Kept) → HasEntries k fleet → KeepsRingsOf k fleet
-    held_rings fleet k has time ring holds = (has (Cycle time ring)).0 holds
-
     -- the agent comes
-    module _ (k0 k1 k2 k3 : Kept) (has : HasEntries k0 out) (loses : LosesAll k0 k1 broken) where
-      pub enter_first : KeepsRingsOf k1 into
-      enter_first time ring holds =
-          let before = (loses (Cycle time ring)).0 holds in
-          stays_ring time ring ((has (Cycle time ring)).0 before.0) (λ left. before.1 ((b_is (Cycle time ring)).1 left))
+    module _ (k0 k1 k2 k3 : List Conflict) (has : HasEntries k0 out) (loses : LosesAll k0 k1 broken) (gains : GainsAll k1 k2 joined) (more : GainsAll k2 k3 pairs) where
+      pair_enters : (e : Conflict) → IsPair e → (IsLeft out route e → ⊥) → (IsLeft into route e → ⊥) → Contains k3 e ↔ Stands into e
+      pair_enters e pair no_b no_j = (
+        λ h. elim ((more e).0 h) [
+          | inr p ↦ ((p_is e).0 p).stands
+          | inl two ↦ elim ((gains e).0 two) [
+            | inr j ↦ absurd (no_j ((j_is e).0 j))
+            | inl one ↦ let stands = (has e).0 ((loses e).0 one).0 in (pairs_after_change out into agent e same pair (unnamed e pair stands)).0 stands
+          ]
+        ],
+        λ stands. elim (names_or_not e agent) [
+          | inl named ↦ (more e).1 (inr ((p_is e).1 (record { stands = stands; pair = pair; names = named })))
+          | inr free ↦ (more e).1 (inl ((gains e).1 (inl ((loses e).1 ((has e).1 ((pairs_after_change out into agent e same pair free).1 stands), λ b. no_b ((b_is e).0 b))))))
+        ],
+      )
 
-      module _ (gains : GainsAll k1 k2 joined) where
-        pub enter_second : KeepsRingsOf k2 into
-        enter_second time ring holds = elim ((gains (Cycle time ring)).0 holds) [
-          | inl before ↦ enter_first time ring before
-          | inr new ↦ ((j_is (Cycle time ring)).0 new).round.round
-        ]
-
-        module _ (more : GainsAll k2 k3 pairs) where
-          pair_enters : (e : Conflict) → IsPair e → (IsLeft out route e → ⊥) → (IsLeft into route e → ⊥) → Holds k3 e ↔ Stands into e
-          pair_enters e pair no_b no_j = (
-            λ h. elim ((more e).0 h) [
-              | inr p ↦ ((p_is e).0 p).stands
-              | inl two ↦ elim ((gains e).0 two) [
-                | inr j ↦ absurd (no_j ((j_is e).0 j))
-                | inl one ↦ let stands = (has e).0 ((loses e).0 one).0 in (pairs_after_change out into agent e same pair (unnamed e pair stands)).0 stands
-              ]
-            ],
-            λ stands. elim (names_or_not e agent) [
-              | inl named ↦ (more e).1 (inr ((p_is e).1 (record { stands = stands; pair = pair; names = named })))
-              | inr free ↦ (more e).1 (inl ((gains e).1 (inl ((loses e).1 ((has e).1 ((pairs_after_change out into agent e same pair free).1 stands), λ b. no_b ((b_is e).0 b))))))
-            ],
-          )
-
-          pub enter_law : HasEntries k3 into
-          enter_law (Vertex x a b c) = pair_enters (Vertex x a b c) tt (λ h. h) (λ h. h)
-          enter_law (Parked x a b c) = pair_enters (Parked x a b c) tt (λ h. h) (λ h. h)
-          enter_law (Edge x a b c n) = pair_enters (Edge x a b c n) tt (λ h. h) (λ h. h)
-          enter_law (Following x a b c) = pair_enters (Following x a b c) tt (λ h. h) (λ h. h)
-          enter_law (Swapping x a b c n) = pair_enters (Swapping x a b c n) tt (λ h. h) (λ h. h)
-          enter_law (Cycle x r) = (
-            λ h. elim ((more (Cycle x r)).0 h) [
-              | inr p ↦ absurd ((p_is (Cycle x r)).0 p).pair
-              | inl two ↦ enter_second x r two
-            ],
-            λ is. (more (Cycle x r)).1 (inl ((gains (Cycle x r)).1 (elim ((arrival x r).0 is) [
-              | inl w ↦ inr ((j_is (Cycle x r)).1 (joined_has x r is w.0))
-              | inr w ↦ inl ((loses (Cycle x r)).1 ((has (Cycle x r)).1 w.1, λ b. not_free x r w.0 ((b_is (Cycle x r)).0 b) w.2))
-            ]))),
-          )
+      pub enter_law : HasEntries k3 into
+      enter_law (Vertex x a b c) = pair_enters (Vertex x a b c) tt (λ h. h) (λ h. h)
+      enter_law (Parked x a b c) = pair_enters (Parked x a b c) tt (λ h. h) (λ h. h)
+      enter_law (Edge x a b c n) = pair_enters (Edge x a b c n) tt (λ h. h) (λ h. h)
+      enter_law (Following x a b c) = pair_enters (Following x a b c) tt (λ h. h) (λ h. h)
+      enter_law (Swapping x a b c n) = pair_enters (Swapping x a b c n) tt (λ h. h) (λ h. h)
+      enter_law (Cycle x r) = (
+        λ h. elim ((more (Cycle x r)).0 h) [
+          | inr p ↦ absurd ((p_is (Cycle x r)).0 p).pair
+          | inl two ↦ elim ((gains (Cycle x r)).0 two) [
+            | inr new ↦ ((j_is (Cycle x r)).0 new).round.round
+            | inl one ↦
+                let before = (loses (Cycle x r)).0 one in
+                stays_ring x r ((has (Cycle x r)).0 before.0) (λ left. before.1 ((b_is (Cycle x r)).1 left))
+          ]
+        ],
+        λ is. (more (Cycle x r)).1 (inl ((gains (Cycle x r)).1 (elim ((arrival x r).0 is) [
+          | inl w ↦ inr ((j_is (Cycle x r)).1 (joined_has x r is w.0))
+          | inr w ↦ inl ((loses (Cycle x r)).1 ((has (Cycle x r)).1 w.1, λ b. not_free x r w.0 ((b_is (Cycle x r)).0 b) w.2))
+        ]))),
+      )
 
     -- the agent goes
-    module _ (k0 k1 k2 k3 : Kept) (has : HasEntries k0 into) (loses : LosesAll k0 k1 joined) where
-      pub leave_first : KeepsRingsOf k1 into
-      leave_first time ring holds = (has (Cycle time ring)).0 ((loses (Cycle time ring)).0 holds).0
+    module _ (k0 k1 k2 k3 : List Conflict) (has : HasEntries k0 into) (loses : LosesAll k0 k1 joined) (fewer : LosesAll k1 k2 pairs) (gains : GainsAll k2 k3 broken) where
+      pair_leaves : (e : Conflict) → IsPair e → (IsLeft out route e → ⊥) → (IsLeft into route e → ⊥) → Contains k3 e ↔ Stands out e
+      pair_leaves e pair no_b no_j = (
+        λ h. elim ((gains e).0 h) [
+          | inr b ↦ absurd (no_b ((b_is e).0 b))
+          | inl two ↦
+              let first = (fewer e).0 two in
+              let stands = (has e).0 ((loses e).0 first.0).0 in
+              (pairs_after_change out into agent e same pair (λ named. first.1 ((p_is e).1 (record { stands = stands; pair = pair; names = named })))).1 stands
+        ],
+        λ stands.
+            let free = unnamed e pair stands in
+            (gains e).1 (inl ((fewer e).1 ((loses e).1 ((has e).1 ((pairs_after_change out into agent e same pair free).0 stands), λ j. no_j ((j_is e).0 j)), λ p. free ((p_is e).0 p).names))),
+      )
 
-      module _ (fewer : LosesAll k1 k2 pairs) where
-        pub leave_second : KeepsRingsOf k2 out
-        leave_second time ring holds =
-            let before = (loses (Cycle time ring)).0 ((fewer (Cycle time ring)).0 holds).0 in
-            let is = (has (Cycle time ring)).0 before.0 in
-            goes_ring time ring is (λ in_ring. before.1 ((j_is (Cycle time ring)).1 (joined_has time ring is in_ring)))
-
-        module _ (gains : GainsAll k2 k3 broken) where
-          pair_leaves : (e : Conflict) → IsPair e → (IsLeft out route e → ⊥) → (IsLeft into route e → ⊥) → Holds k3 e ↔ Stands out e
-          pair_leaves e pair no_b no_j = (
-            λ h. elim ((gains e).0 h) [
-              | inr b ↦ absurd (no_b ((b_is e).0 b))
-              | inl two ↦
-                  let first = (fewer e).0 two in
-                  let stands = (has e).0 ((loses e).0 first.0).0 in
-                  (pairs_after_change out into agent e same pair (λ named. first.1 ((p_is e).1 (record { stands = stands; pair = pair; names = named })))).1 stands
-            ],
-            λ stands.
-                let free = unnamed e pair stands in
-                (gains e).1 (inl ((fewer e).1 ((loses e).1 ((has e).1 ((pairs_after_change out into agent e same pair free).0 stands), λ j. no_j ((j_is e).0 j)), λ p. free ((p_is e).0 p).names))),
-          )
-
-          pub leave_law : HasEntries k3 out
-          leave_law (Vertex x a b c) = pair_leaves (Vertex x a b c) tt (λ h. h) (λ h. h)
-          leave_law (Parked x a b c) = pair_leaves (Parked x a b c) tt (λ h. h) (λ h. h)
-          leave_law (Edge x a b c n) = pair_leaves (Edge x a b c n) tt (λ h. h) (λ h. h)
-          leave_law (Following x a b c) = pair_leaves (Following x a b c) tt (λ h. h) (λ h. h)
-          leave_law (Swapping x a b c n) = pair_leaves (Swapping x a b c n) tt (λ h. h) (λ h. h)
-          leave_law (Cycle x r) = (
-            λ h. elim ((gains (Cycle x r)).0 h) [
-              | inr b ↦ ((b_is (Cycle x r)).0 b).round.round
-              | inl two ↦ leave_second x r two
-            ],
-            λ is. elim (left_or_not x r is) [
-              | inl left ↦ (gains (Cycle x r)).1 (inr ((b_is (Cycle x r)).1 left))
-              | inr free ↦
-                  let none = no_member x r is in
-                  (gains (Cycle x r)).1 (inl ((fewer (Cycle x r)).1 ((loses (Cycle x r)).1 ((has (Cycle x r)).1 (stays_ring x r is free), λ j. none (joined_in x r ((j_is (Cycle x r)).0 j))), λ p. absurd ((p_is (Cycle x r)).0 p).pair)))
-            ],
-          )
-
-    -- a ledger out of which the broken rings were taken, and into which the agent's were put
-    pub enter_done : (k0 k1 k2 k3 : Kept) → HasEntries k0 out
-        → ((f : Fleet) → KeepsRingsOf k0 f → AreRingsOf f broken → LosesAll k0 k1 broken) → ((f : Fleet) → KeepsRingsOf k1 f → AreRingsOf f joined → GainsAll k1 k2 joined) → ((f : Fleet) → KeepsRingsOf k2 f → AreRingsOf f pairs → GainsAll k2 k3 pairs)
-        → HasEntries k3 into
-    enter_done k0 k1 k2 k3 has lose put more =
-        let loses = lose out (held_rings out k0 has) broken_rings in
-        let gains = put into (enter_first k0 k1 k2 k3 has loses) joined_rings in
-        enter_law k0 k1 k2 k3 has loses gains (more into (enter_second k0 k1 k2 k3 has loses gains) (pairs_rings into))
-
-    -- and the other way round
-    pub leave_done : (k0 k1 k2 k3 : Kept) → HasEntries k0 into
-        → ((f : Fleet) → KeepsRingsOf k0 f → AreRingsOf f joined → LosesAll k0 k1 joined) → ((f : Fleet) → KeepsRingsOf k1 f → AreRingsOf f pairs → LosesAll k1 k2 pairs) → ((f : Fleet) → KeepsRingsOf k2 f → AreRingsOf f broken → GainsAll k2 k3 broken)
-        → HasEntries k3 out
-    leave_done k0 k1 k2 k3 has lose fewer put =
-        let loses = lose into (held_rings into k0 has) joined_rings in
-        let less = fewer into (leave_first k0 k1 k2 k3 has loses) (pairs_rings into) in
-        leave_law k0 k1 k2 k3 has loses less (put out (leave_second k0 k1 k2 k3 has loses less) broken_rings)
+      pub leave_law : HasEntries k3 out
+      leave_law (Vertex x a b c) = pair_leaves (Vertex x a b c) tt (λ h. h) (λ h. h)
+      leave_law (Parked x a b c) = pair_leaves (Parked x a b c) tt (λ h. h) (λ h. h)
+      leave_law (Edge x a b c n) = pair_leaves (Edge x a b c n) tt (λ h. h) (λ h. h)
+      leave_law (Following x a b c) = pair_leaves (Following x a b c) tt (λ h. h) (λ h. h)
+      leave_law (Swapping x a b c n) = pair_leaves (Swapping x a b c n) tt (λ h. h) (λ h. h)
+      leave_law (Cycle x r) = (
+        λ h. elim ((gains (Cycle x r)).0 h) [
+          | inr b ↦ ((b_is (Cycle x r)).0 b).round.round
+          | inl two ↦
+              let before = (loses (Cycle x r)).0 ((fewer (Cycle x r)).0 two).0 in
+              let is = (has (Cycle x r)).0 before.0 in
+              goes_ring x r is (λ in_ring. before.1 ((j_is (Cycle x r)).1 (joined_has x r is in_ring)))
+        ],
+        λ is. elim (left_or_not x r is) [
+          | inl left ↦ (gains (Cycle x r)).1 (inr ((b_is (Cycle x r)).1 left))
+          | inr free ↦
+              let none = no_member x r is in
+              (gains (Cycle x r)).1 (inl ((fewer (Cycle x r)).1 ((loses (Cycle x r)).1 ((has (Cycle x r)).1 (stays_ring x r is free), λ j. none (joined_in x r ((j_is (Cycle x r)).0 j))), λ p. absurd ((p_is (Cycle x r)).0 p).pair)))
+        ],
+      )
 
 -- ---- a fleet with another route for one agent
 pub with_own : (fleet : Fleet) (agent : ℕ) (r : Option Route) → with_route fleet agent r agent ≡ r

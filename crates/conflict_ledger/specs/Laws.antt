@@ -1,11 +1,18 @@
 -- Laws of the definitions of conflicts (consequences of the definitions).
 use Rattle.std.specs.Prelude.{◌≡◌, ◌⊎◌, ◌↔◌, ℕ, ◌+◌, ◌<◌, ◌≤◌, Some, IsSome, List, Contains}
+use Rattle.std.specs.Ordering.{nat_cmp}
+use Rattle.std.specs.Cmp.Lexicographic.{slice_cmp}
 use Rattle.grid_cells.specs.Cell.{Point}
 use Rattle.plan_table.specs.Route.{Fleet, position_of}
 use Rattle.conflict_ledger.specs.Entries.{IsVertex, IsParked, IsFollowing, IsSwapping}
-use Rattle.conflict_ledger.specs.ConflictList.{AreConflicts, Stands}
+use Rattle.conflict_ledger.specs.ConflictList.{AreConflicts, Stands, listing_key}
 use Rattle.conflict_ledger.specs.declared.entries.Conflict.{Conflict}
 use Rattle.conflict_ledger.specs.declared.entries.Conflict.TheVariants.{Vertex, Parked, Edge, Following, Swapping, Cycle}
+use Rattle.conflict_ledger.specs.contracts.entries.ConflictOrd.TheImpl as order
+
+-- two entries compare as the numbers do by which they are listed
+abbrev pub EntriesCompareAsListed : Type 0
+EntriesCompareAsListed = (a b : Conflict) → order.ghosts.cmp a b ≡ slice_cmp nat_cmp (listing_key a) (listing_key b)
 
 -- a fleet has at most one conflict list
 abbrev pub OneConflictList : Type 0

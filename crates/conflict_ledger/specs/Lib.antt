@@ -10,4 +10,3 @@ pub mod Turns
 pub mod Laws
 pub mod RingWalk
 pub mod Finding
-pub mod Listing

@@ -18,8 +18,9 @@ pub enum Kind {
 }
 
 /// An entry of the conflict list: who is in conflict, when and where. A step entry stands at the
-/// time at which its step begins.
-#[derive(Debug, Drop, PartialEq)]
+/// time at which its step begins. Entries compare by kind, then by their fields in turn, which is
+/// the order in which they are listed.
+#[derive(Clone, Debug, Drop, PartialEq, Eq, PartialOrd, Ord)]
 pub enum Conflict {
     /// Two agents are in one cell, and one of them still moves or is to leave.
     Vertex {

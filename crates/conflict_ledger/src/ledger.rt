@@ -4,12 +4,12 @@ ghost use Rattle.where_index.specs.Index.{StandsFor, with_route};
 ghost use Rattle.conflict_ledger.specs.Change.{SameBut};
 ghost use Rattle.conflict_ledger.specs.ConflictList.{AreConflicts};
 ghost use Rattle.conflict_ledger.specs.Cycles.{IsRingAt};
-ghost use Rattle.conflict_ledger.specs.Kept.{HasEntries, many_kept};
+ghost use Rattle.conflict_ledger.specs.Kept.{HasEntries, many_of};
 ghost use Rattle.conflict_ledger.specs.Sight.{Shows};
 
 use crate::entries::{Conflict, Kind, Ring};
 use crate::gather::gather;
-use crate::kept::{KeptEntries, lose_all, put_all};
+use crate::kept::KeptEntries;
 use crate::movers::Whole;
 use crate::rings::ring_out_of;
 use crate::sight::Sight;
@@ -20,8 +20,7 @@ use std::alloc::Global;
 use std::marker::Model;
 use where_index::WhereIndex;
 
-/// The conflict entries of a fleet, kept while agents come, go and change their tracks. It stands for
-/// the fleet of an index, which each change is handed.
+/// The conflict entries of the fleet of an index, kept while agents come, go and change tracks.
 #[derive(Drop)]
 pub struct ConflictLedger {
     alloc: Global,
@@ -29,9 +28,10 @@ pub struct ConflictLedger {
 }
 
 impl Model for ConflictLedger {
-    ghost use Rattle.conflict_ledger.specs.Kept.{Kept};
+    ghost use Rattle.std.specs.Prelude.{List};
+    ghost use Rattle.conflict_ledger.specs.declared.entries.Conflict.{Conflict};
 
-    ghost Value = { Kept };
+    ghost Value = { List Conflict };
 
     ghost view = { λ l. l.kept };
 }
@@ -82,8 +82,8 @@ impl ConflictLedger {
     }
 
     /// Gives an agent that had the old track the new one, which the index has. Before, the ledger has
-    /// the entries of the same tracks with the old one; after, those of the index. The entries of the
-    /// whole path are mended, since those before `since` change too where its end does.
+    /// the entries of the same tracks with the old one; after, those of the index. All entries of the
+    /// path are mended, since those before `since` change too where its end does.
     ///
     /// # Errors
     ///
@@ -126,17 +126,17 @@ impl ConflictLedger {
     ) -> Result<Option<Ring>, OutOfMemory>
         ensures { IfOk result (λ found. (fleet : Fleet) → StandsFor index.now fleet → (ring : List ℕ) → (found ≡ Some ring) ↔ IsRingAt fleet step cell ring) }
     {
-        let time = step.number();
-        if time >= index.horizon() {
+        if step.number() >= index.horizon() {
             return Ok(None);
         }
-        let found = ring_out_of(self.alloc, &Whole { index }, time, cell)?;
+        let found = ring_out_of(self.alloc, &Whole { index }, step.number(), cell)?;
         Ok(found)
     }
 
     /// How many entries of that kind it has.
     pub fn count(&self, kind: Kind) -> u64
-        ensures { result ≡ many_kept self.now kind }
+        ensures kept { result ≡ many_of kind self.now }
+        ensures listed { (fleet : Fleet) (entries : List Conflict) → HasEntries self.now fleet → AreConflicts fleet entries → result ≡ many_of kind entries }
     {
         self.kept.count(kind)
     }
@@ -163,9 +163,9 @@ impl ConflictLedger {
         let broken = rings_left(self.alloc, &without, &with)?;
         let joined = rings_left(self.alloc, &with, &with)?;
         let entries = gather(self.alloc, &with)?;
-        lose_all(&mut self.kept, &broken);
-        put_all(self.alloc, &mut self.kept, &joined)?;
-        put_all(self.alloc, &mut self.kept, &entries)?;
+        self.kept.lose_all(&broken);
+        self.kept.put_all(joined)?;
+        self.kept.put_all(entries)?;
         Ok(self)
     }
 
@@ -191,9 +191,9 @@ impl ConflictLedger {
         let broken = rings_left(self.alloc, &without, &with)?;
         let joined = rings_left(self.alloc, &with, &with)?;
         let entries = gather(self.alloc, &with)?;
-        lose_all(&mut self.kept, &joined);
-        lose_all(&mut self.kept, &entries);
-        put_all(self.alloc, &mut self.kept, &broken)?;
+        self.kept.lose_all(&joined);
+        self.kept.lose_all(&entries);
+        self.kept.put_all(broken)?;
         Ok(self)
     }
 }

@@ -1,23 +1,23 @@
-ghost use Rattle.std.specs.Prelude.{◌≡◌, ◌⊎◌, ℕ, ◌+◌, ◌<◌, ◌≤◌, Some, None, IfOk, OnOk, IfSome, List, slice_index, Contains};
+ghost use Rattle.std.specs.Prelude.{◌⊎◌, ℕ, ◌≤◌, IfOk, OnOk, Contains};
 ghost use Rattle.plan_table.specs.Order.{ListsAll};
 ghost use Rattle.plan_table.specs.Route.{last_of, tracks_of};
-ghost use Rattle.conflict_ledger.specs.Cycles.{IsRing};
 ghost use Rattle.conflict_ledger.specs.ConflictList.{Stands, AreConflicts, listing_key};
 ghost use Rattle.conflict_ledger.specs.Naming.{IsOfPair, IsOfTwo};
 ghost use Rattle.conflict_ledger.specs.declared.entries.Conflict.{Conflict};
-ghost use Rattle.conflict_ledger.specs.Finding.{AreFound, KeepsAll, HasPair, HasRing};
+ghost use Rattle.conflict_ledger.specs.Finding.{AllStand, KeepsAll, HasPair};
 
+use crate::cycles::add_cycles;
 use crate::entries::Conflict;
+use crate::gather::offer;
 use crate::pairs::{edge, following, last, parked, swapping, vertex};
-use crate::rings::{Table, agent_of, destination, ring_from};
-use crate::sorted::add_found;
-use grid_cells::{Agent, List, OutOfMemory, Step};
+use crate::rings::agent_of;
+use crate::sorting::sorted;
+use grid_cells::{Agent, List, OutOfMemory};
 use plan_table::{MOST_LAST_INDEX, Mode, Plans};
 use std::alloc::Global;
 
 // Adds the entries of that time and those two agents, in this order.
 fn add_pair(
-    alloc: Global,
     entries: &mut Vec<Conflict>,
     plans: &Plans,
     mode: Mode,
@@ -26,17 +26,17 @@ fn add_pair(
     second: Agent,
 ) -> Result<(), OutOfMemory>
     requires time { time ≤ MOST_LAST_INDEX }
-    requires found { AreFound (tracks_of mode plans.now.rows) entries.old.items }
-    ensures found { OnOk result (AreFound (tracks_of mode plans.now.rows) entries.new.items) }
+    requires found { AllStand (tracks_of mode plans.now.rows) entries.old.items }
+    ensures found { OnOk result (AllStand (tracks_of mode plans.now.rows) entries.new.items) }
     ensures keeps { OnOk result (KeepsAll entries.old.items entries.new.items) }
     ensures has { OnOk result (HasPair (tracks_of mode plans.now.rows) time first second entries.new.items) }
     ensures only { OnOk result ((entry : Conflict) → Contains entries.new.items entry → Contains entries.old.items entry ⊎ IsOfPair entry time first second) }
 {
-    add_found(alloc, entries, vertex(plans, mode, time, first, second))?;
-    add_found(alloc, entries, parked(plans, mode, time, first, second))?;
-    add_found(alloc, entries, edge(plans, mode, time, first, second))?;
-    add_found(alloc, entries, following(plans, mode, time, first, second))?;
-    add_found(alloc, entries, swapping(plans, mode, time, first, second))?;
+    offer(entries, vertex(plans, mode, time, first, second))?;
+    offer(entries, parked(plans, mode, time, first, second))?;
+    offer(entries, edge(plans, mode, time, first, second))?;
+    offer(entries, following(plans, mode, time, first, second))?;
+    offer(entries, swapping(plans, mode, time, first, second))?;
     Ok(())
 }
 
@@ -54,8 +54,8 @@ pub fn entries_of_pair(
     ensures { IfOk result (ListsAll listing_key (λ entry. Stands (tracks_of mode plans.now.rows) entry × IsOfPair entry time first second)) }
 {
     let mut entries = Vec::new(alloc);
-    add_pair(alloc, &mut entries, plans, mode, time, first, second)?;
-    Ok(List::new(entries))
+    add_pair(&mut entries, plans, mode, time, first, second)?;
+    Ok(sorted(entries))
 }
 
 /// The entries of that time and those two agents, in either order, in the order in which entries
@@ -72,14 +72,13 @@ pub fn entries_of_two(
     ensures { IfOk result (ListsAll listing_key (λ entry. Stands (tracks_of mode plans.now.rows) entry × IsOfTwo entry time first second)) }
 {
     let mut entries = Vec::new(alloc);
-    add_pair(alloc, &mut entries, plans, mode, time, first, second)?;
-    add_pair(alloc, &mut entries, plans, mode, time, second, first)?;
-    Ok(List::new(entries))
+    add_pair(&mut entries, plans, mode, time, first, second)?;
+    add_pair(&mut entries, plans, mode, time, second, first)?;
+    Ok(sorted(entries))
 }
 
 // Adds the entries of that time whose first agent is that one.
 fn add_agent(
-    alloc: Global,
     entries: &mut Vec<Conflict>,
     plans: &Plans,
     mode: Mode,
@@ -87,35 +86,34 @@ fn add_agent(
     first: Agent,
 ) -> Result<(), OutOfMemory>
     requires time { time ≤ MOST_LAST_INDEX }
-    requires found { AreFound (tracks_of mode plans.now.rows) entries.old.items }
-    ensures found { OnOk result (AreFound (tracks_of mode plans.now.rows) entries.new.items) }
+    requires found { AllStand (tracks_of mode plans.now.rows) entries.old.items }
+    ensures found { OnOk result (AllStand (tracks_of mode plans.now.rows) entries.new.items) }
     ensures keeps { OnOk result (KeepsAll entries.old.items entries.new.items) }
     ensures has { OnOk result ((second : ℕ) → HasPair (tracks_of mode plans.now.rows) time first second entries.new.items) }
 {
     for rank in 0..plans.count() {
         let second = agent_of(plans, rank);
-        add_pair(alloc, entries, plans, mode, time, first, second)?;
+        add_pair(entries, plans, mode, time, first, second)?;
     }
     Ok(())
 }
 
 // Adds the entries of that time.
 fn add_time(
-    alloc: Global,
     entries: &mut Vec<Conflict>,
     plans: &Plans,
     mode: Mode,
     time: u32,
 ) -> Result<(), OutOfMemory>
     requires time { time ≤ MOST_LAST_INDEX }
-    requires found { AreFound (tracks_of mode plans.now.rows) entries.old.items }
-    ensures found { OnOk result (AreFound (tracks_of mode plans.now.rows) entries.new.items) }
+    requires found { AllStand (tracks_of mode plans.now.rows) entries.old.items }
+    ensures found { OnOk result (AllStand (tracks_of mode plans.now.rows) entries.new.items) }
     ensures keeps { OnOk result (KeepsAll entries.old.items entries.new.items) }
     ensures has { OnOk result ((first second : ℕ) → HasPair (tracks_of mode plans.now.rows) time first second entries.new.items) }
 {
     for rank in 0..plans.count() {
         let first = agent_of(plans, rank);
-        add_agent(alloc, entries, plans, mode, time, first)?;
+        add_agent(entries, plans, mode, time, first)?;
     }
     Ok(())
 }
@@ -132,71 +130,6 @@ fn horizon(plans: &Plans, mode: Mode) -> u32
     most
 }
 
-// The cycle of that time whose least agent is that one.
-fn cycle(
-    alloc: Global,
-    plans: &Plans,
-    mode: Mode,
-    time: u32,
-    first: Agent,
-) -> Result<Option<Conflict>, OutOfMemory>
-    requires { time ≤ MOST_LAST_INDEX }
-    ensures stands { IfOk result (λ found. IfSome found (Stands (tracks_of mode plans.now.rows))) }
-    ensures found { IfOk result (λ found. (ring : List ℕ) → IsRing (tracks_of mode plans.now.rows) time ring → slice_index ring 0 ≡ first → found ≡ Some (Conflict.Cycle time ring)) }
-{
-    let Some(to) = destination(plans, mode, time, first) else {
-        return Ok(None);
-    };
-    match ring_from(alloc, &Table { plans, mode }, time, first, to)? {
-        Some(ring) => Ok(Some(Conflict::Cycle {
-            time: Step::new(time),
-            ring,
-        })),
-        None => Ok(None),
-    }
-}
-
-// Adds the cycle of that time whose least agent is that one.
-fn add_cycle(
-    alloc: Global,
-    entries: &mut Vec<Conflict>,
-    plans: &Plans,
-    mode: Mode,
-    time: u32,
-    first: Agent,
-) -> Result<(), OutOfMemory>
-    requires time { time ≤ MOST_LAST_INDEX }
-    requires found { AreFound (tracks_of mode plans.now.rows) entries.old.items }
-    ensures found { OnOk result (AreFound (tracks_of mode plans.now.rows) entries.new.items) }
-    ensures keeps { OnOk result (KeepsAll entries.old.items entries.new.items) }
-    ensures has { OnOk result (HasRing (tracks_of mode plans.now.rows) time first entries.new.items) }
-{
-    let found = cycle(alloc, plans, mode, time, first)?;
-    add_found(alloc, entries, found)?;
-    Ok(())
-}
-
-// Adds the cycles of that time.
-fn add_cycles(
-    alloc: Global,
-    entries: &mut Vec<Conflict>,
-    plans: &Plans,
-    mode: Mode,
-    time: u32,
-) -> Result<(), OutOfMemory>
-    requires time { time ≤ MOST_LAST_INDEX }
-    requires found { AreFound (tracks_of mode plans.now.rows) entries.old.items }
-    ensures found { OnOk result (AreFound (tracks_of mode plans.now.rows) entries.new.items) }
-    ensures keeps { OnOk result (KeepsAll entries.old.items entries.new.items) }
-    ensures has { OnOk result ((first : ℕ) → HasRing (tracks_of mode plans.now.rows) time first entries.new.items) }
-{
-    for rank in 0..plans.count() {
-        let first = agent_of(plans, rank);
-        add_cycle(alloc, entries, plans, mode, time, first)?;
-    }
-    Ok(())
-}
-
 /// The conflict list of the plans (Stern et al. 2019, in this project's profile), found by going
 /// over all times and all pairs of agents.
 pub fn conflicts(alloc: Global, plans: &Plans, mode: Mode) -> Result<List<Conflict>, OutOfMemory>
@@ -204,8 +137,8 @@ pub fn conflicts(alloc: Global, plans: &Plans, mode: Mode) -> Result<List<Confli
 {
     let mut entries = Vec::new(alloc);
     for time in 0..horizon(plans, mode) + 1 {
-        add_time(alloc, &mut entries, plans, mode, time)?;
+        add_time(&mut entries, plans, mode, time)?;
         add_cycles(alloc, &mut entries, plans, mode, time)?;
     }
-    Ok(List::new(entries))
+    Ok(sorted(entries))
 }

@@ -39,7 +39,10 @@ returns c =
     let early = ring_early (tracks_of c.args.mode c.args.plans.now.rows) c.horizon-time-end.result time ring c.horizon-time-end.ensures.above is in
     c.loop-time.invariant.rings time first (omega arith) ring is starts
     in
-    rw c.new.ensures (record {
-      ascending = c.loop-time.invariant.found.listed;
-      exact = λ entry. (c.loop-time.invariant.found.each entry, has_each (tracks_of c.args.mode c.args.plans.now.rows) c.loop-time.entries.items pairs rings entry);
-    })
+    record {
+      ascending = c.sorted.ensures.ascending;
+      exact = λ entry. (
+        λ h. c.loop-time.invariant.found entry ((c.sorted.ensures.exact entry).0 h),
+        λ stands. (c.sorted.ensures.exact entry).1 (has_each (tracks_of c.args.mode c.args.plans.now.rows) c.loop-time.entries.items pairs rings entry stands),
+      );
+    }

@@ -1,10 +1,15 @@
-use Rattle.std.proofs.Common.{sym, subst}
-use Rattle.std.proofs.lemmas.Result.{IfOk-weaker}
-use Rattle.conflict_ledger.specs.Kept.{Kept, HasEntries}
+use Rattle.std.proofs.Common.{◌≡◌, List, Ok, Err}
+use Rattle.std.specs.Prelude.{Result, IfOk}
+use Rattle.grid_cells.specs.declared.memory.OutOfMemory.{OutOfMemory}
+use Rattle.plan_table.specs.Route.{Fleet}
+use Rattle.conflict_ledger.specs.Kept.{IsListed, HasEntries}
 use Rattle.conflict_ledger.specs.ConflictList.{AreConflicts}
-use Rattle.conflict_ledger.proofs.KeptList.{entries_are_conflicts}
+use Rattle.conflict_ledger.specs.declared.entries.Conflict.{Conflict}
 use Rattle.conflict_ledger.proofs.ledger.ConflictLedger.listed.Goals as goal
 
+told : (kept : List Conflict) (r : Result (List Conflict) OutOfMemory) → IfOk r (λ entries. entries ≡ kept) → IfOk r IsListed → IfOk r (λ entries. (fleet : Fleet) → HasEntries kept fleet → AreConflicts fleet entries)
+told kept (Ok entries) is listed = λ fleet has. record { ascending = listed; exact = rw is has }
+told kept (Err refused) is listed = tt
+
 pub returns : goal.returns
-returns c = IfOk-weaker c.listed.result _ _ (λ entries is fleet has.
-    subst (AreConflicts fleet) (sym is.0) (entries_are_conflicts c.self.inside.kept is.1 fleet (subst (λ (k : Kept). HasEntries k fleet) (sym c.self.view_is) has))) c.listed.ensures
+returns c = rw (← c.self.view_is) (told c.self.inside.kept c.listed.result c.listed.ensures.all c.listed.ensures.ascending)

@@ -1,0 +1,15 @@
+use Rattle.std.proofs.Common.{append_assoc, append-nil}
+use Rattle.conflict_ledger.proofs.Orders.{entries_ascend}
+use Rattle.conflict_ledger.proofs.Copies.{clone_is}
+use Rattle.conflict_ledger.proofs.kept.KeptEntries.listed.Goals as goal
+
+pub returns-clause-ascending : goal.returns-clause-ascending
+returns-clause-ascending c =
+    let none = c.in-None.ensures.steps in
+    let all = rw (none.0, append-nil) at c.loop-entry.invariant in
+    rw (c.new.ensures, all, ← c.self.view_is) (entries_ascend c.self.inside.entries.keys c.iter-entry-items.ensures.ordered)
+
+pub loop-entry-preserved : goal.loop-entry-preserved
+loop-entry-preserved c =
+    let same = clone_is _ _ c.in_ok-clone.ensures.cases in
+    rw (c.in_ok-push.ensures.items, same, append_assoc, ← c.in-Some.ensures.steps) c.loop-entry.invariant

@@ -1,6 +1,0 @@
-use Rattle.std.proofs.Common.{◌≡◌, ◌++◌, map}
-use Rattle.conflict_ledger.specs.Listing.{swap_of}
-use Rattle.conflict_ledger.proofs.listing.list_swaps.Given as goal
-
-abbrev pub invariant-loop-passage : goal.invariant-loop-passage
-invariant-loop-passage l = l.entries.items ++ map swap_of l.passage-iterator ≡ l.initial.entries.items ++ map swap_of l.passages.keys

@@ -1,0 +1,78 @@
+ghost use Rattle.std.specs.Prelude.{◌≡◌, ℕ, ◌≤◌, Some, IfOk, OnOk, IfSome, List, slice_index};
+ghost use Rattle.plan_table.specs.Route.{tracks_of};
+ghost use Rattle.conflict_ledger.specs.Cycles.{IsRing};
+ghost use Rattle.conflict_ledger.specs.ConflictList.{Stands};
+ghost use Rattle.conflict_ledger.specs.declared.entries.Conflict.{Conflict};
+ghost use Rattle.conflict_ledger.specs.Finding.{AllStand, KeepsAll, HasRing};
+
+use crate::entries::Conflict;
+use crate::gather::offer;
+use crate::rings::{Table, agent_of, destination, ring_from};
+use grid_cells::{Agent, OutOfMemory, Step};
+use plan_table::{MOST_LAST_INDEX, Mode, Plans};
+use std::alloc::Global;
+
+// The cycle of that time whose least agent is that one.
+fn cycle(
+    alloc: Global,
+    plans: &Plans,
+    mode: Mode,
+    time: u32,
+    first: Agent,
+) -> Result<Option<Conflict>, OutOfMemory>
+    requires { time ≤ MOST_LAST_INDEX }
+    ensures stands { IfOk result (λ found. IfSome found (Stands (tracks_of mode plans.now.rows))) }
+    ensures found { IfOk result (λ found. (ring : List ℕ) → IsRing (tracks_of mode plans.now.rows) time ring → slice_index ring 0 ≡ first → found ≡ Some (Conflict.Cycle time ring)) }
+{
+    let Some(to) = destination(plans, mode, time, first) else {
+        return Ok(None);
+    };
+    match ring_from(alloc, &Table { plans, mode }, time, first, to)? {
+        Some(ring) => Ok(Some(Conflict::Cycle {
+            time: Step::new(time),
+            ring,
+        })),
+        None => Ok(None),
+    }
+}
+
+// Adds the cycle of that time whose least agent is that one.
+fn add_cycle(
+    alloc: Global,
+    entries: &mut Vec<Conflict>,
+    plans: &Plans,
+    mode: Mode,
+    time: u32,
+    first: Agent,
+) -> Result<(), OutOfMemory>
+    requires time { time ≤ MOST_LAST_INDEX }
+    requires found { AllStand (tracks_of mode plans.now.rows) entries.old.items }
+    ensures found { OnOk result (AllStand (tracks_of mode plans.now.rows) entries.new.items) }
+    ensures keeps { OnOk result (KeepsAll entries.old.items entries.new.items) }
+    ensures has { OnOk result (HasRing (tracks_of mode plans.now.rows) time first entries.new.items) }
+{
+    let found = cycle(alloc, plans, mode, time, first)?;
+    offer(entries, found)?;
+    Ok(())
+}
+
+// Adds the cycles of that time.
+pub(crate) fn add_cycles(
+    alloc: Global,
+    entries: &mut Vec<Conflict>,
+    plans: &Plans,
+    mode: Mode,
+    time: u32,
+) -> Result<(), OutOfMemory>
+    requires time { time ≤ MOST_LAST_INDEX }
+    requires found { AllStand (tracks_of mode plans.now.rows) entries.old.items }
+    ensures found { OnOk result (AllStand (tracks_of mode plans.now.rows) entries.new.items) }
+    ensures keeps { OnOk result (KeepsAll entries.old.items entries.new.items) }
+    ensures has { OnOk result ((first : ℕ) → HasRing (tracks_of mode plans.now.rows) time first entries.new.items) }
+{
+    for rank in 0..plans.count() {
+        let first = agent_of(plans, rank);
+        add_cycle(alloc, entries, plans, mode, time, first)?;
+    }
+    Ok(())
+}
