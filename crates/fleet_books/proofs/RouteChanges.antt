@@ -1,9 +1,10 @@
 -- Fleets of which one route is given and taken back, and their books.
-use Rattle.std.proofs.Common.{◌≡◌, ℕ, Bool, true, false, eqb, cond, Option, refl, sym, ap, subst, ◌∙◌}
+use Rattle.std.proofs.Common.{◌≡◌, ℕ, List, Bool, true, false, eqb, cond, Option, refl, sym, ap, subst, ◌∙◌}
 use Rattle.std.proofs.lemmas.Bool.{eqb-true, eq-eqb}
 use Rattle.plan_table.specs.Route.{Route, Fleet}
 use Rattle.where_index.specs.Index.{with_route}
-use Rattle.conflict_ledger.specs.Kept.{Kept, HasEntries}
+use Rattle.conflict_ledger.specs.Kept.{HasEntries}
+use Rattle.conflict_ledger.specs.declared.entries.Conflict.{Conflict}
 use Rattle.fleet_books.specs.Fleet.{FleetState, AreOf}
 use Rattle.fleet_books.specs.Laws.{RoutesFixBooks}
 
@@ -35,7 +36,7 @@ with_same fleet agent route is = same_fleet _ fleet (λ a. at a (eqb a agent) re
     at a false e = refl
 
 -- the entries of a fleet are those of the same fleet after a route was given and taken back
-pub entries_back : (kept : Kept) (fleet : Fleet) (agent : ℕ) (route was : Option Route) → fleet agent ≡ was → HasEntries kept fleet → HasEntries kept (with_route (with_route fleet agent route) agent was)
+pub entries_back : (kept : List Conflict) (fleet : Fleet) (agent : ℕ) (route was : Option Route) → fleet agent ≡ was → HasEntries kept fleet → HasEntries kept (with_route (with_route fleet agent route) agent was)
 entries_back kept fleet agent route was is has = subst (λ (f : Fleet). HasEntries kept f) (sym (with_back fleet agent route was is)) has
 
 -- books of a fleet are those of the fleet with the route that an agent has
