@@ -1,5 +1,5 @@
 -- What a search for conflicts has found: words for the plain program's own steps (this project's choice).
-use Rattle.std.specs.Prelude.{◌≡◌, ℕ, List, Contains, slice_index}
+use Rattle.std.specs.Prelude.{◌≡◌, ℕ, List, Contains, slice_index, Option, Some}
 use Rattle.conflict_ledger.specs.Cycles.{IsRing}
 use Rattle.conflict_ledger.specs.ConflictList.{Stands}
 use Rattle.conflict_ledger.specs.Naming.{IsOfPair}
@@ -22,3 +22,7 @@ HasPair fleet time first second entries = (entry : Conflict) → Stands fleet en
 -- each ring of that time and that least agent is there
 abbrev pub HasRing : Fleet → ℕ → ℕ → List Conflict → Type 0
 HasRing fleet time first entries = (ring : List ℕ) → IsRing fleet time ring → slice_index ring 0 ≡ first → Contains entries (Cycle time ring)
+
+-- the ring of that time and that least agent, if there is one, is what was found
+abbrev pub FindsRing : Fleet → ℕ → ℕ → Option Conflict → Type 0
+FindsRing fleet time first found = (ring : List ℕ) → IsRing fleet time ring → slice_index ring 0 ≡ first → found ≡ Some (Cycle time ring)

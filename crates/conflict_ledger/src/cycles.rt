@@ -1,9 +1,7 @@
-ghost use Rattle.std.specs.Prelude.{◌≡◌, ℕ, ◌≤◌, Some, IfOk, OnOk, IfSome, List, slice_index};
+ghost use Rattle.std.specs.Prelude.{ℕ, ◌≤◌, IfOk, OnOk, IfSome};
 ghost use Rattle.plan_table.specs.Route.{tracks_of};
-ghost use Rattle.conflict_ledger.specs.Cycles.{IsRing};
 ghost use Rattle.conflict_ledger.specs.ConflictList.{Stands};
-ghost use Rattle.conflict_ledger.specs.declared.entries.Conflict.{Conflict};
-ghost use Rattle.conflict_ledger.specs.Finding.{AllStand, KeepsAll, HasRing};
+ghost use Rattle.conflict_ledger.specs.Finding.{AllStand, KeepsAll, HasRing, FindsRing};
 
 use crate::entries::Conflict;
 use crate::gather::offer;
@@ -22,7 +20,7 @@ fn cycle(
 ) -> Result<Option<Conflict>, OutOfMemory>
     requires { time ≤ MOST_LAST_INDEX }
     ensures stands { IfOk result (λ found. IfSome found (Stands (tracks_of mode plans.now.rows))) }
-    ensures found { IfOk result (λ found. (ring : List ℕ) → IsRing (tracks_of mode plans.now.rows) time ring → slice_index ring 0 ≡ first → found ≡ Some (Conflict.Cycle time ring)) }
+    ensures found { IfOk result (FindsRing (tracks_of mode plans.now.rows) time first) }
 {
     let Some(to) = destination(plans, mode, time, first) else {
         return Ok(None);
