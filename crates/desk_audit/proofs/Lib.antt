@@ -4,7 +4,6 @@ pub mod Paths
 pub mod Soles
 pub mod Near
 pub mod Finding
-pub mod Listing
 pub mod Merging
 pub mod Bounding
 pub mod Tiles

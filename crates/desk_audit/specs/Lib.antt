@@ -2,4 +2,3 @@ pub mod Filing
 pub mod Index
 pub mod Parts
 pub mod Seeking
-pub mod Sorting

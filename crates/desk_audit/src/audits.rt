@@ -8,8 +8,8 @@ use crate::faults::AuditFault;
 use crate::gates::Gate;
 use crate::parts::Part;
 use crate::sightings::Sightings;
-use crate::sorting::sorted;
 use crate::threads::in_scope;
+use conflict_ledger::sorted;
 use desk_report::{Report, with_totals};
 use grid_cells::{List, OutOfMemory};
 use scene_edits::Scene;
@@ -33,7 +33,7 @@ fn report_of(alloc: Global, scene: &Scene, whole: Part) -> Result<Report, OutOfM
         visits,
         lines,
     } = whole;
-    let conflicts = List::new(sorted(alloc, conflicts)?);
+    let conflicts = sorted(conflicts);
     let report = with_totals(alloc, plans, conflicts, List::new(visits), List::new(lines))?;
     Ok(report)
 }

@@ -9,7 +9,6 @@ mod lines;
 mod movers;
 mod parts;
 mod sightings;
-mod sorting;
 mod tables;
 mod threads;
 mod visits;

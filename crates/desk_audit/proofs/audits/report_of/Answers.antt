@@ -28,7 +28,7 @@ returns c =
     let report = c.in_ok-report.report in
     let lines : report.lines ≡ c.args.whole.lines.items = made.lines ∙ c.new-2.ensures in
     record {
-      conflicts = subst (AreConflicts (tracks_of scene.mode scene.rows)) (sym (made.conflicts ∙ c.new-conflicts.ensures)) (all_entries scene.mode scene.rows c.args.whole.conflicts.items _ c.requires.entries c.in_ok-sorted.ensures);
+      conflicts = subst (AreConflicts (tracks_of scene.mode scene.rows)) (sym made.conflicts) (all_entries scene.mode scene.rows c.args.whole.conflicts.items _ c.requires.entries c.sorted-conflicts.ensures);
       visits = subst (AreVisits scene.grid scene.rows) (sym (made.visits ∙ c.new.ensures)) (all_visits scene.grid scene.rows c.args.whole.visits.items c.requires.visits);
       lines = subst (AreLines scene.grid scene.rows) (sym lines) (subst (λ (r : List (ℕ × Row)). AreLines scene.grid r c.args.whole.lines.items) (range_all scene.rows) c.requires.lines);
       sum = subst (λ (r : List (ℕ × Row)). IsSumOfCosts r report.sum) c.plans-plans.ensures.rows made.sum;
