@@ -56,34 +56,29 @@ WRONG_PROGRAMS = [
 ]
 
 
-def crates_below(program):
-    """The repository's lines of the program and of the libraries below it, by their crates."""
-    loader = importlib.machinery.SourceFileLoader("prove", f"{TOP}/tools/prove")
-    prove = importlib.util.module_from_spec(importlib.util.spec_from_loader("prove", loader))
+def loaded(path):
+    """The script at the path, as a module."""
+    loader = importlib.machinery.SourceFileLoader(os.path.basename(path), path)
+    made = importlib.util.module_from_spec(importlib.util.spec_from_loader(loader.name, loader))
     sys.dont_write_bytecode = True
-    loader.exec_module(prove)
-    return prove.crates_below(program)[1]
+    loader.exec_module(made)
+    return made
 
 
-def link(source, to):
-    """The same file under another name, or a copy of it on another disk."""
-    try:
-        os.link(source, to)
-    except OSError:
-        shutil.copy2(source, to)
+PROVE = loaded(f"{TOP}/tools/prove")
 
 
 class Room:
     """A copy of a program and the libraries below it; what was proved of them before comes along where it is wanted."""
 
     def __init__(self, program, planted, proved):
-        self.lines, self.planted = crates_below(program), planted
+        self.lines, self.planted = PROVE.crates_below(program)[1], planted
         self.folder = tempfile.TemporaryDirectory(prefix="desk-")
         self.top = self.folder.name
         for name in self.lines:
             changes = name in (program, planted)
             skip = shutil.ignore_patterns("must-fail", *[] if proved else ["out"], *[] if changes else ["incremental"])
-            copy = shutil.copy2 if changes else link
+            copy = shutil.copy2 if changes else PROVE.link
             shutil.copytree(f"{TOP}/crates/{name}", f"{self.top}/crates/{name}", ignore=skip, copy_function=copy)
         shutil.copy2(f"{TOP}/HANDLES", self.top)
         with open(f"{self.top}/crates.txt", "w") as file:
