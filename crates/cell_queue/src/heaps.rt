@@ -157,6 +157,16 @@ impl Heap {
         }
     }
 
+    // Whether the cell is in.
+    pub fn has(&self, cell: Cell) -> bool
+        requires heap { IsHeap self.now }
+        requires held { Holds self.now.size cell }
+        ensures { result ≡ is_some (key_at (queue_of self.now) cell) }
+    {
+        let place = self.places[self.size.index(cell)] as usize;
+        place < self.len
+    }
+
     // Takes out what stands at a place.
     fn remove_at(&mut self, place: usize)
         requires heap { IsHeap self.old }

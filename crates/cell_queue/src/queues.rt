@@ -50,6 +50,13 @@ impl CellQueue {
         self.heap.put(cell, key);
     }
 
+    /// Whether the cell is in.
+    pub fn has(&self, cell: Cell) -> bool
+        ensures { IsTrue result ↔ HasCell self.now cell }
+    {
+        self.heap.size.holds(cell) && self.heap.has(cell)
+    }
+
     /// Takes the cell out without counting it, and tells whether it was in.
     pub fn remove(&mut self, cell: Cell) -> bool
         ensures found { IsTrue result ↔ HasCell self.old cell }

@@ -1,21 +1,22 @@
 -- What a queue has counted is the change count.
 use Rattle.std.specs.Prelude.{Bool, true, false, cond, ◌==◌, nat_lt, if◌then◌else◌, slice_index, slice_index_or, count_by}
 use Rattle.std.specs.List.{zip}
-use Rattle.std.proofs.Common.{◌≡◌, ℕ, suc, ◌+◌, ◌<◌, ◌≤◌, ◌⊎◌, List, [], ◌∷◌, length, map, None, refl, sym, subst, ◌∙◌, inl, inr, arith}
+use Rattle.std.proofs.Common.{◌≡◌, ℕ, suc, ◌+◌, ◌<◌, ◌≤◌, ◌⊎◌, List, [], ◌∷◌, length, map, get_or, Option, Some, None, refl, sym, ap, subst, ◌∙◌, inl, inr, arith}
 use Rattle.std.proofs.Math.ListN.{length-map}
 use Rattle.std.proofs.lemmas.Bool.{cases_lt}
-use Rattle.std.proofs.lemmas.List.{get_or-map}
+use Rattle.std.proofs.lemmas.List.{get_or-map, get_or_read}
 use Rattle.std.proofs.lemmas.List.Sums.{sum_by-cons}
 use Rattle.grid_cells.specs.Cell.{Point}
-use Rattle.grid_cells.specs.Size.{Holds}
-use Rattle.grid_cells.specs.Grid.{flag_index}
+use Rattle.grid_cells.specs.Size.{Extent, Holds}
+use Rattle.grid_cells.specs.Grid.{Chart, flag_index}
 use Rattle.grid_cells.specs.Walks.{IsDistance}
 use Rattle.cell_queue.proofs.Indexes.{index_below}
-use Rattle.goal_fields.specs.declared.lifelong.Lifelong.{Lifelong}
-use Rattle.goal_fields.specs.Marks.{far, distance_of}
-use Rattle.goal_fields.specs.Changes.{grew, came, change_count, AreDistances, IsChangeCount}
-use Rattle.goal_fields.specs.Repair.{IsRhs, change}
-use Rattle.goal_fields.specs.Lifelong.{g_of, count_over, IsSettled}
+use Rattle.goal_fields.specs.Marks.{far, distance_of, mark_at}
+use Rattle.goal_fields.specs.Target.{HaveCounted}
+use Rattle.goal_fields.specs.Rest.{IsAtRest}
+use Rattle.goal_fields.specs.Changes.{grew, came, change_count, AreDistances, IsChangeCount, IsRepaired}
+use Rattle.goal_fields.specs.Repair.{change}
+use Rattle.goal_fields.specs.Lifelong.{count_over}
 use Rattle.goal_fields.proofs.Neighbours.{cell_at}
 use Rattle.goal_fields.proofs.TakeLemmas.{count_over-le}
 use Rattle.goal_fields.proofs.RepairEnds.{far_no, far_yes, IsDistance-consistent}
@@ -54,38 +55,68 @@ count_over-is (x ∷ d) (y ∷ g) long hd hg =
     omega arith
 
 -- no g is above the number that is none
-pub g-le : (s : Lifelong) → IsSettled s → (i : ℕ) → i < length s.g.items → slice_index s.g.items i ≤ far
-g-le s settled i h =
-    (let (c, held, at) = cell_at s.grid.size (omega (arith, settled.roomy.sized.wide)) i (omega (arith, settled.roomy.one_g_each)) in
-    subst (λ (n : ℕ). slice_index s.g.items n ≤ far) at (settled.consistent c held).bounded)
+pub g-le : (grid : Chart) (size : Extent) (goal : Point) (g : List ℕ) → IsAtRest grid size goal g → (i : ℕ) → i < length g → slice_index g i ≤ far
+g-le grid size goal g rest i h =
+    (let (c, held, at) = cell_at grid.size (omega (arith, rest.sized.wide)) i (omega (arith, rest.one_g_each)) in
+    subst (λ (n : ℕ). slice_index g n ≤ far) at (rest.consistent c held).bounded)
 
 -- between two repairs g is the distance
-pub IsDistance-settled : (s : Lifelong) → IsSettled s → (c : Point) → Holds s.grid.size c → IsDistance s.grid c s.goal (distance_of (g_of s c))
-IsDistance-settled s settled =
-    IsDistance-consistent s.grid s.goal s.g.items settled.roomy.one_g_each settled.roomy.sized.cells_most settled.consistent
+pub IsDistance-at_rest : (grid : Chart) (size : Extent) (goal : Point) (g : List ℕ) → IsAtRest grid size goal g → (c : Point) → Holds grid.size c → IsDistance grid c goal (distance_of (mark_at grid.size g c))
+IsDistance-at_rest grid size goal g rest = IsDistance-consistent grid goal g rest.one_g_each rest.sized.cells_most rest.consistent
 
-pub AreDistances-settled : (s : Lifelong) → IsSettled s → AreDistances s.grid s.goal (map distance_of s.g.items)
-AreDistances-settled s settled =
+-- a number that was read is the cell's
+module _ (grid : Chart) (size : Extent) (goal : Point) (g : List ℕ) (rest : IsAtRest grid size goal g) (c : Point) (held : Holds grid.size c) (i m : ℕ) (is : i ≡ flag_index size c) (read : m ≡ get_or g i m) where
+  its_mark : m ≡ mark_at grid.size g c
+  its_mark =
+      let number : i ≡ flag_index grid.size c = is ∙ ap (λ (z : Extent). flag_index z c) rest.is in
+      subst (λ (n : ℕ). m ≡ slice_index g n) number (get_or_read g i m (omega (arith, number, index_below grid.size c held, rest.one_g_each)) read 0)
+
+  its_distance : (d : Option ℕ) → distance_of m ≡ d → IsDistance grid c goal d
+  its_distance d e = subst (λ (v : Option ℕ). IsDistance grid c goal v) (ap distance_of (sym its_mark) ∙ e) (IsDistance-at_rest grid size goal g rest c held)
+
+  pub distance_none : m ≡ far → IsDistance grid c goal None
+  distance_none e = its_distance None (rw (far_yes m (omega (arith, e)) (omega (arith, e))) refl)
+
+  pub distance_some : (m ≡ far → ⊥) → IsDistance grid c goal (Some m)
+  distance_some ne =
+      let below : m < far = omega (arith, its_mark, (rest.consistent c held).bounded, ne) in
+      its_distance (Some m) (rw (far_no m below) refl)
+
+pub AreDistances-at_rest : (grid : Chart) (size : Extent) (goal : Point) (g : List ℕ) → IsAtRest grid size goal g → AreDistances grid goal (map distance_of g)
+AreDistances-at_rest grid size goal g rest =
     record {
-      one_each = rw length-map settled.roomy.one_g_each;
+      one_each = rw length-map rest.one_g_each;
       right = λ c h.
-          (let inside : flag_index s.grid.size c < length s.g.items = omega (arith, index_below s.grid.size c h, settled.roomy.one_g_each) in
-          let read : slice_index_or (map distance_of s.g.items) (flag_index s.grid.size c) None ≡ distance_of (g_of s c) = get_or-map distance_of s.g.items (flag_index s.grid.size c) 0 None inside in
-          rw read (IsDistance-settled s settled c h));
+          (let inside : flag_index grid.size c < length g = omega (arith, index_below grid.size c h, rest.one_g_each) in
+          let read : slice_index_or (map distance_of g) (flag_index grid.size c) None ≡ distance_of (mark_at grid.size g c) = get_or-map distance_of g (flag_index grid.size c) 0 None inside in
+          rw read (IsDistance-at_rest grid size goal g rest c h));
     }
 
--- the change count of a repair
-pub IsChangeCount-settled : (old new : Lifelong) (count : ℕ) → IsSettled old → IsSettled new → new.goal ≡ old.goal → new.grid.size ≡ old.grid.size → count ≡ count_over old.g.items new.g.items → IsChangeCount old.grid new.grid old.goal count
-IsChangeCount-settled old new count before after goal size is =
-    let long : length old.g.items ≡ length new.g.items = before.roomy.one_g_each ∙ sym (rw size at after.roomy.one_g_each) in
-    record {
-      olds = map distance_of old.g.items;
-      news = map distance_of new.g.items;
-      old_distances = AreDistances-settled old before;
-      new_distances = subst (λ (p : Point). AreDistances new.grid p (map distance_of new.g.items)) goal (AreDistances-settled new after);
-      counted = is ∙ count_over-is old.g.items new.g.items long (g-le old before) (g-le new after);
-    }
+-- the numbers before and after a repair
+module _ (old new : Chart) (old_size new_size : Extent) (goal : Point) (d g : List ℕ) (count : ℕ) (before : IsAtRest old old_size goal d) (after : IsAtRest new new_size goal g) (is : count ≡ count_over d g) where
+  -- there are at most two changes for each cell
+  pub at_rest-few : count ≤ 2097152
+  at_rest-few = omega (arith, is, count_over-le d g, before.one_g_each, before.sized.cells_most)
 
--- there are at most two changes for each cell
-pub IsSettled-few : (old new : Lifelong) (count : ℕ) → IsSettled old → count ≡ count_over old.g.items new.g.items → count ≤ 2097152
-IsSettled-few old new count before is = omega (arith, count_over-le old.g.items new.g.items, before.roomy.one_g_each, before.roomy.sized.cells_most)
+  -- their change count
+  pub IsChangeCount-at_rest : new.size ≡ old.size → IsChangeCount old new goal count
+  IsChangeCount-at_rest size =
+      let long : length d ≡ length g = before.one_g_each ∙ sym (rw size at after.one_g_each) in
+      record {
+        olds = map distance_of d;
+        news = map distance_of g;
+        old_distances = AreDistances-at_rest old old_size goal d before;
+        new_distances = AreDistances-at_rest new new_size goal g after;
+        counted = is ∙ count_over-is d g long (g-le old old_size goal d before) (g-le new new_size goal g after);
+      }
+
+  pub IsRepaired-at_rest : (map : Chart) → new ≡ map → new.size ≡ old.size → (was total taken now : ℕ) → count ≡ taken → HaveCounted count total now →
+      IsRepaired map (record { grid = old; goal = goal; taken = was; total = total }) (record { grid = new; goal = goal; taken = taken; total = now })
+  IsRepaired-at_rest map same size was total taken now counted told =
+      record {
+        stands = same;
+        goal = refl;
+        count = subst (λ (t : Chart). IsChangeCount old t goal taken) same (subst (λ (n : ℕ). IsChangeCount old new goal n) counted (IsChangeCount-at_rest size));
+        total = subst (λ (n : ℕ). HaveCounted n total now) counted told;
+        sound = record { whole = after.whole; held = after.goal_held };
+      }

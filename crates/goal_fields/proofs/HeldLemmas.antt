@@ -38,7 +38,7 @@ insert_cases xs i y k d hi hk = go (cases_lt k i) (cases_eq k i)
         inr (inr (k - 1, m, omega arith, omega (arith, length-insert xs i y hi), subst (λ (n : ℕ). get_or (insert xs i y) n d ≡ get_or xs (k - 1) d) (sym m) (get_or-insert_above xs i y d (k - 1) (omega arith) hi)))
 
 -- where a place of a list with one less stands
-remove_cases : {X : Type 0} (xs : List X) (i k : ℕ) (d : X) → i < length xs → k < length (remove xs i) →
+pub remove_cases : {X : Type 0} (xs : List X) (i k : ℕ) (d : X) → i < length xs → k < length (remove xs i) →
     ((k < i) × (get_or (remove xs i) k d ≡ get_or xs k d)) ⊎ ((i ≤ k) × (k + 1 < length xs) × (get_or (remove xs i) k d ≡ get_or xs (k + 1) d))
 remove_cases xs i k d hi hk = go (cases_lt k i)
   where

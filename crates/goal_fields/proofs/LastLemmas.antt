@@ -1,7 +1,7 @@
 -- The edits before a repair, and the state in which it begins.
-use Rattle.std.specs.Prelude.{Bool, true, false, Option, Some, None, IsTrue, ◌==◌, ◌&&◌, ◌↔◌, Contains, replicate, min}
+use Rattle.std.specs.Prelude.{Bool, true, false, Option, Some, None, IsTrue, ◌==◌, ◌&&◌, ◌↔◌, Contains, min}
 use Rattle.std.specs.List.{slice_get}
-use Rattle.std.proofs.Common.{◌≡◌, ℕ, ◌<◌, ◌≤◌, ◌⊎◌, inl, inr, List, [], ◌∷◌, ◌++◌, length, refl, sym, ap, subst, ◌∙◌, arith, get_or}
+use Rattle.std.proofs.Common.{◌≡◌, ℕ, ◌<◌, ◌≤◌, ◌⊎◌, inl, inr, List, [], ◌∷◌, length, refl, sym, ap, subst, ◌∙◌, arith, get_or}
 use Rattle.std.proofs.lemmas.List.{ext_get_or, get_or-replicate, length-replicate}
 use Rattle.std.proofs.lemmas.Option.{unwrap_or-slice_get, slice_get-get_or}
 use Rattle.std.specs.Option.{unwrap_or}
@@ -9,19 +9,20 @@ use Rattle.std.proofs.lemmas.List.Elements.{Contains-append_left, Contains-appen
 use Rattle.std.proofs.lemmas.Grind.{common_steps}
 use Rattle.std.proofs.lemmas.Bool.{cases_eq}
 use Rattle.grid_cells.specs.Cell.{Point, IsAdjacent}
-use Rattle.grid_cells.specs.Size.{Extent, Holds}
+use Rattle.grid_cells.specs.Size.{Extent, IsSize, Holds}
 use Rattle.grid_cells.specs.Grid.{Chart, IsOpen, flag_index}
-use Rattle.cell_queue.specs.Queue.{area, Queue, key_at, empty_queue, IsEmpty}
+use Rattle.cell_queue.specs.Queue.{area, Queue, empty_queue, IsEmpty}
 use Rattle.cell_queue.proofs.Indexes.{index_below}
 use Rattle.goal_fields.specs.declared.lifelong.Lifelong.{Lifelong}
 use Rattle.goal_fields.specs.declared.search.Search.{Search}
 use Rattle.goal_fields.specs.Search.{IsFound, mark_of}
 use Rattle.goal_fields.specs.Repair.{IsRhs, key_for}
 use Rattle.goal_fields.proofs.RepairEnds.{IsRhs-distance}
-use Rattle.goal_fields.specs.Marks.{far, mark_at}
+use Rattle.goal_fields.specs.Marks.{far, mark_at, IsWhole}
 use Rattle.goal_fields.specs.Target.{flag_at, Covers}
 use Rattle.goal_fields.specs.Lifelong.{g_of, IsRoomy, IsGood, IsTouched, IsConsistent, IsSettled, IsInRepair}
 use Rattle.goal_fields.specs.Adopting.{IsAdopting}
+use Rattle.goal_fields.specs.Rest.{IsAtRest, IsRoomOn}
 use Rattle.goal_fields.proofs.Neighbours.{IsAdjacent-sym, cell_at, cases_cell, cases_held, cases_adjacent}
 use Rattle.goal_fields.proofs.UpdateLemmas.{key_none, key_min}
 use Rattle.goal_fields.proofs.TakeLemmas.{count_over-same, rhs_in, rhs_in-good}
@@ -77,28 +78,32 @@ IsInRepair-begin now roomy good top taken =
       counted = taken ∙ sym (count_over-same now.g.items);
     }
 
--- the state after a breadth-first search is settled
-pub IsSettled-found : (found_by : Search) (s : Lifelong) → IsFound found_by → s.grid ≡ found_by.grid → s.goal ≡ found_by.goal → s.g.items ≡ found_by.marks.items → s.queue ≡ empty_queue found_by.grid.size → IsSettled s
-IsSettled-found found_by s found grid goal g queue =
-    let size : s.grid.size ≡ found_by.grid.size = ap (λ (t : Chart). t.size) grid in
+-- after a breadth-first search the marks are at rest
+pub IsAtRest-found : (found_by : Search) (grid : Chart) (goal : Point) → IsFound found_by → found_by.grid ≡ grid → found_by.goal ≡ goal → IsAtRest grid grid.size goal found_by.marks.items
+IsAtRest-found found_by grid goal found same_grid same_goal =
+    subst (λ (t : Chart). IsAtRest t t.size goal found_by.marks.items) same_grid (subst (λ (p : Point). IsAtRest found_by.grid found_by.grid.size p found_by.marks.items) same_goal
+    (record {
+      is = refl;
+      sized = found.room.sized;
+      goal_held = found.room.goal_held;
+      whole = found.room.whole;
+      one_g_each = found.room.one_mark_each;
+      consistent = IsRhs-distance found_by.grid found_by.goal (mark_of found_by) found.right found.bounded;
+    }))
+
+-- a room that was made
+pub IsRoomOn-new : (room : Lifelong) (size : Extent) → room.grid.size ≡ size → IsSize size.width size.height → IsWhole room.grid → room.queue ≡ empty_queue size → IsRoomOn room.grid room
+IsRoomOn-new room size same sized whole queue =
     record {
-      roomy = record {
-        sized = rw size found.room.sized;
-        goal_held = rw (size, goal) found.room.goal_held;
-        whole = subst (λ (t : Chart). length t.flags ≡ area t.size) (sym grid) found.room.whole;
-        one_g_each = ap (λ (xs : List ℕ). length xs) g ∙ found.room.one_mark_each ∙ ap area (sym size);
-        queue = ap (λ (q : Queue). q.size) queue ∙ sym size;
-        one_key_each = ap (λ (q : Queue). length q.keys) queue ∙ length-replicate (area found_by.grid.size) None ∙ ap area (sym size);
+      map = refl;
+      wide = rw same (omega (arith, sized.wide));
+      whole = whole;
+      idle = record {
+        queue = ap (λ (q : Queue). q.size) queue ∙ sym same;
+        one_key_each = ap (λ (q : Queue). length q.keys) queue ∙ length-replicate (area size) None ∙ ap area (sym same);
+        empty = subst IsEmpty (sym queue) (λ c h. get_or-replicate (area size) (flag_index size c) None None (index_below size c h));
       };
-      consistent = λ c h.
-          (let held : Holds found_by.grid.size c = rw (← size) h in
-          let equation : IsRhs found_by.grid found_by.goal (mark_of found_by) c (mark_of found_by c) = IsRhs-distance found_by.grid found_by.goal (mark_of found_by) found.right found.bounded c held in
-          let same_grid : IsRhs s.grid found_by.goal (mark_at s.grid.size found_by.marks.items) c (mark_at s.grid.size found_by.marks.items c) =
-          subst (λ (t : Chart). IsRhs t found_by.goal (mark_at t.size found_by.marks.items) c (mark_at t.size found_by.marks.items c)) (sym grid) equation in
-          let same_goal : IsRhs s.grid s.goal (mark_at s.grid.size found_by.marks.items) c (mark_at s.grid.size found_by.marks.items c) =
-          subst (λ (p : Point). IsRhs s.grid p (mark_at s.grid.size found_by.marks.items) c (mark_at s.grid.size found_by.marks.items c)) (sym goal) same_grid in
-          subst (λ (xs : List ℕ). IsRhs s.grid s.goal (mark_at s.grid.size xs) c (mark_at s.grid.size xs c)) (sym g) same_goal);
-      empty = subst IsEmpty (sym queue) (λ c h. get_or-replicate (area found_by.grid.size) (flag_index found_by.grid.size c) None None (index_below found_by.grid.size c h));
+      counted = rw queue (omega arith);
     }
 
 -- a repair whose queue is empty has come to its end

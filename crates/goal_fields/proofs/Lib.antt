@@ -9,3 +9,4 @@ pub mod LastLemmas
 pub mod CountLemmas
 pub mod HeldLemmas
 pub mod CoverLemmas
+pub mod RoomLemmas

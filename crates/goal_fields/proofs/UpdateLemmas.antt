@@ -1,9 +1,9 @@
-use Rattle.std.specs.Prelude.{slice_index, slice_index_or, ◌==◌, nat_lt, true, false, min}
+use Rattle.std.specs.Prelude.{slice_index_or, ◌==◌, nat_lt, true, false, min}
 use Rattle.std.proofs.Common.{◌+◌, ◌≡◌, ◌≢◌, ℕ, ◌<◌, ◌≤◌, ◌⊎◌, List, length, Option, Some, None, refl, sym, ap, subst, ◌∙◌, inl, inr, arith, get_or-set_same, get_or-set_other}
 use Rattle.std.proofs.Math.ListN.{set}
 use Rattle.std.proofs.lemmas.Bool.{cases_lt}
 use Rattle.grid_cells.specs.Cell.{Point, IsAdjacent}
-use Rattle.goal_fields.specs.Marks.{far, mark_at}
+use Rattle.goal_fields.specs.Marks.{far}
 use Rattle.grid_cells.specs.Size.{Holds}
 use Rattle.cell_queue.specs.Queue.{area}
 use Rattle.grid_cells.specs.Grid.{flag_index, Chart, IsOpen}

@@ -5,6 +5,11 @@ use Rattle.grid_cells.specs.Grid.{Chart}
 use Rattle.grid_cells.specs.declared.sizes.TheConstants.{MOST_SIDE}
 use Rattle.goal_fields.specs.Target.{Standing}
 
+-- the fields of the goals that are held, and how many cells the queue that is lent to them has taken in all
+pub record Holding : Type 0 where
+  pub fields : List Standing
+  pub total : ℕ
+
 -- a field of the goal is among them
 abbrev pub HasGoal : List Standing → Point → Type 0
 HasGoal fields goal = (field : Standing) × Contains fields field × (field.goal ≡ goal)

@@ -8,3 +8,4 @@ pub mod Marks
 pub mod Repair
 pub mod Lifelong
 pub mod Search
+pub mod Rest

@@ -10,7 +10,7 @@ pub record Target : Type 0 where
   pub grid : Chart
   pub goal : Point
 
--- what a field stands for, how many cells its queue has taken since the last repair began, and how many in all
+-- what a field stands for, how many cells were taken for it since the last repair began, and how many in all
 pub record Standing : Type 0 where
   pub grid : Chart
   pub goal : Point

@@ -4,13 +4,16 @@
 mod field;
 mod fields;
 mod laws;
+mod lending;
 mod lifelong;
 mod maps;
 mod places;
 mod plain;
+mod rooms;
 mod search;
 
 pub use field::Field;
 pub use fields::Fields;
 pub use laws::one_change_count;
 pub use plain::PlainField;
+pub use rooms::{Ground, Lent};

@@ -5,18 +5,19 @@ ghost use Rattle.grid_cells.specs.Cell.{Point, IsAdjacent};
 ghost use Rattle.grid_cells.specs.Size.{Holds};
 ghost use Rattle.grid_cells.specs.Grid.{Chart, IsOpen};
 ghost use Rattle.cell_queue.specs.Queue.{IsEmpty, one_more};
-ghost use Rattle.goal_fields.specs.Marks.{far, distance_of};
+ghost use Rattle.goal_fields.specs.Marks.{far, IsWhole};
+ghost use Rattle.goal_fields.specs.Rest.{IsAtRest, IsIdle, IsRoomOn};
 ghost use Rattle.goal_fields.specs.Target.{Covers, HaveCounted};
 ghost use Rattle.goal_fields.specs.Repair.{IsRhs};
 ghost use Rattle.goal_fields.specs.declared.lifelong.Lifelong.{Lifelong};
 ghost use Rattle.goal_fields.specs.Lifelong.{IsRoomy, IsGood, IsSameBut, IsInRepair, IsSettled, IsConsistent, IsTouched, KeepsTarget, g_of, count_over};
 
-use crate::maps::adopt;
 use crate::places::{around, place_of};
-use crate::search::Search;
+use crate::rooms::Ground;
 use cell_queue::CellQueue;
-use grid_cells::{Cell, Grid, OutOfMemory, Size};
+use grid_cells::{Cell, Grid, OutOfMemory};
 use std::alloc::Global;
+use std::mem;
 
 // The number that is none.
 const FAR: u32 = u32::MAX;
@@ -150,25 +151,18 @@ impl Lifelong {
 }
 
 impl Lifelong {
-    // The distances on the grid, by breadth-first search.
-    pub fn new(alloc: Global, grid: &Grid, goal: Cell) -> Result<Lifelong, OutOfMemory>
-        requires { Holds grid.now.size goal }
-        ensures settled { IfOk result IsSettled }
-        ensures target { IfOk result (λ s. (s.grid ≡ grid.now) × (s.goal ≡ goal)) }
+    // Room for repairs on the map, with no distances yet.
+    pub fn new(alloc: Global, map: Grid, goal: Cell) -> Result<Lifelong, OutOfMemory>
+        requires wide { 0 < map.size.width }
+        requires whole { IsWhole map }
+        ensures on { IfOk result (IsRoomOn map) }
+        ensures told { IfOk result (λ room. room.queue.total ≡ 0) }
     {
-        let mut search = Search::new(alloc, grid, goal)?;
-        search.run();
-        let Search {
-            grid,
-            goal,
-            marks,
-            ..
-        } = search;
-        let queue = CellQueue::new(alloc, grid.size())?;
+        let queue = CellQueue::new(alloc, map.size())?;
         Ok(Lifelong {
-            grid,
+            grid: map,
             goal,
-            g: marks,
+            g: Vec::new(alloc),
             queue,
         })
     }
@@ -192,33 +186,36 @@ impl Lifelong {
         self.settle()
     }
 
-    // Mends the distances for a grid of the same size that differs at most at the changed cells, and
-    // tells how many cells were taken.
-    pub fn repair(&mut self, grid: &Grid, changed: &[Cell]) -> u64
-        requires settled { IsSettled self.old }
-        requires same_size { grid.now.size ≡ self.old.grid.size }
-        requires covered { Covers changed.now self.old.grid grid.now }
-        ensures settled { IsSettled self.new }
-        ensures grid { self.new.grid ≡ grid.now }
-        ensures goal { self.new.goal ≡ self.old.goal }
-        ensures count { result ≡ count_over self.old.g.items self.new.g.items }
+    // Mends these distances to the goal, which are those on a map of the same size that differs at
+    // most at the changed cells, and tells how many cells were taken.
+    pub fn mend_for(&mut self, goal: Cell, g: &mut Vec<u32>, changed: &[Cell]) -> u64
+        requires idle { IsIdle self.old }
+        requires whole { IsWhole self.old.grid }
+        requires at_rest { (old : Chart) × (old.size ≡ self.old.grid.size) × Covers changed.now old self.old.grid
+            × IsAtRest old old.size goal g.old.items }
+        ensures idle { IsIdle self.new }
+        ensures at_rest { IsAtRest self.new.grid self.new.grid.size goal g.new.items }
+        ensures grid { self.new.grid ≡ self.old.grid }
+        ensures count { result ≡ count_over g.old.items g.new.items }
         ensures counted { result ≡ self.new.queue.taken }
         ensures all_told { HaveCounted result self.old.queue.total self.new.queue.total }
     {
-        adopt(&mut self.grid, grid, changed);
-        self.mend(changed)
+        self.goal = goal;
+        mem::swap(&mut self.g, g);
+        let taken = self.mend(changed);
+        mem::swap(&mut self.g, g);
+        taken
     }
+}
 
-    // The distance of the cell, where the map has it.
-    pub fn distance(&self, cell: Cell) -> Option<u32>
-        requires { IsSettled self.now }
-        ensures inside { Holds self.now.grid.size cell → result ≡ distance_of (g_of self.now cell) }
-        ensures outside { (Holds self.now.grid.size cell → ⊥) → result ≡ None }
-    {
-        if !self.grid.size().holds(cell) {
-            return None;
-        }
-        let g = self.g[place_of(&self.grid, cell)];
-        if g == FAR { None } else { Some(g) }
-    }
+impl Ground for Lifelong {
+    ghost use Rattle.goal_fields.specs.Rest.{IsIdle};
+
+    ghost chart = { λ room. room.grid };
+
+    ghost taken = { λ room. room.queue.taken };
+
+    ghost total = { λ room. room.queue.total };
+
+    ghost is_idle = { λ room. IsIdle room };
 }

@@ -75,7 +75,7 @@ impl Search {
     {
         if let Some(cell) = cell {
             let index = place_of(&self.grid, cell);
-            if self.grid.is_open(cell) && self.marks[index] == FAR {
+            if self.marks[index] == FAR && self.grid.is_open(cell) {
                 self.marks[index] = number;
                 self.queue[self.tail] = cell;
                 self.tail += 1;

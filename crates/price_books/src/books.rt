@@ -52,7 +52,7 @@ impl PriceBooks {
 
     /// The distances to the goals of the rows.
     pub fn fields(&self) -> &Fields
-        ensures { result.now ≡ self.now.fields }
+        ensures { result.now.fields ≡ self.now.fields }
     {
         self.goals.fields()
     }

@@ -25,9 +25,9 @@ impl Model for Goals {
 
     ghost Value = { Aimed };
 
-    ghost view = { λ g. record { aims = g.aims; fields = g.fields } };
+    ghost view = { λ g. record { aims = g.aims; fields = g.fields.fields } };
 
-    ghost invariant = { λ g. HoldAimed g.aims g.fields };
+    ghost invariant = { λ g. HoldAimed g.aims g.fields.fields };
 }
 
 impl Goals {
@@ -44,7 +44,7 @@ impl Goals {
 
     /// The fields of the goals.
     pub fn fields(&self) -> &Fields
-        ensures { result.now ≡ self.now.fields }
+        ensures { result.now.fields ≡ self.now.fields }
     {
         &self.fields
     }
@@ -95,9 +95,9 @@ impl Goals {
 // Where no cell differs the fields stand for the grid as they are, and none is looked at.
 fn stay(fields: &Fields, grid: &Grid, cells: &[Cell])
     requires none { length cells.now ≡ 0 }
-    requires same_size { All (λ field. grid.now.size ≡ field.grid.size) fields.now }
-    requires covered { All (λ field. Covers cells.now field.grid grid.now) fields.now }
-    ensures { StandFor grid.now fields.now }
+    requires same_size { All (λ field. grid.now.size ≡ field.grid.size) fields.now.fields }
+    requires covered { All (λ field. Covers cells.now field.grid grid.now) fields.now.fields }
+    ensures { StandFor grid.now fields.now.fields }
 {
     let _size = grid.size();
     let _count = fields.count();

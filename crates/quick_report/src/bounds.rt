@@ -11,8 +11,8 @@ use plan_table::Row;
 
 // The distance in steps from the cell to a goal that has a field.
 fn distance_to(fields: &Fields, from: Cell, goal: Cell) -> Option<u32>
-    requires { HasGoal fields.now goal }
-    ensures { (grid : Chart) → StandFor grid fields.now → Holds grid.size from → IsDistance grid from goal result }
+    requires { HasGoal fields.now.fields goal }
+    ensures { (grid : Chart) → StandFor grid fields.now.fields → Holds grid.size from → IsDistance grid from goal result }
 {
     match fields.field(goal) {
         Some(field) => field.distance(from),
@@ -22,8 +22,8 @@ fn distance_to(fields: &Fields, from: Cell, goal: Cell) -> Option<u32>
 
 /// The lower bound of the row's agent, in steps: the distance from where its path begins to its goal.
 pub fn bound(fields: &Fields, row: &Row) -> Option<u32>
-    requires { HasGoal fields.now row.now.goal }
-    ensures { (grid : Chart) → StandFor grid fields.now → All (Holds grid.size) row.now.plan → IsBound grid row.now result }
+    requires { HasGoal fields.now.fields row.now.goal }
+    ensures { (grid : Chart) → StandFor grid fields.now.fields → All (Holds grid.size) row.now.plan → IsBound grid row.now result }
 {
     distance_to(fields, row.plan.at(Step::new(0)), row.goal)
 }

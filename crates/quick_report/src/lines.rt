@@ -43,8 +43,8 @@ pub fn lines(
     fields: &Fields,
     visits: &[Visit],
 ) -> Result<Vec<AgentLine>, OutOfMemory>
-    requires { HaveFields plans.now.rows fields.now }
-    ensures lines { IfOk result (λ lines. (grid : Chart) → StandFor grid fields.now → HavePathsOn grid plans.now.rows → AreVisits grid plans.now.rows visits.now → AreLines grid plans.now.rows lines.items) }
+    requires { HaveFields plans.now.rows fields.now.fields }
+    ensures lines { IfOk result (λ lines. (grid : Chart) → StandFor grid fields.now.fields → HavePathsOn grid plans.now.rows → AreVisits grid plans.now.rows visits.now → AreLines grid plans.now.rows lines.items) }
     ensures few { IfOk result (λ lines. length lines.items ≤ MOST_AGENT + 1) }
 {
     let mut lines = Vec::with_capacity(alloc, plans.count() as usize)?;

@@ -32,11 +32,11 @@ pub fn quick_report(
     costs: &CostLedger,
     fields: &Fields,
 ) -> Result<Report, OutOfMemory>
-    requires { HaveFields plans.now.rows fields.now }
+    requires { HaveFields plans.now.rows fields.now.fields }
     ensures { IfOk result (λ report.
         costs.now.rows ≡ plans.now.rows
         → StandsFor costs.now grid.now
-        → StandFor grid.now fields.now
+        → StandFor grid.now fields.now.fields
         → HavePathsOn grid.now plans.now.rows
         → AreConflicts (tracks_of mode plans.now.rows) conflicts
         → IsReportOf grid.now mode plans.now.rows report) }

@@ -9,7 +9,7 @@ use Rattle.quick_report.proofs.lines.lines.Given as goal
 
 abbrev pub invariant-loop-rank : goal.invariant-loop-rank
 invariant-loop-rank l = record {
-  lines : (grid : Chart) → StandFor grid l.fields → HavePathsOn grid l.plans.rows → AreVisits grid l.plans.rows l.visits → AreLines grid (take l.rank l.plans.rows) l.lines.items;
+  lines : (grid : Chart) → StandFor grid l.fields.fields → HavePathsOn grid l.plans.rows → AreVisits grid l.plans.rows l.visits → AreLines grid (take l.rank l.plans.rows) l.lines.items;
   many : length l.lines.items ≡ l.rank;
   within : l.next ≤ length l.visits;
   passed : Passed l.plans.rows l.visits l.next l.rank;

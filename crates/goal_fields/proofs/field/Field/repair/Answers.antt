@@ -1,15 +1,17 @@
 use Rattle.std.proofs.Common.{ap, sym, ◌≡◌, ◌∙◌}
 use Rattle.grid_cells.specs.Grid.{Chart}
-use Rattle.goal_fields.specs.Changes.{IsChangeCount}
-use Rattle.goal_fields.proofs.CountLemmas.{IsChangeCount-settled, IsSettled-few}
+use Rattle.goal_fields.proofs.CountLemmas.{at_rest-few, IsRepaired-at_rest}
 use Rattle.goal_fields.proofs.field.Field.repair.Goals as goal
 
 pub returns-clause-repaired : goal.returns-clause-repaired
 returns-clause-repaired c =
-    let size : c.repair.new.self.grid.size ≡ c.self.inside.state.grid.size = ap (λ (g : Chart). g.size) c.repair.ensures.grid ∙ c.requires.same_size ∙ sym (ap (λ v. v.grid.size) c.self.view_is) in
-    let count : IsChangeCount c.self.inside.state.grid c.repair.new.self.grid c.self.inside.state.goal c.repair.result =
-    IsChangeCount-settled c.self.inside.state c.repair.new.self c.repair.result c.self.invariant c.repair.ensures.settled c.repair.ensures.goal size c.repair.ensures.count in
-    rw (← c.self.view_is, ← c.repair.ensures.counted) (record { stands = c.repair.ensures.grid; goal = c.repair.ensures.goal; count = rw c.repair.ensures.grid at count; total = c.repair.ensures.all_told; sound = record { whole = c.repair.ensures.settled.roomy.whole; held = c.repair.ensures.settled.roomy.goal_held } })
+    let before = c.self.inside in
+    let map : c.mend_for.new.self.grid ≡ c.args.grid.now = c.mend_for.ensures.grid ∙ c.adopt.ensures.is in
+    let size : c.mend_for.new.self.grid.size ≡ before.room.grid.size = ap (λ (g : Chart). g.size) map ∙ c.requires.same_size ∙ sym (ap (λ v. v.grid.size) c.self.view_is) in
+    rw (← c.self.view_is)
+    (IsRepaired-at_rest before.room.grid c.mend_for.new.self.grid before.size _ before.goal before.g.items c.mend_for.new.g.items c.mend_for.result c.self.invariant.0 c.mend_for.ensures.at_rest c.mend_for.ensures.count
+    c.args.grid.now map size before.room.queue.taken before.room.queue.total c.mend_for.new.self.queue.taken c.mend_for.new.self.queue.total c.mend_for.ensures.counted c.mend_for.ensures.all_told)
 
 pub returns-clause-few : goal.returns-clause-few
-returns-clause-few c = IsSettled-few c.self.inside.state c.repair.new.self c.repair.result c.self.invariant c.repair.ensures.count
+returns-clause-few c =
+    at_rest-few _ _ _ _ c.self.inside.goal c.self.inside.g.items c.mend_for.new.g.items c.mend_for.result c.self.invariant.0 c.mend_for.ensures.at_rest c.mend_for.ensures.count

@@ -1,5 +1,4 @@
-use Rattle.std.proofs.Common.{◌≡◌, take}
-use Rattle.goal_fields.specs.declared.lifelong.Lifelong.{Lifelong}
+use Rattle.std.proofs.Common.{take}
 use Rattle.goal_fields.specs.Lifelong.{IsTouched}
 use Rattle.goal_fields.proofs.lifelong.Lifelong.mend.Given as goal
 

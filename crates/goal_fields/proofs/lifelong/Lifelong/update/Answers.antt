@@ -1,5 +1,5 @@
 use Rattle.std.specs.Prelude.{slice_index, slice_index_or, slice_set, Some, None}
-use Rattle.std.proofs.Common.{arith, sym, subst, ap, inl, inr, refl, ◌≡◌, ◌<◌, ◌⊎◌, ◌∙◌, length, List, Option, ℕ}
+use Rattle.std.proofs.Common.{arith, sym, subst, inl, inr, refl, ◌≡◌, ◌<◌, ◌⊎◌, ◌∙◌, length, Option, ℕ}
 use Rattle.std.proofs.lemmas.List.{get_or_read}
 use Rattle.grid_cells.specs.Cell.{Point}
 use Rattle.grid_cells.specs.Size.{Extent, Holds}

@@ -5,8 +5,8 @@ use Rattle.goal_fields.specs.Marks.{far, mark_at}
 use Rattle.goal_fields.proofs.SearchLemmas.{IsSearch-mark}
 use Rattle.goal_fields.proofs.search.Search.mark.Goals as goal
 
-pub returns-then-index-clause-searching : goal.returns-then-index-clause-searching
-returns-then-index-clause-searching c =
+pub returns-then-is_open-clause-searching : goal.returns-then-is_open-clause-searching
+returns-then-is_open-clause-searching c =
     let within : c.place_of-index.result < length c.args.self.now.marks.items = omega (arith, c.requires.searching.one_mark_each, c.place_of-index.ensures.bound) in
     let read : c.index.result.now ≡ slice_index c.args.self.now.marks.items c.place_of-index.result = get_or_read c.args.self.now.marks.items c.place_of-index.result c.index.result.now within c.index.ensures 0 in
     let unmarked : mark_at c.args.self.now.grid.size c.args.self.now.marks.items c.in-Some.cell ≡ far = (rw (← c.place_of-index.ensures.is) (omega (arith, read, c.if-index.true))) in

@@ -1,5 +1,11 @@
+use Rattle.std.proofs.Common.{subst, sym}
+use Rattle.goal_fields.specs.Held.{StandFor}
+use Rattle.price_books.specs.Prices.{Prices}
 use Rattle.price_books.proofs.Fleets.{books_put}
 use Rattle.price_books.proofs.books.PriceBooks.put.Goals as goal
+
+pub add-requires-clause-stand : goal.add-requires-clause-stand
+add-requires-clause-stand c = subst (λ (books : Prices). StandFor c.args.grid.now books.fields) (sym c.self.view_is) c.requires.stand
 
 pub returns-clause-kept : goal.returns-clause-kept
 returns-clause-kept c = λ fleet are.
