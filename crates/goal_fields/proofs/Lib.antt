@@ -4,6 +4,7 @@ pub mod RepairLemmas
 pub mod RepairEnds
 pub mod UpdateLemmas
 pub mod TakeLemmas
+pub mod FollowLemmas
 pub mod EditLemmas
 pub mod LastLemmas
 pub mod CountLemmas

@@ -5,7 +5,7 @@ use Rattle.std.proofs.lemmas.Bool.{cases_lt}
 use Rattle.grid_cells.specs.Cell.{Point, IsAdjacent}
 use Rattle.goal_fields.specs.Marks.{far}
 use Rattle.grid_cells.specs.Size.{Holds}
-use Rattle.cell_queue.specs.Queue.{area}
+use Rattle.cell_queue.specs.Queue.{Queue, area, key_at, with_key}
 use Rattle.grid_cells.specs.Grid.{flag_index, Chart, IsOpen}
 use Rattle.goal_fields.proofs.Neighbours.{up_of, left_of, right_of, down_of, neighbour_cases, up_of-adjacent, left_of-adjacent, right_of-adjacent, down_of-adjacent, cases_cell}
 use Rattle.goal_fields.specs.Repair.{IsRhs, key_for}
@@ -38,6 +38,14 @@ IsRight-update grid goal g keys a n r v lk ha is eq key c hc old =
     go k_at (inr ne) (inr old_c) =
         let apart : flag_index grid.size c ≢ n = (λ e. ne (same_place grid.size c a hc ha (e ∙ is))) in
         record { rhs = old_c.rhs; equation = old_c.equation; queued = get_or-set_other keys n (flag_index grid.size c) v None apart ∙ old_c.queued }
+
+-- another key for one cell leaves those of the others
+pub key_at-other : (queue : Queue) (cell c : Point) (key : Option ℕ) → Holds queue.size cell → Holds queue.size c → c ≢ cell → key_at (with_key queue cell key) c ≡ key_at queue c
+key_at-other queue cell c key hc h ne = get_or-set_other queue.keys (flag_index queue.size cell) (flag_index queue.size c) key None (λ e. ne (same_place queue.size c cell h hc e))
+
+-- a cell that is taken out has none
+pub key_at-out : (queue : Queue) (cell : Point) → Holds queue.size cell → length queue.keys ≡ area queue.size → key_at (with_key queue cell None) cell ≡ None
+key_at-out queue cell h long = get_or-set_same queue.keys (flag_index queue.size cell) None None (omega (arith, index_below queue.size cell h, long))
 
 pub key_none : (g r : ℕ) → g ≡ r → None ≡ key_for g r
 key_none g r e = (let yes : (g == r) ≡ true = grind arith in rw yes refl)

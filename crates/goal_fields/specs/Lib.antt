@@ -9,3 +9,4 @@ pub mod Repair
 pub mod Lifelong
 pub mod Search
 pub mod Rest
+pub mod Taking

@@ -27,6 +27,10 @@ pub record IsGood (s : Lifelong) (cell : Point) : Type 0 where
   pub equation : IsRhs s.grid s.goal (g_of s) cell rhs
   pub queued : key_at s.queue cell ≡ key_for (g_of s cell) rhs
 
+-- the cell is in the queue as before
+abbrev pub KeepsKey : Lifelong → Lifelong → Point → Type 0
+KeepsKey old new cell = key_at new.queue cell ≡ key_at old.queue cell
+
 -- grid, goal, g and counters are the same
 pub record IsSameBut (old new : Lifelong) : Type 0 where
   pub grid : new.grid ≡ old.grid

@@ -11,6 +11,7 @@ mod places;
 mod plain;
 mod rooms;
 mod search;
+mod updates;
 
 pub use field::Field;
 pub use fields::Fields;

@@ -33,75 +33,6 @@ pub struct Lifelong {
 }
 
 impl Lifelong {
-    // One more than the g of the neighbour, none where there is none or it is closed.
-    fn through(&self, next: Option<Cell>) -> u32
-        requires roomy { IsRoomy self.now }
-        requires held { ForSome next (Holds self.now.grid.size) }
-        ensures upper { (n : Point) → next ≡ Some n → IsOpen self.now.grid n → result ≤ g_of self.now n + 1 }
-        ensures lower { result < far →
-            (n : Point) × (next ≡ Some n) × IsOpen self.now.grid n × (result ≡ g_of self.now n + 1) }
-    {
-        let Some(next) = next else { return FAR };
-        if !self.grid.is_open(next) {
-            return FAR;
-        }
-        self.g[place_of(&self.grid, next)].saturating_add(1)
-    }
-
-    // What rhs is to be at the cell.
-    fn equation(&self, cell: Cell) -> u32
-        requires roomy { IsRoomy self.now }
-        requires held { Holds self.now.grid.size cell }
-        ensures { IsRhs self.now.grid self.now.goal (g_of self.now) cell result }
-    {
-        if !self.grid.is_open(cell) {
-            return FAR;
-        }
-        if cell == self.goal {
-            return 0;
-        }
-        let [up, left, right, down] = around(&self.grid, cell);
-        let above = self.through(up).min(self.through(left));
-        above.min(self.through(right)).min(self.through(down))
-    }
-
-    // Puts the cell into the queue or takes it out, as its rhs wants it.
-    fn update(&mut self, cell: Option<Cell>)
-        requires roomy { IsRoomy self.old }
-        requires held { ForSome cell (Holds self.old.grid.size) }
-        ensures roomy { IsRoomy self.new }
-        ensures same { IsSameBut self.old self.new }
-        ensures here { ForSome cell (IsGood self.new) }
-        ensures keeps { (c : Point) → Holds self.old.grid.size c → IsGood self.old c → IsGood self.new c }
-    {
-        let Some(cell) = cell else { return };
-        let index = place_of(&self.grid, cell);
-        let rhs = self.equation(cell);
-        let g = self.g[index];
-        if g == rhs {
-            self.queue.remove(cell);
-        } else {
-            self.queue.put(cell, g.min(rhs));
-        }
-    }
-
-    // Updates the cell and its neighbours.
-    fn spread(&mut self, from: Cell)
-        requires roomy { IsRoomy self.old }
-        requires held { Holds self.old.grid.size from }
-        ensures roomy { IsRoomy self.new }
-        ensures same { IsSameBut self.old self.new }
-        ensures near { (c : Point) → Holds self.old.grid.size c → ((c ≡ from) ⊎ IsAdjacent from c) → IsGood self.new c }
-        ensures keeps { (c : Point) → Holds self.old.grid.size c → IsGood self.old c → IsGood self.new c }
-    {
-        let [up, left, right, down] = around(&self.grid, from);
-        self.update(Some(from));
-        self.update(up);
-        self.update(left);
-        self.update(right);
-        self.update(down);
-    }
-
     // Takes a cell with a least key, if there is one, and mends what hangs on it.
     fn step(&mut self) -> bool
         requires { IsRoomy self.old }
@@ -118,9 +49,10 @@ impl Lifelong {
         };
         let (cell, key) = least;
         let index = place_of(&self.grid, cell);
-        let value = if self.g[index] > key { key } else { FAR };
+        let was = self.g[index];
+        let value = if was > key { key } else { FAR };
         self.g[index] = value;
-        self.spread(cell);
+        self.ripple(cell, was);
         true
     }
 

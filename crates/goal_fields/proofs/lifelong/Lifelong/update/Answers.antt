@@ -1,5 +1,5 @@
 use Rattle.std.specs.Prelude.{slice_index, slice_index_or, slice_set, Some, None}
-use Rattle.std.proofs.Common.{arith, sym, subst, inl, inr, refl, ◌≡◌, ◌<◌, ◌⊎◌, ◌∙◌, length, Option, ℕ}
+use Rattle.std.proofs.Common.{arith, sym, subst, inl, inr, refl, ap, ◌≡◌, ◌<◌, ◌⊎◌, ◌∙◌, length, Option, ℕ}
 use Rattle.std.proofs.lemmas.List.{get_or_read}
 use Rattle.grid_cells.specs.Cell.{Point}
 use Rattle.grid_cells.specs.Size.{Extent, Holds}
@@ -8,7 +8,7 @@ use Rattle.cell_queue.specs.Queue.{with_key}
 use Rattle.goal_fields.specs.declared.lifelong.Lifelong.{Lifelong}
 use Rattle.goal_fields.specs.Repair.{key_for, IsRhs}
 use Rattle.goal_fields.specs.Lifelong.{IsRoomy, IsGood, g_of}
-use Rattle.goal_fields.proofs.UpdateLemmas.{IsRight, IsRight-update, key_none, key_min}
+use Rattle.goal_fields.proofs.UpdateLemmas.{IsRight, IsRight-update, key_at-other, key_none, key_min}
 use Rattle.goal_fields.proofs.lifelong.Lifelong.update.Goals as goal
 
 -- a cell is good after the cell's key has changed
@@ -64,3 +64,13 @@ returns-else-g-rhs-clause-keeps c v held_v good =
     let g_is : c.index-g.result.now ≡ g_of c.args.self.now c.in-Some.cell = rw (← c.place_of-index.ensures.is) read in
     let key : Some c.min.result ≡ key_for (g_of c.args.self.now c.in-Some.cell) c.equation-rhs.result = rw (← g_is) (key_min c.index-g.result.now c.equation-rhs.result c.min.result c.if-g-rhs.false c.min.ensures) in
     rw c.put.ensures (right c.args.self.now c.in-Some.cell c.equation-rhs.result (Some c.min.result) c.requires.roomy held c.equation-rhs.ensures key v held_v (inr good))
+
+pub returns-then-g-rhs-clause-others : goal.returns-then-g-rhs-clause-others
+returns-then-g-rhs-clause-others c v held_v other =
+    let held : Holds c.args.self.now.queue.size c.in-Some.cell = rw c.requires.roomy.queue (c.requires.held c.in-Some.cell c.in-Some.is) in
+    rw (c.remove.ensures.inside held) (key_at-other c.args.self.now.queue c.in-Some.cell v None held (rw c.requires.roomy.queue held_v) (λ e. other (c.in-Some.is ∙ ap (λ (w : Point). Some w) (sym e))))
+
+pub returns-else-g-rhs-clause-others : goal.returns-else-g-rhs-clause-others
+returns-else-g-rhs-clause-others c v held_v other =
+    let held : Holds c.args.self.now.queue.size c.in-Some.cell = rw c.requires.roomy.queue (c.requires.held c.in-Some.cell c.in-Some.is) in
+    rw c.put.ensures (key_at-other c.args.self.now.queue c.in-Some.cell v (Some c.min.result) held (rw c.requires.roomy.queue held_v) (λ e. other (c.in-Some.is ∙ ap (λ (w : Point). Some w) (sym e))))

@@ -1,0 +1,153 @@
+-- The updates that follow a write.
+use Rattle.std.proofs.Common.{◌≡◌, ◌≢◌, ◌⊎◌, inl, inr, ℕ, ◌+◌, ◌≤◌, ◌<◌, List, Some, None, Option, sym, ap, subst, refl, ◌∙◌, arith}
+use Rattle.std.specs.Prelude.{min}
+use Rattle.std.proofs.Math.ListN.{set}
+use Rattle.std.proofs.lemmas.Bool.{cases_eq, cases_lt}
+use Rattle.grid_cells.specs.Cell.{Point, IsAdjacent}
+use Rattle.grid_cells.specs.Size.{Holds}
+use Rattle.grid_cells.specs.Grid.{Chart, IsOpen, flag_index}
+use Rattle.cell_queue.specs.Queue.{key_at}
+use Rattle.goal_fields.specs.declared.lifelong.Lifelong.{Lifelong}
+use Rattle.goal_fields.specs.Marks.{mark_at}
+use Rattle.goal_fields.specs.Repair.{IsRhs, IsWrite, key_for}
+use Rattle.goal_fields.specs.Lifelong.{IsRoomy, IsGood, IsSameBut, KeepsKey, g_of}
+use Rattle.goal_fields.specs.Taking.{Lags, Follows, IsTaking, IsUnstirred}
+use Rattle.goal_fields.proofs.Neighbours.{cases_cell}
+use Rattle.goal_fields.proofs.UpdateLemmas.{key_min, key_none}
+use Rattle.goal_fields.proofs.TakeLemmas.{IsKey, IsKey-of, IsRhs-apart, IsWrite-set}
+
+-- a cell without a key is consistent
+pub key_none_is : (g r : ℕ) → None ≡ key_for g r → g ≡ r
+key_none_is g r none = elim (cases_eq g r) [
+  | inl e ↦ e
+  | inr ne ↦ (let key : Some (min g r) ≡ None = key_min g r (min g r) ne refl ∙ sym none in cc)
+]
+
+-- a key below g is rhs
+pub lowered_to : (g r key : ℕ) → key_for g r ≡ Some key → key < g → r ≡ key
+lowered_to g r key e lt = (let k : IsKey g r key = IsKey-of g r key e in elim (cases_lt r g) [
+  | inl over ↦ sym (k.which.0 over)
+  | inr le ↦ (let under : g < r = omega (arith, k.differ) in absurd (omega (arith, k.which.1 under)))
+])
+
+-- where the write doesn't move a cell, it keeps its equation
+IsRhs-unmoved : (grid : Chart) (goal : Point) (g g' : Point → ℕ) (from c : Point) (r was now : ℕ) → IsWrite grid g g' from now → g from ≡ was →
+    (now < was → r ≤ now + 1) → (was < now → r ≢ was + 1) → IsRhs grid goal g c r → IsRhs grid goal g' c r
+IsRhs-unmoved grid goal g g' from c r was now w is lowered raised a =
+    record {
+      bounded = a.bounded;
+      closed = a.closed;
+      at_goal = a.at_goal;
+      upper = λ o ne n adj on. above o ne n adj on (cases_cell n from) (cases_lt now was);
+      lower = λ o ne lt. (let (n, adj, on, e) = a.lower o ne lt in (n, adj, on, below n on e (cases_cell n from) (cases_lt now was) (cases_lt was now)));
+    }
+  where
+    above : IsOpen grid c → c ≢ goal → (n : Point) → IsAdjacent c n → IsOpen grid n → ((n ≡ from) ⊎ (n ≡ from → ⊥)) → ((now < was) ⊎ (was ≤ now)) → r ≤ g' n + 1
+    above o ne n adj on (inl e) (inl lt) = (let at : g' n ≡ now = ap g' e ∙ w.here in omega (arith, at, lowered lt))
+    above o ne n adj on (inl e) (inr le) = (let at : g' n ≡ now = ap g' e ∙ w.here in let old : g n ≡ was = ap g e ∙ is in omega (arith, at, old, a.upper o ne n adj on))
+    above o ne n adj on (inr apart) _ = omega (arith, w.elsewhere n on.0 apart, a.upper o ne n adj on)
+
+    below : (n : Point) → IsOpen grid n → r ≡ g n + 1 → ((n ≡ from) ⊎ (n ≡ from → ⊥)) → ((now < was) ⊎ (was ≤ now)) → ((was < now) ⊎ (now ≤ was)) → r ≡ g' n + 1
+    below n on e (inl here) (inl lt) _ = (let old : g n ≡ was = ap g here ∙ is in absurd (omega (arith, old, e, lowered lt)))
+    below n on e (inl here) (inr le) (inl gt) = (let old : g n ≡ was = ap g here ∙ is in absurd (raised gt (omega (arith, old, e))))
+    below n on e (inl here) (inr le) (inr ge) = (let old : g n ≡ was = ap g here ∙ is in let at : g' n ≡ now = ap g' here ∙ w.here in omega (arith, old, at))
+    below n on e (inr apart) _ _ = omega (arith, w.elsewhere n on.0 apart)
+
+-- a cell that lags and isn't stirred is good
+pub IsGood-unstirred : (g : Point → ℕ) (s : Lifelong) (from c : Point) (was now : ℕ) → Follows g s from was now → IsUnstirred s c was now → Holds s.grid.size c → c ≢ from → IsGood s c
+IsGood-unstirred g s from c was now follows still held apart = elim (follows.each c held apart) [
+  | inl good ↦ good
+  | inr lags ↦
+      (let is : g_of s c ≡ lags.rhs = key_none_is (g_of s c) lags.rhs (sym still.unqueued ∙ lags.queued) in
+      record {
+        rhs = lags.rhs;
+        equation = IsRhs-unmoved s.grid s.goal g (g_of s) from c lags.rhs was now follows.written follows.before
+            (λ lt. omega (arith, is, still.lowered lt)) (λ lt e. still.raised lt (is ∙ e)) lags.equation;
+        queued = lags.queued;
+      })
+]
+
+-- the g of a cell is the same
+pub g_of-same : (old new : Lifelong) (c : Point) → IsSameBut old new → g_of new c ≡ g_of old c
+g_of-same old new c same = ap (λ (t : Chart). mark_at t.size new.g.items c) same.grid ∙ ap (λ xs. mark_at old.grid.size xs c) same.g
+
+-- what lags still lags where its key is kept
+Lags-kept : (g : Point → ℕ) (old new : Lifelong) (c : Point) → IsSameBut old new → KeepsKey old new c → Lags g old c → Lags g new c
+Lags-kept g old new c same kept lags =
+    record {
+      rhs = lags.rhs;
+      equation = rw (same.grid, same.goal) lags.equation;
+      queued = kept ∙ lags.queued ∙ ap (λ (n : ℕ). key_for n lags.rhs) (sym (g_of-same old new c same));
+    }
+
+-- an update goes on with what follows a write
+pub Follows-update : (g : Point → ℕ) (old new : Lifelong) (from : Point) (cell : Option Point) (was now : ℕ) → IsSameBut old new →
+    ((c : Point) → cell ≡ Some c → IsGood new c) →
+    ((c : Point) → Holds old.grid.size c → IsGood old c → IsGood new c) →
+    ((c : Point) → Holds old.grid.size c → (cell ≡ Some c → ⊥) → KeepsKey old new c) →
+    Follows g old from was now → Follows g new from was now
+Follows-update g old new from cell was now same here keeps others f =
+    record {
+      written = record {
+        here = g_of-same old new from same ∙ f.written.here;
+        elsewhere = λ c h apart. g_of-same old new c same ∙ f.written.elsewhere c (rw (← same.grid) h) apart;
+      };
+      before = f.before;
+      each = λ c h apart. each c (rw (← same.grid) h) apart (cases_some cell c);
+    }
+  where
+    cases_some : (cell : Option Point) (c : Point) → (cell ≡ Some c) ⊎ (cell ≡ Some c → ⊥)
+    cases_some None c = inr (λ e. cc)
+    cases_some (Some a) c = elim (cases_cell a c) [ inl e ↦ inl (ap (λ v. Some v) e) | inr ne ↦ inr (λ e. ne cc) ]
+
+    each : (c : Point) → Holds old.grid.size c → c ≢ from → ((cell ≡ Some c) ⊎ (cell ≡ Some c → ⊥)) → IsGood new c ⊎ Lags g new c
+    each c h apart (inl e) = inl (here c e)
+    each c h apart (inr ne) = elim (f.each c h apart) [ inl good ↦ inl (keeps c h good) | inr lags ↦ inr (Lags-kept g old new c same (others c h ne) lags) ]
+
+-- a cell isn't next to itself
+pub apart_itself : (c : Point) → IsAdjacent c c → ⊥
+apart_itself c adj = absurd (omega (arith, adj))
+
+-- a cell was taken from the queue and its g was written: each other cell lags
+pub IsTaking-begun : (old new : Lifelong) (u : Point) (R : Point → ℕ) (value : ℕ) → IsRoomy old → Holds old.grid.size u →
+    new.grid ≡ old.grid → new.goal ≡ old.goal → new.g.items ≡ set old.g.items (flag_index old.grid.size u) value → key_at new.queue u ≡ None →
+    ((c : Point) → Holds old.grid.size c → c ≢ u → KeepsKey old new c) →
+    ((c : Point) → Holds old.grid.size c → IsRhs old.grid old.goal (g_of old) c (R c)) →
+    ((c : Point) → Holds old.grid.size c → key_at old.queue c ≡ key_for (g_of old c) (R c)) →
+    (value < g_of old u → R u ≡ value) → IsTaking (g_of old) new u (g_of old u)
+IsTaking-begun old new u R value roomy held same goal wrote out kept equation queued low =
+    let w : IsWrite old.grid (g_of old) (g_of new) u value =
+    subst (λ (t : Chart). IsWrite old.grid (g_of old) (mark_at t.size new.g.items) u value) (sym same)
+    (subst (λ (xs : List ℕ). IsWrite old.grid (g_of old) (mark_at old.grid.size xs) u value) (sym wrote) (IsWrite-set old.grid old.g.items u value roomy.one_g_each held)) in
+    record {
+      follows = record {
+        written = record { here = refl; elsewhere = λ c h apart. w.elsewhere c (rw (← same) h) apart };
+        before = refl;
+        each = λ c h apart. inr (record {
+          rhs = R c;
+          equation = rw (same, goal) (equation c (rw (← same) h));
+          queued = kept c (rw (← same) h) apart ∙ queued c (rw (← same) h) ∙ ap (λ (n : ℕ). key_for n (R c)) (sym (w.elsewhere c (rw (← same) h) apart));
+        });
+      };
+      lowered = λ lt.
+          (let is : R u ≡ value = low (omega (arith, lt, w.here)) in
+          record {
+            rhs = value;
+            equation = on_new (subst (λ (n : ℕ). IsRhs old.grid old.goal (g_of new) u n) is (IsRhs-apart old.grid old.goal (g_of old) (g_of new) u u (R u) value w (apart_itself u) (equation u held)));
+            queued = out ∙ key_none (g_of new u) value w.here;
+          });
+    }
+  where
+    on_new : IsRhs old.grid old.goal (g_of new) u value → IsRhs new.grid new.goal (g_of new) u value
+    on_new a = subst (λ (t : Chart). IsRhs t new.goal (g_of new) u value) (sym same) (subst (λ (p : Point). IsRhs old.grid p (g_of new) u value) (sym goal) a)
+
+-- a cell that is neither the one that was written nor next to it is good
+pub IsGood-apart : (g : Point → ℕ) (s : Lifelong) (from c : Point) (was now : ℕ) → Follows g s from was now → Holds s.grid.size c → c ≢ from → (IsAdjacent from c → ⊥) → IsGood s c
+IsGood-apart g s from c was now follows held ne apart = elim (follows.each c held ne) [
+  | inl good ↦ good
+  | inr lags ↦ record {
+    rhs = lags.rhs;
+    equation = IsRhs-apart s.grid s.goal g (g_of s) from c lags.rhs now follows.written apart lags.equation;
+    queued = lags.queued;
+  }
+]
