@@ -1,0 +1,83 @@
+"""The recipes of demo/, run as they are written."""
+import subprocess
+import sys
+
+from .running import PATIENCE, Program, TOP, bytes_of, is_answered, run, want
+
+DEMO = f"{TOP}/demo"
+
+
+def demo_session():
+    is_answered(["serve", "--map", f"{DEMO}/corridor.map"], bytes_of(f"{DEMO}/corridor.session"), bytes_of(f"{DEMO}/corridor.answers").decode())
+
+
+def demo_drill():
+    status, said, _ = run(["drill", "--map", f"{DEMO}/corridor.map", f"{DEMO}/east.script", f"{DEMO}/west.script"])
+    want("the status", status, 0)
+    report = bytes_of(f"{DEMO}/corridor.answers").decode().split("solves yes\n")[1].split("end\n")[0] + "end\n"
+    want("the report", said, report + "audit same\n")
+
+
+CLIENT = """agent 0 0,0 6,0 -> version 1
+agent 1 6,0 0,0 -> version 2
+path 0 0,0 1,0 2,0 3,0 4,0 5,0 6,0 -> version 3
+path 1 6,0 5,0 4,0 3,0 2,0 1,0 0,0 -> version 4
+solves vertex swap -> solves no
+in the way: vertex 3 0 1 3,0
+commit -> version 5
+solves vertex swap -> solves yes
+"""
+
+
+def demo_client():
+    """The client of demo/ drives a live desk."""
+    words = [sys.executable, f"{DEMO}/client.py", Program.path, f"{DEMO}/corridor.map"]
+    ran = subprocess.run(words, capture_output=True, timeout=PATIENCE, text=True)
+    want("standard output", ran.stdout, CLIENT)
+    want("the status", ran.returncode, 0)
+
+
+def checked(*words):
+    ran = subprocess.run([sys.executable, f"{DEMO}/check.py", Program.path, *words], capture_output=True, timeout=PATIENCE, text=True)
+    return ran.returncode, ran.stdout.partition("\n")[0], ran.stderr.partition("\n")[0]
+
+
+VERDICTS = [
+    ("path 0 0,0 1,0 2,0\n", [], (0, "right", "")),
+    ("path 0 0,0 1,0 2,0\n", ["vertex", "edge", "follow", "swap", "cycle"], (0, "right", "")),
+    ("path 0 0,0 1,0\n", [], (1, "agents 1", "")),
+    ("path 0 0,0 2,0\n", [], (2, "", "path 0 0,0 2,0: refused faulty 0 not-a-step 1")),
+    ("path 7 0,0\n", [], (2, "", "path 7 0,0: refused faulty 0 unknown-agent")),
+    ("# a remark\n\npath 0 0,0 1,0 2,0\n", [], (0, "right", "")),
+    ("goal 0 0,0\n", [], (2, "", "goal 0 0,0: no path")),
+    ("path 0 0,0 1,0 x\n", [], (2, "", "path 0 0,0 1,0 x: bad 1 shape")),
+    ("path 0 0,0 1,0 2,0\n", ["crash"], (2, "", "solves crash: bad 2 shape")),
+]
+
+
+def demo_check():
+    """The recipe for authors of solvers: right, wrong, and no paths at all."""
+    corridor = f"{DEMO}/corridor"
+    want("the corridor", checked(f"{corridor}.map", f"{corridor}.scen", "2", f"{corridor}.paths"), (0, "right", ""))
+    for paths, kinds, verdict in VERDICTS:
+        with open("paths", "w") as file:
+            file.write(paths)
+        want(f"the verdict on {paths!r}", checked("m", "s", "1", "paths", *kinds), verdict)
+    want("the verdict on no file", checked("m", "s", "1", "none"), (2, "", "none: [Errno 2] No such file or directory: 'none'"))
+    want("the verdict on no map", checked("none", "s", "1", "paths"), (2, "", "mapf_desk: can't read none"))
+    want("the verdict on no words", checked("m")[0], 2)
+    words = [sys.executable, f"{DEMO}/check.py", "./none", "m", "s", "1", "paths"]
+    want("the status with no program", subprocess.run(words, capture_output=True, timeout=PATIENCE).returncode, 2)
+
+
+def demo_audit():
+    """The report from scratch is the one of a session, byte for byte."""
+    words = ["--map", f"{DEMO}/warehouse.map", "--scen", f"{DEMO}/warehouse.scen", "--agents", "100"]
+    audited, served = run(["audit", *words]), run(["serve", *words], b"report\n")
+    want("the audit", audited, served)
+    want("how many lines it has", audited[1].count("\nagent "), 100)
+
+
+def tests():
+    for test in (demo_session, demo_drill, demo_client, demo_check, demo_audit):
+        yield test.__name__, test

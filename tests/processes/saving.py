@@ -1,0 +1,154 @@
+"""What a session saves, and what is left where a save fails."""
+import os
+import resource
+import signal
+
+from .running import Planner, bytes_of, is_answered, is_fault, is_run, put, remove, run, want
+from .texts import ADD, ARRIVED, COMMITS, FILES, JOURNAL, LEFT, MAP, MEETING, ONE_ENTRY
+
+
+def save(words, given, out, file):
+    """A session that saves its journal, and leaves no other file behind."""
+    before = set(os.listdir())
+    is_answered(["serve", *words.split(), "--save", file], given, out)
+    want("the files that came", set(os.listdir()) - before - {file}, set())
+    return bytes_of(file)
+
+
+def saved():
+    """What is saved is the journal, and goes on in the next session, in one file."""
+    first = save("--map m", ADD, "version 1\n", "desk")
+    want("the journal", first, b"journal 2\nmode stay\nentry 0 0 0 1\nagent 0 0,0 2,0\nend 1\n")
+    second = save("--map m --journal desk", b"path 0 0,0 1,0 2,0\npath 0 2,0\n", "version 2\nrefused faulty 0 not-from-start\n", "desk")
+    want("the journal", second, first.replace(b"end 1", b"entry 0 1 0 1\npath 0 0,0 1,0 2,0\nend 2"))
+    third = save("--map m --journal desk", b"", "", "desk")
+    want("the journal with nothing added", third, second)
+    is_answered(["audit", "--map", "m", "--journal", "desk"], b"", "version 2\n" + ARRIVED)
+    is_answered(["serve", "--map", "m", "--journal", "desk"], b"report\n", "version 2\n" + ARRIVED)
+    want("the journal that was only read", bytes_of("desk"), second)
+    other = save("--map m --journal desk", b"drop 0\n", "version 3\n", "other")
+    want("the last line", other.split(b"\n")[-2], b"end 3")
+    want("the journal that was saved elsewhere", bytes_of("desk"), second)
+    remove("desk", "other")
+
+
+def saved_in_another_mode():
+    text = save("--map m --mode disappear", MEETING, COMMITS + LEFT, "left")
+    want("the mode", text.split(b"\n")[1], b"mode disappear")
+    is_answered(["audit", "--map", "m", "--mode", "disappear", "--journal", "left"], b"", "version 3\n" + LEFT)
+    is_fault(["serve", "--map", "m", "--journal", "left"], "journal: mode differs")
+    remove("left")
+
+
+def saved_from_a_map_on_standard_input():
+    text = save("", MAP + ADD, "version 1\n", "typed")
+    want("the journal", text, ONE_ENTRY)
+    remove("typed")
+
+
+def not_saved_where_no_session_begins():
+    """A fault before the session leaves the file as it was, and makes none."""
+    put("kept", JOURNAL)
+    is_fault(["serve", "--map", "m", "--scen", "s", "--agents", "1", "--journal", "journal_line", "--save", "kept"], "journal: bad line 3")
+    is_fault(["serve", "--save", "kept"], "map: bad size", FILES["map_size"])
+    want("the file", bytes_of("kept"), JOURNAL)
+    is_fault(["serve", "--map", "map_octile", "--save", "never"], "map: not octile")
+    is_fault(["serve", "--save", "never"], "map: not octile")
+    left = [it for it in ("never", "never.new", "kept.new") if os.path.exists(it)]
+    want("the other files", left, [])
+    remove("kept")
+
+
+def broken_session_is_saved():
+    """Where the input or the output fails, what was committed before is saved."""
+    words = ["serve", "--map", "m", "--save", "desk"]
+    with open("/dev/full", "wb") as full:
+        is_run(words, ADD, (2, "", "mapf_desk: write failed\n"), stdout=full)
+    want("the journal", bytes_of("desk"), ONE_ENTRY)
+    remove("desk")
+    folder = os.open(".", os.O_RDONLY)
+    is_run(words, b"", (2, "", "mapf_desk: read failed\n"), stdin=folder)
+    os.close(folder)
+    want("the journal", bytes_of("desk"), b"journal 2\nmode stay\nend 0\n")
+    remove("desk")
+
+
+def saved_after_a_fault():
+    """Where a bound ends the session, what was committed before is saved."""
+    is_fault(["serve", "--map", "m", "--save", "desk"], "too many lines", ADD + b"\n" * 1000000, "version 1\n")
+    want("the journal", bytes_of("desk"), ONE_ENTRY)
+    remove("desk")
+
+
+def small_disk():
+    """No file may have more than 20 bytes, as on a full disk."""
+    signal.signal(signal.SIGXFSZ, signal.SIG_IGN)
+    resource.setrlimit(resource.RLIMIT_FSIZE, (20, 20))
+
+
+def not_saved_on_a_full_disk():
+    """The file is as it was, and nothing of the new one is left. Where the session has a fault too, both are told."""
+    put("kept", JOURNAL)
+    words = ["serve", "--map", "m", "--save", "kept"]
+    is_fault(words, "can't write kept", ADD, "version 1\n", preexec_fn=small_disk)
+    want("the file", bytes_of("kept"), JOURNAL)
+    want("whether a new one is left", os.path.exists("kept.new"), False)
+    _, _, complained = run([*words, "-v"], ADD, preexec_fn=small_disk)
+    large, full = "  File too large (os error 27)\n", "  No space left on device (os error 28)\n"
+    want("standard error", complained, "mapf_desk: can't write kept\n" + large)
+    for flag, first, second in (([], "", ""), (["-v"], full, large)):
+        with open("/dev/full", "wb") as device:
+            status, _, complained = run([*words, *flag], ADD, stdout=device, preexec_fn=small_disk)
+        want("standard error", complained, f"mapf_desk: write failed\n{first}mapf_desk: can't write kept\n{second}")
+        want("the status", status, 2)
+    want("the file", bytes_of("kept"), JOURNAL)
+    remove("kept")
+
+
+def not_saved_where_the_file_became_a_folder():
+    """What was looked at before the session is another thing at its end."""
+    planner = Planner("serve", "--map", "m", "--save", "folder")
+    planner.ask(ADD, b"version 1\n")
+    os.mkdir("folder")
+    want("the end", planner.end_all(), (2, b"", b"mapf_desk: can't write folder\n"))
+    want("whether a new one is left", os.path.exists("folder.new"), False)
+    os.rmdir("folder")
+
+
+def not_saved_where_the_folder_went():
+    os.mkdir("folder")
+    planner = Planner("serve", "--map", "m", "--save", "folder/desk", "-v")
+    planner.ask(ADD, b"version 1\n")
+    os.rmdir("folder")
+    more = b"  No such file or directory (os error 2)\n"
+    want("the end", planner.end_all(), (2, b"", b"mapf_desk: can't write folder/desk\n" + more))
+
+
+def saved_in_place_of_a_link():
+    """The saved file is a new one: a link is gone, what it named is as it was, and a new file left before is replaced."""
+    put("named", JOURNAL), put("desk.new", b"left behind, and longer than what is saved in its place: " * 9)
+    os.symlink("named", "desk")
+    is_answered(["serve", "--map", "m", "--save", "desk"], ADD, "version 1\n")
+    want("whether it is a link", os.path.islink("desk"), False)
+    want("the journal", bytes_of("desk"), ONE_ENTRY)
+    want("what the link named", bytes_of("named"), JOURNAL)
+    want("whether a new one is left", os.path.exists("desk.new"), False)
+    remove("named", "desk")
+
+
+def saved_into_a_folder():
+    os.mkdir("folder")
+    save("--map m", ADD, "version 1\n", "folder/desk")
+    want("what is there", os.listdir("folder"), ["desk"])
+    want("the journal", bytes_of("folder/desk"), ONE_ENTRY)
+    full = os.path.abspath("folder/desk")
+    is_answered(["serve", "--map", "m", "--journal", full, "--save", full], b"drop 0\n", "version 2\n")
+    want("the last line", bytes_of(full).split(b"\n")[-2], b"end 2")
+    os.remove(full), os.rmdir("folder")
+
+
+def tests():
+    for test in (saved, saved_in_another_mode, saved_from_a_map_on_standard_input, not_saved_where_no_session_begins, broken_session_is_saved,
+                 saved_after_a_fault, not_saved_on_a_full_disk, not_saved_where_the_file_became_a_folder, not_saved_where_the_folder_went,
+                 saved_in_place_of_a_link, saved_into_a_folder):
+        yield test.__name__, test

@@ -1,0 +1,157 @@
+"""A save, one call of the system at a time: before each call the session is killed, or the call is refused.
+
+The session sets a filter on its own calls as it starts (seccomp, of Linux 5.5 and later): each that makes, writes,
+syncs, names or removes a file waits until this script lets it go on. The calls of the save are those from the one on
+that makes the new file.
+"""
+import ctypes
+import errno
+import fcntl
+import os
+import select
+import socket
+import struct
+
+from .kills import is_whole
+from .running import PATIENCE, Wrong, bytes_of, is_run, put, remove, start, want
+from .texts import ONE_ENTRY
+
+# Calls of x86-64 Linux by their numbers.
+CALLS = {1: "write", 74: "sync", 75: "sync", 82: "rename", 264: "rename", 316: "rename", 87: "remove", 263: "remove", 257: "make", 2: "make"}
+MAKES = 0x40  # the flag of a call that opens a file, where it also makes it
+NO_NEW_PRIVILEGES, SECCOMP, FILTER, LISTENING = 38, 317, 1, 8
+RECEIVE, ANSWER, GO_ON = 0xC0502100, 0xC0182101, 1
+
+SAVED = ONE_ENTRY.replace(b"end 1", b"entry 0 1 0 1\ndrop 0\nend 2")
+SAVE = ["make", "write", "sync", "rename", "sync"]
+WORDS = ["serve", "--map", "m", "--journal", "kept", "--save", "kept", "-v"]
+
+
+def code_of_filter():
+    """The filter: the calls above are asked about, those that open a file where they make it; all others go on."""
+    load, is_equal, has, answer = 0x20, 0x15, 0x45, 6
+    asks, lets_go = (answer, 0, 0, 0x7FC00000), (answer, 0, 0, 0x7FFF0000)
+    code = []
+    for call, name in CALLS.items():
+        code.append((load, 0, 0, 0))
+        if name == "make":
+            flags = 32 if call == 257 else 24
+            code += [(is_equal, 0, 4, call), (load, 0, 0, flags), (has, 0, 1, MAKES), asks, lets_go]
+        else:
+            code += [(is_equal, 0, 1, call), asks]
+    return [*code, lets_go]
+
+
+def set_filter(sender):
+    """What the session does as it starts: it sets the filter, and sends what tells of its calls."""
+    code = code_of_filter()
+    text = b"".join(struct.pack("HBBI", *it) for it in code)
+    library = ctypes.CDLL(None, use_errno=True)
+
+    def begin():
+        held = ctypes.create_string_buffer(text, len(text))
+        made = ctypes.create_string_buffer(struct.pack("HxxxxxxQ", len(code), ctypes.addressof(held)))
+        library.prctl(NO_NEW_PRIVILEGES, 1, 0, 0, 0)
+        told = library.syscall(SECCOMP, FILTER, LISTENING, made)
+        if told < 0:
+            raise OSError(ctypes.get_errno(), "no filter of calls")
+        socket.send_fds(sender, [b"."], [told])
+        os.close(told)
+    return begin
+
+
+class Stepped:
+    """A session that saves, whose calls wait."""
+
+    def __init__(self, lines):
+        here, there = socket.socketpair()
+        with here, there:
+            self.process = start(WORDS, preexec_fn=set_filter(there))
+            self.told = socket.recv_fds(here, 1, 1)[1][0]
+        self.process.stdin.write(lines)
+        self.process.stdin.close()
+
+    def calls(self):
+        """Gives each call that waits, with its name; it goes on or is refused by `answer`."""
+        poll = select.poll()
+        poll.register(self.told, select.POLLIN)
+        while True:
+            ready = poll.poll(PATIENCE * 1000)
+            if not ready:
+                self.process.kill()
+                raise Wrong("no call, and no end")
+            if not ready[0][1] & select.POLLIN:
+                return
+            notice = bytearray(80)
+            fcntl.ioctl(self.told, RECEIVE, notice)
+            number, _, _, call = struct.unpack_from("QIIi", notice)
+            yield number, CALLS[call]
+
+    def answer(self, number, refused=0):
+        reply = struct.pack("QqiI", number, 0, -refused, 0 if refused else GO_ON)
+        fcntl.ioctl(self.told, ANSWER, bytearray(reply))
+
+    def end(self):
+        os.close(self.told)
+        out, err = self.process.stdout.read(), self.process.stderr.read()
+        self.process.stdout.close(), self.process.stderr.close()
+        return self.process.wait(PATIENCE), out, err
+
+
+def step(at=None, refused=0):
+    """A session saves, and is killed before that call of the save or has it refused. Gives the save's calls and its end."""
+    put("kept", ONE_ENTRY)
+    session, seen = Stepped(b"drop 0\n"), []
+    for number, call in session.calls():
+        if seen or call == "make":
+            seen.append(call)
+        stops = len(seen) - 1 == at and seen[-1:] == [call]
+        if stops and not refused:
+            session.process.kill()
+            session.process.wait(PATIENCE)
+            break
+        session.answer(number, refused if stops else 0)
+    return seen, session.end()
+
+
+def calls_of_a_save():
+    """The new file is written, synced, and takes the name; then the folder is synced. Nothing else is done."""
+    seen, ended = step()
+    want("the calls", seen, SAVE)
+    want("the end", ended, (0, b"version 2\n", b""))
+    want("the file", bytes_of("kept"), SAVED)
+    want("whether a new one is left", os.path.exists("kept.new"), False)
+    remove("kept")
+
+
+def killed_before_each_call():
+    """The file is the journal before or after, whole, and is read; the next save replaces what is left."""
+    for at, call in enumerate(SAVE):
+        seen, (status, out, complained) = step(at)
+        want("the calls", seen, SAVE[: at + 1])
+        want("the end", (status, out, complained), (-9, b"version 2\n", b""))
+        want(f"the file before the call {call}", bytes_of("kept"), SAVED if at > SAVE.index("rename") else ONE_ENTRY)
+        want("whether a new one is left", os.path.exists("kept.new"), 0 < at <= SAVE.index("rename"))
+        is_whole("kept")
+        put("kept", ONE_ENTRY)
+        is_run(WORDS, b"drop 0\n", (0, "version 2\n", ""))
+        want("the file", bytes_of("kept"), SAVED)
+        want("whether a new one is left", os.path.exists("kept.new"), False)
+    remove("kept")
+
+
+def refused_at_each_call():
+    """A save whose call is refused is told, and leaves the file as it was and no new one; the last call comes too late for that."""
+    for at, call in enumerate(SAVE):
+        seen, ended = step(at, errno.EIO)
+        want("the end", ended, (2, b"version 2\n", b"mapf_desk: can't write kept\n  Input/output error (os error 5)\n"))
+        behind = [it for it in seen[at + 1 :] if it != "write"]  # (the fault is written on standard error)
+        want("the calls", (seen[: at + 1], behind), (SAVE[: at + 1], ["remove"] if at else []))
+        want(f"the file behind the call {call}", bytes_of("kept"), SAVED if at == len(SAVE) - 1 else ONE_ENTRY)
+        want("whether a new one is left", os.path.exists("kept.new"), False)
+    remove("kept")
+
+
+def tests():
+    for test in (calls_of_a_save, killed_before_each_call, refused_at_each_call):
+        yield test.__name__, test
