@@ -7,6 +7,7 @@ from .texts import ADD, FILES, MAP, RESTING
 # Words, standard input, and a text of standard error where standard output takes nothing.
 PRINTING = [
     ("answer", "serve --map m", b"version\n"),
+    ("last_answer", "serve --map m", b"version"),
     ("answer_of_a_typed_map", "", MAP + b"version\n"),
     ("audit", "audit --map m", b""),
     ("drill", "drill --map m one", b""),
