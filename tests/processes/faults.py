@@ -43,7 +43,7 @@ FAULTS = [
     ("no_journal_though_it_is_to_be_saved", "serve --map m --journal none --save none", "can't read none"),
     ("journal_before_what_is_saved", "serve --map m --journal none --save nowhere/j", "can't read none"),
     ("save_in_no_folder", "serve --map m --save nowhere/j", "can't write nowhere/j"),
-    ("save_in_a_file", "serve --map m --save m/j", "can't write m/j"),
+    ("save_in_a_file", "serve --map map_size --save m/j", "can't write m/j"),
     ("save_as_a_folder", "serve --map m --save .", "can't write ."),
     ("save_on_a_device", "serve --map m --save /dev/full", "can't write /dev/full"),
     ("save_before_what_stands_in_a_file", "serve --map map_size --save nowhere/j", "can't write nowhere/j"),

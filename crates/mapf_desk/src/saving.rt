@@ -64,11 +64,10 @@ pub fn save_journal<'a, R: Files + AllocGlobal>(
     }
 }
 
-// The folder that a file is in.
+// The folder that a file is in, with the slash behind it: so a file isn't opened in its place.
 fn folder_of(file: &str) -> &str {
     match file.rfind('/') {
-        Some(0) => "/",
-        Some(end) => file.get(..end).unwrap_or("."),
+        Some(end) => file.get(..=end).unwrap_or("."),
         None => ".",
     }
 }
