@@ -1,5 +1,5 @@
 -- The edits before a repair, and the state in which it begins.
-use Rattle.std.specs.Prelude.{Bool, true, false, Option, Some, None, IsTrue, ◌==◌, ◌&&◌, ◌↔◌, Contains, min}
+use Rattle.std.specs.Prelude.{Bool, true, false, Option, Some, None, IsTrue, ◌==◌, ◌&&◌, ◌↔◌, Contains}
 use Rattle.std.specs.List.{slice_get}
 use Rattle.std.proofs.Common.{◌≡◌, ℕ, ◌<◌, ◌≤◌, ◌⊎◌, inl, inr, List, [], ◌∷◌, length, refl, sym, ap, subst, ◌∙◌, arith, get_or}
 use Rattle.std.proofs.lemmas.List.{ext_get_or, get_or-replicate, length-replicate}
@@ -7,7 +7,6 @@ use Rattle.std.proofs.lemmas.Option.{unwrap_or-slice_get, slice_get-get_or}
 use Rattle.std.specs.Option.{unwrap_or}
 use Rattle.std.proofs.lemmas.List.Elements.{Contains-append_left, Contains-append_right, Contains-append_cases}
 use Rattle.std.proofs.lemmas.Grind.{common_steps}
-use Rattle.std.proofs.lemmas.Bool.{cases_eq}
 use Rattle.grid_cells.specs.Cell.{Point, IsAdjacent}
 use Rattle.grid_cells.specs.Size.{Extent, IsSize, Holds}
 use Rattle.grid_cells.specs.Grid.{Chart, IsOpen, flag_index}
@@ -16,7 +15,8 @@ use Rattle.cell_queue.proofs.Indexes.{index_below}
 use Rattle.goal_fields.specs.declared.lifelong.Lifelong.{Lifelong}
 use Rattle.goal_fields.specs.declared.search.Search.{Search}
 use Rattle.goal_fields.specs.Search.{IsFound, mark_of}
-use Rattle.goal_fields.specs.Repair.{IsRhs, key_for}
+use Rattle.goal_fields.specs.Repair.{IsRhs}
+use Rattle.goal_fields.proofs.FollowLemmas.{key_none_is}
 use Rattle.goal_fields.proofs.RepairEnds.{IsRhs-distance}
 use Rattle.goal_fields.specs.Marks.{far, mark_at, IsWhole}
 use Rattle.goal_fields.specs.Target.{flag_at, Covers}
@@ -24,7 +24,7 @@ use Rattle.goal_fields.specs.Lifelong.{g_of, IsRoomy, IsGood, IsTouched, IsConsi
 use Rattle.goal_fields.specs.Adopting.{IsAdopting}
 use Rattle.goal_fields.specs.Rest.{IsAtRest, IsRoomOn}
 use Rattle.goal_fields.proofs.Neighbours.{IsAdjacent-sym, cell_at, cases_cell, cases_held, cases_adjacent}
-use Rattle.goal_fields.proofs.UpdateLemmas.{key_none, key_min}
+use Rattle.goal_fields.proofs.UpdateLemmas.{key_none}
 use Rattle.goal_fields.proofs.TakeLemmas.{count_over-same, rhs_in, rhs_in-good}
 
 -- the map has a flag for the cell
@@ -111,16 +111,10 @@ pub IsSettled-ended : (d : List ℕ) (s : Lifelong) (floor : ℕ) → IsInRepair
 IsSettled-ended d s floor inv empty =
     record {
       roomy = inv.roomy;
-      consistent = λ c h. (let same : inv.rhs c ≡ g_of s c = agree c (sym (inv.queued c h) ∙ empty c (rw inv.roomy.queue h)) in
+      consistent = λ c h. (let same : inv.rhs c ≡ g_of s c = sym (key_none_is (g_of s c) (inv.rhs c) (sym (empty c (rw inv.roomy.queue h)) ∙ inv.queued c h)) in
           subst (λ (r : ℕ). IsRhs s.grid s.goal (g_of s) c r) same (inv.repairing.equation c h));
       empty = empty;
     }
-  where
-    agree : (c : Point) → key_for (g_of s c) (inv.rhs c) ≡ None → inv.rhs c ≡ g_of s c
-    agree c none = elim (cases_eq (g_of s c) (inv.rhs c)) [
-      | inl e ↦ sym e
-      | inr ne ↦ (let key : Some (min (g_of s c) (inv.rhs c)) ≡ None = key_min (g_of s c) (inv.rhs c) (min (g_of s c) (inv.rhs c)) ne refl ∙ none in cc)
-    ]
 
 -- the one element of a list
 only_one : (x v : Point) → Contains (x ∷ []) v → v ≡ x
