@@ -62,8 +62,8 @@ pub fn turn<R: AllocGlobal + Clock>(rt: &R, grid: &Grid, goal: Cell) -> Result<M
     })
 }
 
-// The time since then; the greatest one where the clock doesn't tell.
-fn since<R: Clock>(rt: &R, start: Option<Instant>) -> Duration {
+/// The time since then; the greatest one where the clock doesn't tell.
+pub fn since<R: Clock>(rt: &R, start: Option<Instant>) -> Duration {
     match start {
         Some(start) => start.elapsed(rt).unwrap_or(Duration::MAX),
         None => Duration::MAX,
