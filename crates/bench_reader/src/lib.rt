@@ -14,6 +14,7 @@ mod writer;
 
 pub use header::rows_announced;
 pub use laws::{one_map_answer, one_scen_answer};
+pub use lines::{is_blank, is_blank_line, next_line, row_of};
 pub use maps::{MapFault, read_map};
 pub use scens::{ScenFault, read_scen};
 pub use tasks::Task;

@@ -4,8 +4,9 @@ ghost use Rattle.bench_reader.specs.Lines.{lines_of, line_at, is_blank, is_blank
 
 use bstr::ByteSlice;
 
-/// The first line of a text, without its line feed, and the text behind it.
-pub(crate) fn next_line(text: &[u8]) -> Option<(&[u8], &[u8])>
+/// The first line of a text, without its line feed, and the text behind it. A last line without a
+/// line feed counts if it isn't empty.
+pub fn next_line(text: &[u8]) -> Option<(&[u8], &[u8])>
     ensures lines { MatchOption result (lines_of text.now ≡ []) (λ r. lines_of text.now ≡ r.0.now ∷ lines_of r.1.now) }
     ensures shorter { MatchOption result (text.now ≡ []) (λ r. length r.1.now < length text.now) }
 {
@@ -28,21 +29,22 @@ pub(crate) fn first_line(text: &[u8]) -> (&[u8], &[u8])
     }
 }
 
-/// Space, tab and carriage return.
-pub(crate) fn is_blank(byte: u8) -> bool
+/// Whether the byte is a space, a tab or a carriage return.
+pub fn is_blank(byte: u8) -> bool
     ensures { result ≡ is_blank byte }
 {
     byte == b' ' || byte == b'\t' || byte == b'\r'
 }
 
-pub(crate) fn is_blank_line(line: &[u8]) -> bool
+/// Whether the line has blanks alone, or nothing.
+pub fn is_blank_line(line: &[u8]) -> bool
     ensures { result ≡ is_blank_line line.now }
 {
     line.iter().all(|byte| is_blank(*byte))
 }
 
 /// The line without the blanks at its end.
-pub(crate) fn row_of(line: &[u8]) -> &[u8]
+pub fn row_of(line: &[u8]) -> &[u8]
     ensures { result.now ≡ row_of line.now }
 {
     let mut row = line;

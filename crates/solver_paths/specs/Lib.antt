@@ -1,0 +1,10 @@
+pub mod Lines
+pub mod Answers
+pub mod Forms
+pub mod Cells
+pub mod Rows
+pub mod Heads
+pub mod Times
+pub mod Agents
+pub mod Sessions
+pub mod Texts
