@@ -7,6 +7,7 @@ mod examples;
 mod levels;
 mod runs;
 mod texts;
+mod upgrades;
 
 use bstr::ByteSlice;
 use examples::Example;

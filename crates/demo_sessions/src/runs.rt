@@ -1,10 +1,10 @@
 //! Runs of what the program's words do.
 use crate::examples::Example;
+use crate::upgrades::is_upgraded;
 use desk_audit::NoGate;
 use desk_core::Limit;
 use desk_report::{Spout, Tap};
 use desk_runs::{RunFault, run_audit, run_drill, run_serve};
-use desk_session::upgrade_journal;
 use plan_table::Mode;
 use std::alloc::{AllocError, Global};
 use std::sync::Wait;
@@ -19,8 +19,8 @@ pub struct Opening<'a> {
     pub mode: Mode,
 }
 
-// What was written, and the line of the fault, if there is one.
-fn printed(
+/// What was written, and the line of the fault, if there is one.
+pub fn printed(
     alloc: Global,
     mut written: Vec<u8>,
     fault: Option<RunFault>,
@@ -117,14 +117,6 @@ fn served(
     Ok((text, lines))
 }
 
-// The journal's text in version 2, or the fault's line.
-fn upgraded(alloc: Global, journal: &[u8]) -> Result<Vec<u8>, AllocError> {
-    match upgrade_journal(alloc, journal) {
-        Ok(text) => Ok(text),
-        Err(fault) => printed(alloc, Vec::new(alloc), Some(RunFault::from(fault))),
-    }
-}
-
 // Whether audits by any number of workers print that text.
 fn is_audited<R: Threads + Wait>(
     rt: &R,
@@ -160,7 +152,7 @@ fn is_printed<R: Threads + Wait + Sync>(
         return Ok(counted && printed.as_slice() == text);
     }
     if let Some(journal) = example.text(alloc, b"upgrade")? {
-        return Ok(upgraded(alloc, journal.as_slice())?.as_slice() == text);
+        return is_upgraded(alloc, journal.as_slice(), text);
     }
     if example.section(b"script").is_some() {
         let scripts = example.texts(alloc, b"script")?;

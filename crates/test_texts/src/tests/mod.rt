@@ -4,7 +4,6 @@ mod edited_maps;
 mod edited_scens;
 mod edited_sessions;
 mod journals;
-mod long_commits;
 mod long_journals;
 mod plain;
 mod samples;
