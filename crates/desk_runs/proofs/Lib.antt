@@ -2,6 +2,9 @@ pub mod Running
 pub mod Unserved
 pub mod ScriptSessions
 pub mod Numbering
+pub mod Gathering
 pub mod SameReports
 pub mod Coming
 pub mod Returning
+pub mod ScriptFaults
+pub mod Drilled

@@ -7,3 +7,4 @@ pub mod Saved
 pub mod Reported
 pub mod Audits
 pub mod Drills
+pub mod DrillFaults

@@ -1,6 +1,7 @@
-ghost use Rattle.std.specs.Prelude.{◌≤◌, IfOk, OnOk, option_map};
+ghost use Rattle.std.specs.Prelude.{◌≡◌, ◌≤◌, ◌||◌, IfErr, IfOk, OnOk, option_map};
 ghost use Rattle.desk_report.specs.Report.{IsReportOf};
-ghost use Rattle.desk_runs.specs.Audits.{Audits};
+ghost use Rattle.desk_runs.specs.Audits.{Audits, FailsAudit};
+ghost use Rattle.desk_runs.specs.Faults.{is_write_fault};
 
 use crate::faults::RunFault;
 use crate::opening::open_desk;
@@ -33,7 +34,11 @@ pub fn run_audit<T: Threads + Wait, W: Sink>(
     writer: &mut W,
 ) -> Result<(), RunFault>
     requires workers { (1 ≤ workers) × (workers ≤ 64) }
-    ensures { OnOk result (Audits map.now (option_map (λ text. text.now) scen.entry) agents mode (option_map (λ text. text.now) journal.entry) (W.held writer.old) (W.held writer.new)) }
+    ensures audited { OnOk result (Audits map.now (option_map (λ text. text.now) scen.entry) agents mode (option_map (λ text. text.now) journal.entry)
+        (W.held writer.old) (W.held writer.new)) }
+    ensures refused { IfErr result (FailsAudit map.now (option_map (λ text. text.now) scen.entry) agents mode (option_map (λ text. text.now) journal.entry)
+        (W.held writer.old) (W.held writer.new)) }
+    ensures broken { W.broken writer.new ≡ (W.broken writer.old || is_write_fault result) }
 {
     let Some(limit) = Limit::new(MOST_ENTRIES) else {
         unreachable!()
@@ -64,7 +69,8 @@ pub fn report_of<T: Threads + Wait>(
     workers: u32,
 ) -> Result<Report, RunFault>
     requires workers { (1 ≤ workers) × (workers ≤ 64) }
-    ensures { IfOk result (IsReportOf desk.now.scene.grid desk.now.scene.mode desk.now.scene.rows) }
+    ensures report { IfOk result (IsReportOf desk.now.scene.grid desk.now.scene.mode desk.now.scene.rows) }
+    ensures refused { IfErr result (λ fault. fault ≡ RunFault.OutOfMemory) }
 {
     match audit(rt, alloc, desk.scene(), workers, &NoGate) {
         Ok(report) => Ok(report),

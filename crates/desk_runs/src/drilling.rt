@@ -1,19 +1,20 @@
-ghost use Rattle.std.specs.Prelude.{◌≡◌, ◌↔◌, ◌+◌, ◌≤◌, IfOk, IsTrue, OnOk, option_map};
-ghost use Rattle.std.specs.Io.KnownBytes.{Appends};
+ghost use Rattle.std.specs.Prelude.{◌≡◌, ◌⊎◌, ◌↔◌, ◌≤◌, ◌||◌, length, IfErr, IfOk, IsTrue, option_map};
 ghost use Rattle.desk_core.specs.State.{opening};
 ghost use Rattle.desk_shared.specs.Calls.{IsFirst};
 ghost use Rattle.desk_shared.specs.Passes.{Owns};
-ghost use Rattle.desk_runs.specs.Drills.{Drills, IsEnd, drill_text, same_line, texts_of};
+ghost use Rattle.desk_runs.specs.DrillFaults.{FailsDrill, FailsUnwritten};
+ghost use Rattle.desk_runs.specs.Drills.{ComesTo, Drills, IsEnd, texts_of};
+ghost use Rattle.desk_runs.specs.Faults.{is_write_fault};
 
 use crate::auditing::report_of;
 use crate::faults::RunFault;
 use crate::hearing::{AtGate, Hearing};
-use crate::reporting::put_report;
+use crate::reporting::put_drill;
 use crate::scenes::scene_of;
 use crate::scripts::serve_scripts;
 use desk_audit::Gate;
 use desk_core::{Desk, Limit, MOST_ENTRIES, Reading};
-use desk_report::{Report, Sink, Word, WriteFailed, put_line};
+use desk_report::{Report, Sink, WriteFailed};
 use desk_shared::{Pass, PassLost, ShareFault, SharedDesk};
 use grid_cells::OutOfMemory;
 use plan_table::Mode;
@@ -48,7 +49,11 @@ pub fn run_drill<R: Threads + Wait + Sync, G: Gate, W: Sink>(
     writer: &mut W,
 ) -> Result<bool, RunFault>
     requires workers { (1 ≤ workers) × (workers ≤ 64) }
-    ensures { IfOk result (Drills map.now (option_map (λ text. text.now) scen.entry) agents mode (texts_of scripts.items) (W.held writer.old) (W.held writer.new)) }
+    ensures drilled { IfOk result (Drills map.now (option_map (λ text. text.now) scen.entry) agents mode (texts_of scripts.items)
+        (W.held writer.old) (W.held writer.new)) }
+    ensures refused { IfErr result (FailsDrill map.now (option_map (λ text. text.now) scen.entry) agents mode (texts_of scripts.items)
+        (W.held writer.old) (W.held writer.new)) }
+    ensures broken { W.broken writer.new ≡ (W.broken writer.old || is_write_fault result) }
 {
     let along = AtGate { gate };
     hear_drill(
@@ -75,11 +80,45 @@ pub fn hear_drill<R: Threads + Wait + Sync, H: Hearing + Sync, W: Sink>(
     writer: &mut W,
 ) -> Result<bool, RunFault>
     requires workers { (1 ≤ workers) × (workers ≤ 64) }
-    ensures { IfOk result (Drills map.now (option_map (λ text. text.now) scen.entry) agents mode (texts_of scripts.items) (W.held writer.old) (W.held writer.new)) }
+    ensures drilled { IfOk result (Drills map.now (option_map (λ text. text.now) scen.entry) agents mode (texts_of scripts.items)
+        (W.held writer.old) (W.held writer.new)) }
+    ensures refused { IfErr result (FailsDrill map.now (option_map (λ text. text.now) scen.entry) agents mode (texts_of scripts.items)
+        (W.held writer.old) (W.held writer.new)) }
+    ensures broken { W.broken writer.new ≡ (W.broken writer.old || is_write_fault result) }
 {
     if scripts.len() > MOST_SCRIPTS {
         return Err(RunFault::TooManyScripts);
     }
+    let ended = drilled(
+        rt, alloc, map, scen, agents, mode, workers, scripts, hearing,
+    );
+    let (reading, same) = match ended {
+        Ok(end) => end,
+        Err(fault) => return Err(fault),
+    };
+    match put_drill(writer, &reading, same) {
+        Ok(()) => Ok(same),
+        Err(WriteFailed) => Err(RunFault::WriteFailed),
+    }
+}
+
+// Serves the scripts; gives the last reading, and whether the audit's report is the same.
+fn drilled<R: Threads + Wait + Sync, H: Hearing + Sync>(
+    rt: &R,
+    alloc: Global,
+    map: &[u8],
+    scen: Option<&[u8]>,
+    agents: u32,
+    mode: Mode,
+    workers: u32,
+    scripts: Vec<Vec<u8>>,
+    hearing: &H,
+) -> Result<(Reading, bool), RunFault>
+    requires workers { (1 ≤ workers) × (workers ≤ 64) }
+    requires few { length scripts.items ≤ MOST_SCRIPTS }
+    ensures drilled { IfOk result (λ end. ComesTo map.now (option_map (λ text. text.now) scen.entry) agents mode (texts_of scripts.items) end.0 end.1) }
+    ensures refused { IfErr result (FailsUnwritten map.now (option_map (λ text. text.now) scen.entry) agents mode (texts_of scripts.items)) }
+{
     let scene = match scene_of(alloc, map, scen, agents, mode) {
         Ok(scene) => scene,
         Err(fault) => return Err(fault),
@@ -102,10 +141,7 @@ pub fn hear_drill<R: Threads + Wait + Sync, H: Hearing + Sync, W: Sink>(
         Err(fault) => return Err(fault),
     };
     let same = is_same(&reading.report, &audited);
-    match put_drill(writer, &reading, same) {
-        Ok(()) => Ok(same),
-        Err(WriteFailed) => Err(RunFault::WriteFailed),
-    }
+    Ok((reading, same))
 }
 
 // The desk of the scene, shared by so many planners, and the first pass.
@@ -113,6 +149,7 @@ fn share(alloc: Global, scene: Scene, planners: u32) -> Result<(SharedDesk, Pass
     requires { (1 ≤ planners) × (planners ≤ 256) }
     ensures owned { IfOk result (λ shared. Owns shared.0 shared.1) }
     ensures first { IfOk result (λ shared. IsFirst (opening scene MOST_ENTRIES) planners shared.1.known) }
+    ensures refused { IfErr result (λ fault. fault ≡ RunFault.OutOfMemory) }
 {
     let Some(limit) = Limit::new(MOST_ENTRIES) else {
         unreachable!()
@@ -131,7 +168,8 @@ fn end_sharing<R: Wait>(
     mut first: Pass,
 ) -> Result<(Reading, Desk), RunFault>
     requires { Owns shared first }
-    ensures { IfOk result (λ end. IsEnd first.known end.0 end.1) }
+    ensures ended { IfOk result (λ end. IsEnd shared first end.0 end.1) }
+    ensures refused { IfErr result (λ fault. (fault ≡ RunFault.OutOfMemory) ⊎ (fault ≡ RunFault.PassLost)) }
 {
     let reading = match shared.reading(rt, &mut first) {
         Ok(reading) => reading,
@@ -148,25 +186,4 @@ fn is_same(report: &Report, other: &Report) -> bool
     ensures { IsTrue result ↔ (report.now ≡ other.now) }
 {
     report == other
-}
-
-// Writes whether the audit's report is the same.
-fn put_same<W: Sink>(writer: &mut W, same: bool) -> Result<(), WriteFailed>
-    ensures { OnOk result (Appends (W.held writer.old) (W.held writer.new) (same_line same)) }
-{
-    if same {
-        put_line(writer, b"audit", &[Word::Text(b"same")])
-    } else {
-        put_line(writer, b"audit", &[Word::Text(b"differs")])
-    }
-}
-
-// Writes the reading, and whether the audit's report is the same.
-fn put_drill<W: Sink>(writer: &mut W, reading: &Reading, same: bool) -> Result<(), WriteFailed>
-    ensures { OnOk result (Appends (W.held writer.old) (W.held writer.new) (drill_text reading.now same)) }
-{
-    match put_report(writer, reading.version, &reading.report) {
-        Ok(()) => put_same(writer, same),
-        Err(failed) => Err(failed),
-    }
 }

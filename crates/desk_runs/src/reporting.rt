@@ -1,7 +1,10 @@
-ghost use Rattle.std.specs.Prelude.{OnOk};
+ghost use Rattle.std.specs.Prelude.{◌≡◌, ◌||◌, OnErr, OnOk, is_err};
 ghost use Rattle.std.specs.Io.KnownBytes.{Appends};
+ghost use Rattle.desk_report.specs.Bytes.{AppendsFront};
+ghost use Rattle.desk_runs.specs.Drills.{drill_text, same_line};
 ghost use Rattle.desk_runs.specs.Reported.{reported_text};
 
+use desk_core::Reading;
 use desk_report::{Report, Sink, Word, WriteFailed, put_line, write_report};
 
 /// Writes a version, and a report.
@@ -9,14 +12,40 @@ use desk_report::{Report, Sink, Word, WriteFailed, put_line, write_report};
 /// # Errors
 ///
 /// The writer failed.
+#[tactic(auto, using(desk_report::proofs::Fronts::fronts))]
 pub fn put_report<W: Sink>(writer: &mut W, version: u64, report: &Report) -> Result<(), WriteFailed>
-    ensures { OnOk result (Appends (W.held writer.old) (W.held writer.new) (reported_text version report.now)) }
+    ensures ok { OnOk result (Appends (W.held writer.old) (W.held writer.new) (reported_text version report.now)) }
+    ensures err { OnErr result (AppendsFront (W.held writer.old) (W.held writer.new) (reported_text version report.now)) }
+    ensures broken { W.broken writer.new ≡ (W.broken writer.old || is_err result) }
 {
-    match put_line(writer, b"version", &[Word::Number(version)]) {
-        Err(failed) => Err(failed),
-        Ok(()) => match write_report(report, writer) {
-            Ok(()) => Ok(()),
-            Err(failed) => Err(failed),
-        },
+    put_line(writer, b"version", &[Word::Number(version)])?;
+    write_report(report, writer)
+}
+
+// Writes whether the audit's report is the same.
+fn put_same<W: Sink>(writer: &mut W, same: bool) -> Result<(), WriteFailed>
+    ensures ok { OnOk result (Appends (W.held writer.old) (W.held writer.new) (same_line same)) }
+    ensures err { OnErr result (AppendsFront (W.held writer.old) (W.held writer.new) (same_line same)) }
+    ensures broken { W.broken writer.new ≡ (W.broken writer.old || is_err result) }
+{
+    if same {
+        put_line(writer, b"audit", &[Word::Text(b"same")])
+    } else {
+        put_line(writer, b"audit", &[Word::Text(b"differs")])
     }
+}
+
+/// Writes a reading, and whether the audit's report is the same.
+///
+/// # Errors
+///
+/// The writer failed.
+#[tactic(auto, using(desk_report::proofs::Fronts::fronts))]
+pub fn put_drill<W: Sink>(writer: &mut W, reading: &Reading, same: bool) -> Result<(), WriteFailed>
+    ensures ok { OnOk result (Appends (W.held writer.old) (W.held writer.new) (drill_text reading.now same)) }
+    ensures err { OnErr result (AppendsFront (W.held writer.old) (W.held writer.new) (drill_text reading.now same)) }
+    ensures broken { W.broken writer.new ≡ (W.broken writer.old || is_err result) }
+{
+    put_report(writer, reading.version, &reading.report)?;
+    put_same(writer, same)
 }

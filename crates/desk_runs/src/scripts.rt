@@ -1,7 +1,8 @@
 //! The scripts of a drill, each served in a thread of its own over the shared desk.
-ghost use Rattle.std.specs.Prelude.{◌≡◌, ◌≤◌, ◌<◌, ◌+◌, [], length, OnOk};
+ghost use Rattle.std.specs.Prelude.{◌≡◌, ◌≤◌, ◌<◌, ◌+◌, [], length, IfErr, OnOk};
 ghost use Rattle.desk_shared.specs.Passes.{Owns};
-ghost use Rattle.desk_runs.specs.Drills.{AreServed, IsSession, KeepsFrom, texts_of};
+ghost use Rattle.desk_runs.specs.DrillFaults.{IsScriptsFault};
+ghost use Rattle.desk_runs.specs.Drills.{HasGathered, HasServed, IsSession, KeepsFrom, texts_of};
 
 use crate::faults::RunFault;
 use crate::heard::Heard;
@@ -70,9 +71,11 @@ fn serve_all<'s, E: 's, R: Threads + Wait + Sync, H: Hearing + Sync>(
     requires few { number + length scripts.now < 256 }
     requires kept { KeepsFrom (number + 1) (number + length scripts.now + 1) first.old.known.unused }
     requires nothing_seen { first.old.known.made ≡ [] }
+    requires none_joined { first.old.known.past ≡ [] }
     ensures owned { Owns desk.now first.new }
-    ensures shared { first.new.known.start ≡ first.old.known.start }
-    ensures served { OnOk result (AreServed first.old.known.start first.new.known.made (number + 1) (texts_of scripts.now)) }
+    ensures gathered { HasGathered first.old.known first.new.known }
+    ensures served { OnOk result (HasServed desk.now first.old.known.start first.new.known (number + 1) (texts_of scripts.now)) }
+    ensures refused { IfErr result (IsScriptsFault desk.now first.old.known.start (number + 1) (texts_of scripts.now)) }
 {
     let Some((script, later)) = scripts.split_first() else {
         return Ok(());
@@ -124,9 +127,11 @@ pub fn serve_scripts<R: Threads + Wait + Sync, H: Hearing + Sync>(
     requires few { length scripts.now < 256 }
     requires kept { KeepsFrom 1 (length scripts.now + 1) first.known.unused }
     requires nothing_seen { first.known.made ≡ [] }
+    requires none_joined { first.known.past ≡ [] }
     ensures owned { Owns desk.now result.0 }
-    ensures shared { result.0.known.start ≡ first.known.start }
-    ensures served { OnOk result.1 (AreServed first.known.start result.0.known.made 1 (texts_of scripts.now)) }
+    ensures gathered { HasGathered first.known result.0.known }
+    ensures served { OnOk result.1 (HasServed desk.now first.known.start result.0.known 1 (texts_of scripts.now)) }
+    ensures refused { IfErr result.1 (IsScriptsFault desk.now first.known.start 1 (texts_of scripts.now)) }
 {
     thread::scope(
         thread::scope_env(),
@@ -136,9 +141,11 @@ pub fn serve_scripts<R: Threads + Wait + Sync, H: Hearing + Sync>(
             requires few { length scripts.now < 256 }
             requires kept { KeepsFrom 1 (length scripts.now + 1) first.known.unused }
             requires nothing_seen { first.known.made ≡ [] }
+            requires none_joined { first.known.past ≡ [] }
             ensures owned { Owns desk.entry.now result.0 }
-            ensures shared { result.0.known.start ≡ first.known.start }
-            ensures served { OnOk result.1 (AreServed first.known.start result.0.known.made 1 (texts_of scripts.entry.now)) }
+            ensures gathered { HasGathered first.known result.0.known }
+            ensures served { OnOk result.1 (HasServed desk.entry.now first.known.start result.0.known 1 (texts_of scripts.entry.now)) }
+            ensures refused { IfErr result.1 (IsScriptsFault desk.entry.now first.known.start 1 (texts_of scripts.entry.now)) }
         {
             let mut first = first;
             let ended = serve_all(rt, alloc, scope, desk, &mut first, scripts, 0, hearing);

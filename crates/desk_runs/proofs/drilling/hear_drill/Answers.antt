@@ -1,21 +1,26 @@
-use Rattle.std.proofs.Common.{◌∙◌}
+use Rattle.std.proofs.Common.{◌≡◌, ◌<◌, ◌≤◌, ◌||◌, Bool, length, arith, refl, sym, subst}
+use Rattle.std.proofs.Math.Bool.{or-false}
+use Rattle.desk_runs.specs.declared.drilling.TheConstants.{MOST_SCRIPTS}
+use Rattle.desk_runs.proofs.Drilled.{fails_many, fails_unwritten, fails_writing}
+use Rattle.desk_runs.proofs.ScriptFaults.{unwritten}
 use Rattle.desk_runs.proofs.drilling.hear_drill.Goals as goal
 
-pub returns-in-Ok-put_drill : goal.returns-in-Ok-put_drill
-returns-in-Ok-put_drill g c =
-    let begins = c.in-Ok-share.ensures.first.start in
-    let served = rw (c.in-Ok-ended.is, c.as_slice.ensures.value, begins) at c.serve_scripts-first.ensures.served in
-    record {
-      scene = c.in-Ok.scene;
-      opens = c.in-Ok.ensures.opened;
-      first = c.serve_scripts-first.result.0.known;
-      shared = c.serve_scripts-first.ensures.shared ∙ begins;
-      served = served;
-      reading = c.in-Ok-end_sharing.ended.0;
-      desk = c.in-Ok-end_sharing.ended.1;
-      ended = c.in-Ok-end_sharing.ensures;
-      audited = c.in-Ok-report_of.report;
-      told = c.in-Ok-report_of.ensures;
-      answer = c.is_same-same.ensures;
-      written = c.in-Ok-put_drill.ensures;
-    }
+pub returns-then-len-gt-MOST_SCRIPTS-clause-refused : goal.returns-then-len-gt-MOST_SCRIPTS-clause-refused
+returns-then-len-gt-MOST_SCRIPTS-clause-refused g c =
+    let many : MOST_SCRIPTS < length c.args.scripts.items = omega (arith, c.if-len-gt-MOST_SCRIPTS.true, c.len.ensures) in
+    fails_many _ _ _ _ c.args.scripts.items _ _ many refl
+
+pub returns-in-Err-clause-refused : goal.returns-in-Err-clause-refused
+returns-in-Err-clause-refused g c =
+    let few : length c.args.scripts.items ≤ MOST_SCRIPTS = omega (arith, c.if-len-gt-MOST_SCRIPTS.false, c.len.ensures) in
+    fails_unwritten _ _ _ _ c.args.scripts.items _ _ c.in-Err.fault few c.in-Err.ensures.refused refl
+
+pub returns-in-Err-clause-broken : goal.returns-in-Err-clause-broken
+returns-in-Err-clause-broken g c =
+    let none = unwritten _ _ _ _ _ c.in-Err.fault c.in-Err.ensures.refused in
+    subst (λ (b : Bool). g.W.Sink.broken c.args.writer.now ≡ (g.W.Sink.broken c.args.writer.now || b)) (sym none) (sym (or-false _))
+
+pub returns-clause-refused : goal.returns-clause-refused
+returns-clause-refused g c =
+    let few : length c.args.scripts.items ≤ MOST_SCRIPTS = omega (arith, c.if-len-gt-MOST_SCRIPTS.false, c.len.ensures) in
+    fails_writing _ _ _ _ c.args.scripts.items _ _ c.in-Ok.end.0 c.in-Ok.end.1 few c.in-Ok.ensures.drilled c.in-Err-put_drill.ensures.err

@@ -1,10 +1,12 @@
-use Rattle.std.proofs.Common.{◌≡◌, ◌<◌, ◌+◌, length, arith, ap, ◌∙◌}
+use Rattle.std.proofs.Common.{◌≡◌, ◌<◌, ◌+◌, length, arith, ap, ◌∙◌, Ok, Err, inl, inr}
 use Rattle.std.proofs.lemmas.Result.{on_ok_weaker}
-use Rattle.desk_shared.specs.Passes.{Held}
+use Rattle.desk_shared.specs.Passes.{PassState, Held}
 use Rattle.desk_runs.specs.Drills.{texts_of}
 use Rattle.desk_runs.specs.declared.scripts.Script.{Script}
 use Rattle.desk_runs.proofs.Numbering.{keeps_some, least_is_first, split_keeps}
-use Rattle.desk_runs.proofs.ScriptSessions.{served, served_on}
+use Rattle.desk_runs.proofs.ScriptSessions.{served, served_on, still_for}
+use Rattle.desk_runs.proofs.ScriptFaults.{has_ended, later_fault, on_err}
+use Rattle.desk_runs.proofs.Gathering.{split_gathered, join_gathered, own_kept, one_more_joined}
 use Rattle.desk_runs.proofs.scripts.+serve_all.Goals as goal
 
 pub unreachable-requires : goal.unreachable-requires
@@ -18,6 +20,46 @@ serve_all-others-requires-clause-kept g t c κs within =
     let some : c.args.number + 1 < c.args.number + length c.args.scripts.now + 1 = omega (arith, c.in-Some.ensures.cases.1) in
     split_keeps _ _ _ c.args.first.now.known c.split.new.pass.known c.in-Ok.pass.known planners some c.requires.kept c.in-Ok.ensures.split
 
+pub returns-in-Ok-ended-clause-gathered : goal.returns-in-Ok-ended-clause-gathered
+returns-in-Ok-ended-clause-gathered g t c =
+    join_gathered _ c.split.new.pass.known _ _ _ (split_gathered _ _ _ c.requires.nothing_seen c.requires.none_joined c.in-Ok.ensures.split) c.serve_all-others.ensures.gathered c.join.ensures.joined
+
+pub returns-in-Ok-ended-clause-refused : goal.returns-in-Ok-ended-clause-refused
+returns-in-Ok-ended-clause-refused g t c =
+    let some : c.args.number + 1 < c.args.number + length c.args.scripts.now + 1 = omega (arith, c.in-Some.ensures.cases.1) in
+    let split = c.in-Ok.ensures.split in
+    let promise = c.in-Ok-started.ensures.ok in
+    let start : c.split.new.pass.known.start ≡ c.args.first.now.known.start = λ i. (split.given i).start in
+    let before = ap (λ (p : Script). p.before.value.known) promise ∙ ap (λ (h : Held). h.known) c.of.ensures in
+    let whole = ap (λ (p : Script). p.text.now) promise ∙ c.as_slice-text.ensures.value in
+    let onto : c.in-Ok-started.child.promise.desk.now ≡ c.args.desk.now = ap (λ (p : Script). p.desk.now) promise in
+    let number : c.in-Ok.pass.known.planner ≡ c.args.number + 1 = least_is_first _ _ c.args.first.now.known _ c.requires.kept some split.number in
+    let here =
+    has_ended c.in-Ok-started.child.promise.desk.now c.args.first.now.known.start (c.args.number + 1) c.in-Some.script.now.items c.in-Ok-started.child.promise.text.now _ c.in-Ok.pass.known
+    c.join-pass.result.0.known c.join-pass.result.1 (Ok c.in-Ok-ended.field-0) before split.start (split.made ∙ c.requires.nothing_seen) number whole c.in-Ok-ended.is c.join-pass.ensures.1 in
+    on_err c.serve_all-others.result _ _
+    (λ fault more. rw (ap texts_of c.in-Some.ensures.cases.0) (later_fault c.args.desk.now c.args.first.now.known.start (c.args.number + 1) c.in-Some.script.now.items (texts_of c.in-Some.later.now) fault (c.in-Ok-ended.field-0, rw onto at here) (rw start at more)))
+    c.serve_all-others.ensures.refused
+
+pub returns-in-Err-clause-gathered : goal.returns-in-Err-clause-gathered
+returns-in-Err-clause-gathered g t c =
+    join_gathered _ c.split.new.pass.known _ _ _ (split_gathered _ _ _ c.requires.nothing_seen c.requires.none_joined c.in-Ok.ensures.split) c.serve_all-others.ensures.gathered c.join.ensures.joined
+
+pub returns-in-Err-clause-refused : goal.returns-in-Err-clause-refused
+returns-in-Err-clause-refused g t c =
+    let some : c.args.number + 1 < c.args.number + length c.args.scripts.now + 1 = omega (arith, c.in-Some.ensures.cases.1) in
+    let split = c.in-Ok.ensures.split in
+    let promise = c.in-Ok-started.ensures.ok in
+    let start : c.split.new.pass.known.start ≡ c.args.first.now.known.start = λ i. (split.given i).start in
+    let before = ap (λ (p : Script). p.before.value.known) promise ∙ ap (λ (h : Held). h.known) c.of.ensures in
+    let whole = ap (λ (p : Script). p.text.now) promise ∙ c.as_slice-text.ensures.value in
+    let onto : c.in-Ok-started.child.promise.desk.now ≡ c.args.desk.now = ap (λ (p : Script). p.desk.now) promise in
+    let number : c.in-Ok.pass.known.planner ≡ c.args.number + 1 = least_is_first _ _ c.args.first.now.known _ c.requires.kept some split.number in
+    let here =
+    has_ended c.in-Ok-started.child.promise.desk.now c.args.first.now.known.start (c.args.number + 1) c.in-Some.script.now.items c.in-Ok-started.child.promise.text.now _ c.in-Ok.pass.known
+    c.join-pass.result.0.known c.join-pass.result.1 (Err c.in-Err.fault) before split.start (split.made ∙ c.requires.nothing_seen) number whole c.in-Err.is c.join-pass.ensures.1 in
+    rw (ap texts_of c.in-Some.ensures.cases.0) (inr (inl (c.in-Err.fault, rw onto at here, c.from.ensures)))
+
 pub returns-in-Ok-ended-clause-served : goal.returns-in-Ok-ended-clause-served
 returns-in-Ok-ended-clause-served g t c =
     let some : c.args.number + 1 < c.args.number + length c.args.scripts.now + 1 = omega (arith, c.in-Some.ensures.cases.1) in
@@ -27,14 +69,20 @@ returns-in-Ok-ended-clause-served g t c =
     let start : c.split.new.pass.known.start ≡ c.args.first.now.known.start = λ i. (split.given i).start in
     let before = ap (λ (p : Script). p.before.value.known) promise ∙ ap (λ (h : Held). h.known) c.of.ensures in
     let whole = ap (λ (p : Script). p.text.now) promise ∙ c.as_slice-text.ensures.value in
+    let onto : c.in-Ok-started.child.promise.desk.now ≡ c.args.desk.now = ap (λ (p : Script). p.desk.now) promise in
     let number : c.in-Ok.pass.known.planner ≡ c.args.number + 1 = least_is_first _ _ c.args.first.now.known _ c.requires.kept some split.number in
+    let numbered : c.join-pass.result.0.known.planner ≡ c.args.number + 1 = still_for _ _ _ _ _ c.join-pass.ensures.1 ∙ ap (λ (p : PassState). p.planner) before ∙ number in
     let here =
     served c.args.first.now.known.start c.join.new.pass.known.made (c.args.number + 1) c.in-Ok-ended.field-0 c.in-Some.script.now.items c.in-Ok-started.child.promise.text.now c.in-Ok-started.child.promise.desk.now _ c.in-Ok.pass.known
-    c.join-pass.result.0.known c.join-pass.result.1 before split.start (split.made ∙ c.requires.nothing_seen) number whole c.in-Ok-ended.is c.join-pass.ensures.1 joined.others in
+    c.join-pass.result.0.known c.join-pass.result.1 before split.start (split.made ∙ c.requires.nothing_seen) number whole c.in-Ok-ended.is c.join-pass.ensures.1 joined.others joined.own_of_other in
     on_ok_weaker c.serve_all-others.result
     (λ all. rw (ap texts_of c.in-Some.ensures.cases.0) (
-      here,
-      served_on c.args.first.now.known.start c.serve_all-others.new.first.known.made c.join.new.pass.known.made joined.seen (c.args.number + 1 + 1) (texts_of c.in-Some.later.now)
-          (rw start at all),
+      one_more_joined _ _ _ joined (c.args.number + 1) (length (texts_of c.in-Some.later.now)) numbered all.0,
+      (
+        rw onto at here,
+        served_on c.args.desk.now c.args.first.now.known.start c.serve_all-others.new.first.known.made c.join.new.pass.known.made joined.seen (c.args.number + 1 + 1) (texts_of c.in-Some.later.now)
+            (λ number low high. own_kept _ _ _ joined c.serve_all-others.ensures.gathered.kept number (all.0 number low high))
+            (rw start at all.1),
+      ),
     ))
     c.serve_all-others.ensures.served

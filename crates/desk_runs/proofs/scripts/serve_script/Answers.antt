@@ -1,4 +1,4 @@
-use Rattle.std.proofs.Common.{◌∙◌, ap}
+use Rattle.std.proofs.Common.{◌∙◌, ap, sym}
 use Rattle.desk_shared.specs.Passes.{Sharing}
 use Rattle.desk_runs.proofs.ScriptSessions.{still_on, session_of}
 use Rattle.desk_runs.proofs.scripts.serve_script.Goals as goal
@@ -11,4 +11,4 @@ returns-clause-owned g c =
 pub returns-clause-session : goal.returns-clause-session
 returns-clause-session g c =
     let (last, served) = c.serve-ended.ensures.session in
-    session_of c.args.desk.now c.args.pass _ _ last _ _ _ c.args.text.now _ c.new-window.ensures c.new-reader.ensures.left c.into_pass.ensures.known served
+    session_of c.args.desk.now c.args.pass _ _ last _ _ _ c.args.text.now _ c.new-window.ensures c.new-reader.ensures.left c.into_pass.ensures.known (sym c.serve-ended.ensures.broken) served
