@@ -21,4 +21,5 @@ pub use hearing::{Hearing, MOST_HEARD};
 pub use laws::saved_desks_come_back;
 pub use opening::open_desk;
 pub use saving::save_desk;
+pub use scenes::scene_of;
 pub use serving::{MOST_BYTES, run_serve, serve_desk};

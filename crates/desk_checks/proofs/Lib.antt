@@ -1,0 +1,2 @@
+mod OfPaths
+mod Refusing
