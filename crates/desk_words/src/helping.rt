@@ -15,16 +15,17 @@ map's agents and paths, and reports conflicts, costs and bounds that are always 
 
 pub const PROGRAM_HELP: &str = "\
 serve answers a planner's lines, one by one; audit makes a report from scratch, in threads; drill
-runs planners' scripts at once over one shared desk, and audits what they leave. With no words,
-mapf_desk is mapf_desk serve: a map stands first on standard input, and a session follows it.
+runs planners' scripts at once over one shared desk, and audits what they leave; check gives a
+verdict on the paths that a solver wrote. With no words, mapf_desk is mapf_desk serve: a map stands
+first on standard input, and a session follows it.
 
 Three lines of a session, and what they are answered:
   agent 0 0,0 2,0            version 1
   path 0 0,0 1,0 2,0         version 2
   solves vertex swap         solves yes
 
-Statuses: 0 done; 1 the drill's audit differs; 2 a fault, told on standard error in one line, or in
-two with --verbose where more is known of it.
+Statuses: 0 done; 1 the paths that were checked solve nothing, or the drill's audit differs; 2 a
+fault, told on standard error in one line, or in two with --verbose where more is known of it.
 All lines, files and faults: docs/FORMATS.md, byte for byte; the rules: docs/RULES.md.
 
 Example:
@@ -69,3 +70,19 @@ Statuses: 0 audit same; 1 audit differs; 2 a fault, told on standard error.
 
 Example:
   mapf_desk drill --map demo/corridor.map demo/east.script demo/west.script";
+
+pub const CHECK_HELP: &str = "\
+A solver's paths are read in one of three forms, told by the first line that isn't blank:
+  time      solution=, and lines 0:(X,Y),(X,Y),        as LaCAM and PIBT print them
+  agent     lines Agent 0: (ROW,COLUMN)->(ROW,COLUMN)->   as CBS, EECBS, PBS and MAPF-LNS2 do
+  session   lines path 0 X,Y X,Y                       as serve takes them
+Starts and goals are the scenario's first tasks; without a scenario they are what the file of paths
+says, and else the first and the last cells of the paths.
+
+Printed are the report, as audit prints it, and solves yes or solves no: yes where every agent comes
+to its goal, no path crosses a closed cell, and there is no conflict of the kinds that count.
+
+Statuses: 0 solves yes; 1 solves no; 2 a fault, told on standard error: there is no verdict.
+
+Example:
+  mapf_desk check --map demo/corridor.map --scen demo/corridor.scen --paths demo/corridor.paths";

@@ -1,8 +1,10 @@
 //! What the program's words ask for.
 use crate::commands::command;
-use crate::words::{Asked, AuditWords, DrillWords, ServeWords, Words};
+use crate::words::{Asked, AuditWords, CheckWords, DrillWords, ServeWords, Words};
 use clap::ArgMatches;
+use desk_report::Kinds;
 use plan_table::Mode;
+use solver_paths::Form;
 use std::alloc::{AllocError, Global};
 
 /// How many commits the journal takes where the words don't say.
@@ -10,6 +12,21 @@ const USUAL_LIMIT: u32 = 100_000;
 
 /// How many threads make a report where the words don't say.
 const USUAL_WORKERS: u32 = 4;
+
+const NO_KINDS: Kinds = Kinds {
+    vertex: false,
+    edge: false,
+    follow: false,
+    swap: false,
+    cycle: false,
+};
+
+/// The conflicts of the classical problem, which count where the words don't say.
+const CLASSICAL: Kinds = Kinds {
+    vertex: true,
+    swap: true,
+    ..NO_KINDS
+};
 
 fn mode_of(matches: &ArgMatches<'_>) -> Mode {
     match matches.get_str("mode") {
@@ -68,6 +85,47 @@ fn drill_words<'a>(alloc: Global, matches: &ArgMatches<'a>) -> Result<DrillWords
     })
 }
 
+fn form_of(matches: &ArgMatches<'_>) -> Option<Form> {
+    match matches.get_str("form") {
+        Some("time") => Some(Form::ByTime),
+        Some("agent") => Some(Form::ByAgent),
+        Some("session") => Some(Form::BySession),
+        _ => None,
+    }
+}
+
+// The kinds that are named; where none is, those of the classical problem.
+fn kinds_of(matches: &ArgMatches<'_>) -> Kinds {
+    let Some(named) = matches.get_strs("solves") else {
+        return CLASSICAL;
+    };
+    let mut kinds = NO_KINDS;
+    for name in named {
+        match *name {
+            "vertex" => kinds.vertex = true,
+            "edge" => kinds.edge = true,
+            "follow" => kinds.follow = true,
+            "swap" => kinds.swap = true,
+            _ => kinds.cycle = true,
+        }
+    }
+    kinds
+}
+
+fn check_words<'a>(matches: &ArgMatches<'a>) -> CheckWords<'a> {
+    CheckWords {
+        map: matches.get_str("map").unwrap_or(""),
+        scen: matches.get_str("scen"),
+        agents: matches.get_one::<u32>("agents"),
+        mode: mode_of(matches),
+        paths: matches.get_str("paths").unwrap_or(""),
+        form: form_of(matches),
+        kinds: kinds_of(matches),
+        quiet: matches.get_flag("quiet"),
+        workers: workers_of(matches),
+    }
+}
+
 // What is asked for where no word names it.
 fn usual_words<'a>() -> ServeWords<'a> {
     ServeWords {
@@ -88,6 +146,7 @@ fn words_of<'a>(alloc: Global, matches: &ArgMatches<'a>) -> Result<Words<'a>, Al
     }
     match matches.subcommand() {
         Some(("drill", inner)) => Ok(Words::Drill(drill_words(alloc, inner)?)),
+        Some(("check", inner)) => Ok(Words::Check(check_words(inner))),
         Some(("audit", inner)) => Ok(Words::Audit(audit_words(inner))),
         Some((_, inner)) => Ok(Words::Serve(serve_words(inner))),
         None => Ok(Words::Serve(usual_words())),

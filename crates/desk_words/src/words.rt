@@ -1,5 +1,7 @@
 use clap::Error;
+use desk_report::Kinds;
 use plan_table::Mode;
+use solver_paths::Form;
 
 /// What the words ask for.
 #[derive(Drop)]
@@ -9,6 +11,7 @@ pub enum Words<'a> {
     Serve(ServeWords<'a>),
     Audit(AuditWords<'a>),
     Drill(DrillWords<'a>),
+    Check(CheckWords<'a>),
 }
 
 impl Words<'_> {
@@ -64,6 +67,26 @@ pub struct DrillWords<'a> {
     pub workers: u32,
     /// The files of the scripts, in the order of their planners.
     pub scripts: Vec<&'a str>,
+}
+
+/// The words of `check`.
+#[derive(Drop)]
+pub struct CheckWords<'a> {
+    pub map: &'a str,
+    pub scen: Option<&'a str>,
+    /// How many agents the scenario gives, 0 to 8,192; without it, as many as there are paths.
+    pub agents: Option<u32>,
+    pub mode: Mode,
+    /// The file of the paths.
+    pub paths: &'a str,
+    /// How the paths are written; without it, their first line tells it.
+    pub form: Option<Form>,
+    /// The conflicts that count.
+    pub kinds: Kinds,
+    /// Whether conflicts are counted and not listed.
+    pub quiet: bool,
+    /// How many threads make the report, 1 to 64.
+    pub workers: u32,
 }
 
 /// What the words come to.
