@@ -1,7 +1,9 @@
 //! What words are read as, in a line. What is as it is where no word names it is left out.
 use clap::Error;
-use desk_words::{Asked, AuditWords, DrillWords, ServeWords, Words};
+use desk_report::Kinds;
+use desk_words::{Asked, AuditWords, CheckWords, DrillWords, ServeWords, Words};
 use plan_table::Mode;
+use solver_paths::Form;
 use std::alloc::{AllocError, Global};
 
 /// What words are read as.
@@ -36,6 +38,7 @@ fn put_words(text: &mut String, words: &Words<'_>) -> Result<(), AllocError> {
         Words::Serve(serve) => put_serve(text, serve),
         Words::Audit(audit) => put_audit(text, audit),
         Words::Drill(drill) => put_drill(text, drill),
+        Words::Check(check) => put_check(text, check),
     }
 }
 
@@ -71,6 +74,55 @@ fn put_drill(text: &mut String, words: &DrillWords<'_>) -> Result<(), AllocError
         put_file(text, "script", Some(*script))?;
     }
     Ok(())
+}
+
+fn put_check(text: &mut String, words: &CheckWords<'_>) -> Result<(), AllocError> {
+    let alloc = *text.allocator();
+    text.push_str("check")?;
+    put_file(text, "map", Some(words.map))?;
+    put_file(text, "paths", Some(words.paths))?;
+    put_file(text, "scen", words.scen)?;
+    if let Some(agents) = words.agents {
+        text.push_str(format!(in alloc; " agents={agents}")?.as_str())?;
+    }
+    put_mode(text, words.mode)?;
+    put_form(text, words.form)?;
+    put_kinds(text, words.kinds)?;
+    put_number(text, "workers", words.workers, 4)?;
+    if words.quiet {
+        text.push_str(" quiet")?;
+    }
+    Ok(())
+}
+
+fn put_form(text: &mut String, form: Option<Form>) -> Result<(), AllocError> {
+    match form {
+        None => Ok(()),
+        Some(Form::ByTime) => text.push_str(" form=time"),
+        Some(Form::ByAgent) => text.push_str(" form=agent"),
+        Some(Form::BySession) => text.push_str(" form=session"),
+    }
+}
+
+// The kinds, in the order of a report's entries; none where they are those of the classical problem.
+fn put_kinds(text: &mut String, kinds: Kinds) -> Result<(), AllocError> {
+    let others = kinds.edge || kinds.follow || kinds.cycle;
+    if kinds.vertex && kinds.swap && !others {
+        return Ok(());
+    }
+    put_kind(text, "vertex", kinds.vertex)?;
+    put_kind(text, "edge", kinds.edge)?;
+    put_kind(text, "follow", kinds.follow)?;
+    put_kind(text, "swap", kinds.swap)?;
+    put_kind(text, "cycle", kinds.cycle)
+}
+
+fn put_kind(text: &mut String, kind: &str, named: bool) -> Result<(), AllocError> {
+    if named {
+        put_file(text, "solves", Some(kind))
+    } else {
+        Ok(())
+    }
 }
 
 fn put_file(text: &mut String, name: &str, file: Option<&str>) -> Result<(), AllocError> {
