@@ -1,8 +1,10 @@
 //! What more is known of a run's fault, by the texts that it is about.
 use bench_reader::{MapFault, ScenFault};
+use desk_checks::CheckFault;
 use desk_core::{EditFault, Refusal, ReplayFault, Thing};
 use desk_runs::RunFault;
 use desk_session::JournalFault;
+use solver_paths::PathsFault;
 use std::alloc::{AllocError, Global};
 
 /// The most letters that are shown of a text.
@@ -29,6 +31,38 @@ pub fn more_of(alloc: Global, fault: &RunFault, texts: Texts<'_>) -> Option<Stri
         RunFault::Replay(ReplayFault::Refused { entry, why }) => {
             entry_of(alloc, texts.journal, entry, why)
         }
+        _ => None,
+    }
+}
+
+/// What more is known of why a solver's paths have no verdict: the line that the fault names.
+pub fn more_of_check(
+    alloc: Global,
+    fault: &CheckFault,
+    texts: Texts<'_>,
+    paths: &[u8],
+) -> Option<String> {
+    match fault {
+        CheckFault::Run(fault) => more_of(alloc, fault, texts),
+        CheckFault::Paths(why) => line_of(alloc, Some(paths), paths_line(*why)),
+        _ => None,
+    }
+}
+
+// The line that a fault of a file of paths is about, counted from 1.
+fn paths_line(why: PathsFault) -> Option<usize> {
+    match why {
+        PathsFault::NoForm { line } => Some(line),
+        PathsFault::BadHeader { line } => Some(line),
+        PathsFault::RepeatedList { line } => Some(line),
+        PathsFault::BadTime { line } => Some(line),
+        PathsFault::BadAgent { line } => Some(line),
+        PathsFault::BadPath { line } => Some(line),
+        PathsFault::BadCell { line, .. } => Some(line),
+        PathsFault::NoCells { line } => Some(line),
+        PathsFault::CellCount { line } => Some(line),
+        PathsFault::TooManyAgents { line } => Some(line),
+        PathsFault::TooLong { line } => Some(line),
         _ => None,
     }
 }

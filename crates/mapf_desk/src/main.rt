@@ -1,10 +1,12 @@
-//! The program: a desk that serves a planner's session over files and standard streams, audits, and
-//! drills planners that share it.
+//! The program: a desk that serves a planner's session over files and standard streams, audits,
+//! drills planners that share it, and checks the paths that a solver wrote.
 #![tactic(auto)]
 
 mod auditing;
+mod checking;
 mod details;
 mod drilling;
+mod faults;
 mod files;
 mod finishing;
 mod named;
@@ -16,9 +18,11 @@ mod tallies;
 mod telling;
 
 use auditing::audit_files;
+use checking::check_files;
 use desk_runs::{Fault, RunFault};
 use desk_words::{Asked, VERSION, WAITS, Words, read_words};
 use drilling::drill_files;
+use faults::ProgramFault;
 use serving::serve_streams;
 use std::env;
 use std::io::{Error, ErrorKind, IsTerminal};
@@ -31,6 +35,9 @@ use telling::{FAULT, More, tell, tell_more, tell_served};
 /// The status of a drill whose reports differ.
 const DIFFERS: u8 = 1;
 
+/// The status of paths that don't solve the problem.
+const UNSOLVED: u8 = 1;
+
 // Does what the words ask for. Where it is wanted, stages are told.
 fn obey<'a, R: Files + AllocGlobal + Print + Eprint + Input + Threads + Wait + Sync>(
     rt: &R,
@@ -38,23 +45,28 @@ fn obey<'a, R: Files + AllocGlobal + Print + Eprint + Input + Threads + Wait + S
     more: &mut More,
     verbose: bool,
     stages: bool,
-) -> Result<ExitCode, Fault<'a>> {
+) -> Result<ExitCode, ProgramFault<'a>> {
     match words {
         Words::Version => match println!(rt; "{VERSION}") {
             Ok(()) => Ok(ExitCode::SUCCESS),
-            Err(_) => Err(Fault::Run(RunFault::WriteFailed)),
+            Err(_) => Err(ProgramFault::Desk(Fault::Run(RunFault::WriteFailed))),
         },
         Words::Serve(serve) => match serve_streams(rt, serve, more, verbose) {
             Ok(()) => Ok(ExitCode::SUCCESS),
-            Err(fault) => Err(fault),
+            Err(fault) => Err(ProgramFault::Desk(fault)),
         },
         Words::Audit(audit) => match audit_files(rt, audit, stages, more) {
             Ok(()) => Ok(ExitCode::SUCCESS),
-            Err(fault) => Err(fault),
+            Err(fault) => Err(ProgramFault::Desk(fault)),
         },
         Words::Drill(drill) => match drill_files(rt, drill, stages, more, verbose) {
             Ok(true) => Ok(ExitCode::SUCCESS),
             Ok(false) => Ok(ExitCode::from(DIFFERS)),
+            Err(fault) => Err(ProgramFault::Desk(fault)),
+        },
+        Words::Check(check) => match check_files(rt, check, stages, more) {
+            Ok(true) => Ok(ExitCode::SUCCESS),
+            Ok(false) => Ok(ExitCode::from(UNSOLVED)),
             Err(fault) => Err(fault),
         },
     }

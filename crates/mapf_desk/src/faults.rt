@@ -1,0 +1,14 @@
+use desk_checks::CheckFault;
+use desk_runs::Fault;
+use thiserror::Error;
+
+/// Why the program did not do what its words ask for.
+#[derive(Debug, Drop, Error)]
+pub enum ProgramFault<'a> {
+    /// The words lack something, a file is at fault, or a run has a fault.
+    #[error("{0}")]
+    Desk(Fault<'a>),
+    /// There is no verdict on a solver's paths.
+    #[error("{0}")]
+    Check(CheckFault),
+}
