@@ -11,11 +11,11 @@ import tempfile
 
 sys.dont_write_bytecode = True
 
-from processes import answers, bounds, demos, faults, kills, memory, saving, stepping, streams, telling, words
+from processes import answers, bounds, checks, demos, faults, fleets, kills, memory, saving, stepping, streams, telling, words
 from processes.running import TOP, Program, Wrong, put
 from processes.texts import FILES
 
-TOPICS = (faults, words, answers, telling, saving, kills, stepping, streams, memory, bounds, demos)
+TOPICS = (faults, words, answers, telling, checks, fleets, saving, kills, stepping, streams, memory, bounds, demos)
 
 
 def passes(name, test):

@@ -37,39 +37,6 @@ def demo_client():
     want("the status", ran.returncode, 0)
 
 
-def checked(*words):
-    ran = subprocess.run([sys.executable, f"{DEMO}/check.py", Program.path, *words], capture_output=True, timeout=PATIENCE, text=True)
-    return ran.returncode, ran.stdout.partition("\n")[0], ran.stderr.partition("\n")[0]
-
-
-VERDICTS = [
-    ("path 0 0,0 1,0 2,0\n", [], (0, "right", "")),
-    ("path 0 0,0 1,0 2,0\n", ["vertex", "edge", "follow", "swap", "cycle"], (0, "right", "")),
-    ("path 0 0,0 1,0\n", [], (1, "agents 1", "")),
-    ("path 0 0,0 2,0\n", [], (2, "", "path 0 0,0 2,0: refused faulty 0 not-a-step 1")),
-    ("path 7 0,0\n", [], (2, "", "path 7 0,0: refused faulty 0 unknown-agent")),
-    ("# a remark\n\npath 0 0,0 1,0 2,0\n", [], (0, "right", "")),
-    ("goal 0 0,0\n", [], (2, "", "goal 0 0,0: no path")),
-    ("path 0 0,0 1,0 x\n", [], (2, "", "path 0 0,0 1,0 x: bad 1 shape")),
-    ("path 0 0,0 1,0 2,0\n", ["crash"], (2, "", "solves crash: bad 2 shape")),
-]
-
-
-def demo_check():
-    """The recipe for authors of solvers: right, wrong, and no paths at all."""
-    corridor = f"{DEMO}/corridor"
-    want("the corridor", checked(f"{corridor}.map", f"{corridor}.scen", "2", f"{corridor}.paths"), (0, "right", ""))
-    for paths, kinds, verdict in VERDICTS:
-        with open("paths", "w") as file:
-            file.write(paths)
-        want(f"the verdict on {paths!r}", checked("m", "s", "1", "paths", *kinds), verdict)
-    want("the verdict on no file", checked("m", "s", "1", "none"), (2, "", "none: [Errno 2] No such file or directory: 'none'"))
-    want("the verdict on no map", checked("none", "s", "1", "paths"), (2, "", "mapf_desk: can't read none"))
-    want("the verdict on no words", checked("m")[0], 2)
-    words = [sys.executable, f"{DEMO}/check.py", "./none", "m", "s", "1", "paths"]
-    want("the status with no program", subprocess.run(words, capture_output=True, timeout=PATIENCE).returncode, 2)
-
-
 def demo_audit():
     """The report from scratch is the one of a session, byte for byte."""
     words = ["--map", f"{DEMO}/warehouse.map", "--scen", f"{DEMO}/warehouse.scen", "--agents", "100"]
@@ -79,5 +46,5 @@ def demo_audit():
 
 
 def tests():
-    for test in (demo_session, demo_drill, demo_client, demo_check, demo_audit):
+    for test in (demo_session, demo_drill, demo_client, demo_audit):
         yield test.__name__, test

@@ -1,12 +1,13 @@
 """The rows of the table of faults, in its order: status 2, one line on standard error, nothing on standard output.
 
 Of the table's rows these are elsewhere: mistakes in the words and words that aren't text (words.py), help that isn't
-taken and faults of reading and writing (streams.py), bounds and large files (bounds.py), a journal that can't be saved
-(saving.py, stepping.py), want of memory (memory.py). Three rows can't be reached by words and files:
+taken and faults of reading and writing (streams.py), those of `check` and of the paths that it reads (checks.py, fleets.py),
+bounds and large files (bounds.py), a journal that can't be saved (saving.py, stepping.py), want of memory (memory.py).
+Three rows can't be reached by words and files:
 - `scen: too many agents`: `--agents` takes 8,192 at most, and a scene has room for as many;
 - `scen: task N out of map`: a task outside the map is refused before, where the scenario is read (`scen: out of map ..`);
 - `pass lost`: the passes of a drill are joined before its desk is closed, so the first one has no other beside it.
-Neither can status 1, `audit differs`: the two reports of a drill are proved to be the same by definition.
+Neither can the status 1 of `audit differs`: the two reports of a drill are proved to be the same by definition.
 Of the session's faults a drill's scripts can't have `read failed` or `too many bytes`, since they are read as files before.
 """
 from .running import is_fault

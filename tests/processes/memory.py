@@ -43,7 +43,8 @@ def no_room_for_a_file():
     try:
         for words in ("serve --map large", "serve --map m --scen large", "serve --map m --journal large -v", "audit --map large -v",
                       "audit --map m --scen large", "audit --map m --journal large", "drill --map large one", "drill --map m --scen large one",
-                      "drill --map m one large -v"):
+                      "drill --map m one large -v", "check --map large --paths p", "check --map m --scen large --paths p",
+                      "check --map m --paths large -v"):
             is_fault(words.split(), "out of memory", preexec_fn=room)
         is_fault(["serve", "--map", "none", "--journal", "large"], "can't read none", preexec_fn=room)
     finally:
@@ -109,6 +110,7 @@ def no_room_for_a_thread():
     room = room_of(256 * MEGA, stack=1024 * MEGA)
     is_fault(["audit", "--map", "m"], "out of memory", preexec_fn=room)
     is_fault(["drill", "--map", "m", "one"], "out of memory", preexec_fn=room)
+    is_fault(["check", "--map", "m", "--paths", "p"], "out of memory", preexec_fn=room)
     is_fault(["drill", "--map", "m", "one", "-v"], "out of memory", preexec_fn=room)
 
 

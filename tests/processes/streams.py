@@ -11,6 +11,7 @@ PRINTING = [
     ("answer_of_a_typed_map", "", MAP + b"version\n"),
     ("audit", "audit --map m", b""),
     ("drill", "drill --map m one", b""),
+    ("check", "check --map m --paths p", b""),
     ("help", "--help", b""),
     ("help_of_a_word", "serve --help", b""),
     ("version", "--version", b""),

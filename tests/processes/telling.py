@@ -28,6 +28,10 @@ REASONS = [
     ("serve --map m --scen s --agents 1 --journal journal_entry", "faulty 0 not-a-step 1: entry 0 0 0 1;path 0 0,0 2,0;"),
     ("serve --map m --scen s --agents 1 --limit 1 --journal journal_two", "journal-full 1: entry 0 1 0 1;drop 0;"),
     ("audit --map m --scen s --agents 1 --journal journal_second", "faulty 0 unknown-agent: entry 0 1 0 1;drop 9;"),
+    ("check --map m --paths none", "No such file or directory (os error 2)"),
+    ("check --map map_letter --paths p", "line 5: .x."),
+    ("check --map m --scen scen_fields --paths p", "line 2: 0 m 3 1 0 0 2 0"),
+    ("check --map m --paths one", "line 1: agent 0 0,0 0,0"),
     ("audit --map m --journal j", "faulty 0 unknown-agent: entry 0 0 0 1;path 0 0,0 1,0 2,0;"),
 ]
 
@@ -82,8 +86,9 @@ def counts_of_no_script():
 
 
 def stages():
-    """Audits and drills tell on a terminal what they are at, and nothing elsewhere."""
-    for words, said in ((["audit", "--map", "m"], 2), (["drill", "--map", "m", "one", "two"], 2), (["serve", "--map", "m"], 0)):
+    """Audits, drills and checks tell on a terminal what they are at, and nothing elsewhere."""
+    for words, said in ((["audit", "--map", "m"], 2), (["drill", "--map", "m", "one", "two"], 2),
+                        (["check", "--map", "m", "--paths", "p"], 2), (["serve", "--map", "m"], 0)):
         terminal, inside = pty.openpty()
         status, out, _ = run(words, stderr=inside)
         os.close(inside)

@@ -11,6 +11,8 @@ FILES = {
     "m": MAP,
     "s": SCEN,
     "j": JOURNAL,
+    "p": b"path 0 0,0 1,0 2,0\n",
+    "p_two": b"path 0 0,0\npath 1 0,0\n",
     "one": b"agent 0 0,0 0,0\n",
     "two": b"agent 1 2,0 2,0\n",
     "meeting": b"agent 0 1,0 1,0\nagent 1 0,0 1,0\npath 1 0,0 1,0\n",

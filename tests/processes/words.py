@@ -10,7 +10,8 @@ REFUSED_WORDS = [
     "bogus", "serve --limit 0", "serve --limit 1000001", "serve --limit x", "serve --agents 8193", "serve --mode none",
     "serve --workers 4", "serve m", "serve --save", "serve --map m --save a --save b", "audit", "audit --map m --save j",
     "audit --map m --workers 0", "audit --map m --workers 65", "audit --map m --limit 5", "drill --map m", "drill one",
-    "drill --map m --workers 65 one", "drill --map m --journal j one", "--map m",
+    "drill --map m --workers 65 one", "drill --map m --journal j one", "--map m", "check --map m", "check --paths p",
+    "check --map m --paths p --solves", "check --map m --paths p --solves crash", "check --map m --paths p --form row",
 ]
 
 
@@ -74,7 +75,7 @@ def bare_on_a_terminal():
 def tests():
     for words in REFUSED_WORDS:
         yield f"words: {words}", lambda words=words: are_refused_words(words.split())
-    for words in ("--help", "serve --help", "audit --help", "drill --help", "help serve"):
+    for words in ("--help", "serve --help", "audit --help", "drill --help", "check --help", "help serve"):
         yield words, lambda words=words: is_help(words.split())
     for test in (word_that_is_no_text, version, bare_on_a_terminal):
         yield test.__name__, test

@@ -1,0 +1,172 @@
+"""The word `check`: solvers' files of paths in each form, their reports by hand, their faults, and its statuses.
+
+What many files are checked for, and in what time and room, is in fleets.py.
+"""
+from .running import TOP, is_fault, is_run, put, remove, run, want
+from .texts import ARRIVED, LEFT, STAYED
+
+DEMO = f"{TOP}/demo/corridor"
+
+FIELD = b"type octile\nheight 3\nwidth 4\nmap\n....\n.@..\n....\n"
+TASKS = b"version 1\n0 f 4 3 0 0 2 0 2\n0 f 4 3 0 2 0 2 0\n0 f 4 3 3 2 0 2 3\n"
+FILES = {"field": FIELD, "tasks": TASKS}
+
+# Two exchange cells; their starts and goals stand in the file.
+SWAP = b"agents=2\nstarts=(0,0),(1,0),\ngoals=(1,0),(0,0),\nsolution=\n0:(0,0),(1,0),\n1:(1,0),(0,0),\n"
+SWAPPED = ("agents 2\nagent 0 settle 1 goal yes bound 1 gap 0\nagent 1 settle 1 goal yes bound 1 gap 0\nconflicts 3\nfollow 0 0 1 1,0\n"
+           "follow 0 1 0 0,0\nswap 0 0 1 0,0 1,0\nblocked 0\nsum 2\nmakespan 1\nbounds 2\ngap 0\nend\n")
+# Two go along one edge, and a third one through the closed cell.
+TOGETHER = b"Agent 0: (0,0)->(0,1)->(0,2)->\nAgent 1:(0,0)->(0,1)\n\nAgent 2: (1,0)->(1,1)->(1,2)->\n"
+CROSSED = ("agents 3\nagent 0 settle 2 goal yes bound 2 gap 0\nagent 1 settle 1 goal yes bound 1 gap 0\nagent 2 settle 2 goal yes bound 4 gap none\n"
+           "conflicts 3\nvertex 0 0 1 0,0\nvertex 1 0 1 1,0\nedge 0 0 1 0,0 1,0\nblocked 1\nvisit 2 1 1,1\nsum 5\nmakespan 2\nbounds 7\ngap none\nend\n")
+# Four go round, each into the cell of the next one.
+RING = b"# a ring\npath 0 2,0 3,0\npath 1 3,0 3,1\n\npath 2 3,1 2,1\npath 3 2,1 2,0\n"
+TURNED = ("agents 4\n" + "".join(f"agent {n} settle 1 goal yes bound 1 gap 0\n" for n in range(4)) + "conflicts 5\nfollow 0 0 1 3,0\n"
+          "follow 0 1 2 3,1\nfollow 0 2 3 2,1\nfollow 0 3 0 2,0\ncycle 0 0 1 2 3\nblocked 0\nsum 4\nmakespan 1\nbounds 4\ngap 0\nend\n")
+# One comes to where another rests.
+COMES = b"path 0 1,0\npath 1 0,0 1,0\n"
+SHORT = "agents 1\nagent 0 settle 1 goal no bound 2 gap none\nconflicts 0\nblocked 0\nsum none\nmakespan none\nbounds 2\ngap none\nend\n"
+TWO = ARRIVED.replace("agents 1", "agents 2").replace("conflicts", "agent 1 settle 0 goal yes bound 0 gap 0\nconflicts")
+THREE = ("agents 3\nagent 0 settle 2 goal yes bound 2 gap 0\nagent 1 settle 0 goal yes bound 0 gap 0\nagent 2 settle 0 goal no bound 3 gap none\n"
+         "conflicts 0\nblocked 0\nsum none\nmakespan none\nbounds 5\ngap none\nend\n")
+
+
+def quiet(agents, conflicts, kinds, blocked, totals):
+    names = ("vertex", "edge", "follow", "swap", "cycle")
+    counts = "".join(f"{name} {count}\n" for name, count in zip(names, kinds))
+    return f"agents {agents}\nconflicts {conflicts}\n{counts}blocked {blocked}\n" + "sum {}\nmakespan {}\nbounds {}\ngap {}\nend\n".format(*totals)
+
+
+# Name, further words, the paths, the report, and whether they solve the problem.
+WORKED = [
+    ("swap_by_time", "--map field", SWAP, SWAPPED, "no"),
+    ("swap_that_does_not_count", "--map field --solves vertex edge cycle", SWAP, SWAPPED, "yes"),
+    ("swap_that_counts_alone", "--map field --solves swap", SWAP, SWAPPED, "no"),
+    ("followers_that_count", "--map field --solves follow", SWAP, SWAPPED, "no"),
+    ("swap_counted", "--map field --quiet", SWAP, quiet(2, 3, (0, 0, 2, 1, 0), 0, (2, 1, 2, 0)), "no"),
+    ("together_by_agent", "--map field", TOGETHER, CROSSED, "no"),
+    ("closed_cells_always_count", "--map field --solves cycle", TOGETHER, CROSSED, "no"),
+    ("together_counted", "--map field --quiet", TOGETHER, quiet(3, 3, (2, 1, 0, 0, 0), 1, (5, 2, 7, "none")), "no"),
+    ("ring_by_session", "--map field", RING, TURNED, "yes"),
+    ("ring_that_counts", "--map field --solves cycle", RING, TURNED, "no"),
+    ("ring_that_counts_among_others", "--map field --solves vertex cycle vertex edge", RING, TURNED, "no"),
+    ("ring_counted", "--map field --quiet", RING, quiet(4, 5, (0, 0, 4, 0, 1), 0, (4, 1, 4, 0)), "yes"),
+    ("parked_by_session", "--map m", COMES, STAYED, "no"),
+    ("parked_that_does_not_count", "--map m --mode stay --solves swap", COMES, STAYED, "yes"),
+    ("parked_counts_as_vertex", "--map m --quiet --solves vertex", COMES, quiet(2, 2, (1, 0, 1, 0, 0), 0, (1, 1, 1, 0)), "no"),
+    ("left_before_it_comes", "--map m --mode disappear", COMES, LEFT, "yes"),
+    ("ends_are_start_and_goal", "--map m", b"solution=\n0:(0,0)\n1:(1,0)\n2:(2,0)", ARRIVED, "yes"),
+    ("tasks_of_a_scenario", "--map m --scen s", b"path 0 0,0 1,0 2,0", ARRIVED, "yes"),
+    ("not_at_the_goal_of_its_task", "--map m --scen s", b"path 0 0,0 1,0", SHORT, "no"),
+    ("not_at_the_goal_that_the_file_tells", "--map m", b"goals=(2,0)\nsolution=\n0:(0,0),\n1:(1,0),\n", SHORT, "no"),
+    ("scenario_before_what_the_file_tells", "--map m --scen s", b"goals=(1,0)\nsolution=\n0:(0,0),\n1:(1,0),\n", SHORT, "no"),
+    ("as_many_tasks_as_paths", "--map field --scen tasks", b"path 0 0,0 1,0 2,0", ARRIVED, "yes"),
+    ("an_agent_without_a_path", "--map field --scen tasks --agents 2", b"path 0 0,0 1,0 2,0", TWO, "yes"),
+    ("an_agent_without_a_path_and_elsewhere", "--map field --scen tasks --agents 3", b"path 0 0,0 1,0 2,0", THREE, "no"),
+    ("waits_at_the_end", "--map m --scen s", b"Agent 0: (0,0)->(0,1)->(0,2)->(0,2)->(0,2)->", ARRIVED, "yes"),
+    ("named_form", "--map m --form time", b"Agent count=1\nsolution=\n0:(0,0),\n1:(1,0),\n2:(2,0),\n", ARRIVED, "yes"),
+    ("named_form_by_agent", "--map m --form agent", b"Agent 0: (0,0)->(0,1)->(0,2)", ARRIVED, "yes"),
+    ("named_form_of_a_session", "--map m --form session", b"path 0 0,0 1,0 2,0", ARRIVED, "yes"),
+    ("one_worker", "--map field --workers 1", RING, TURNED, "yes"),
+    ("more_workers_than_agents", "--map field --workers 64", RING, TURNED, "yes"),
+    ("more_is_told_of_faults_alone", "--map field -v", RING, TURNED, "yes"),
+]
+
+# Words, the paths, the fault's text, and its line, where it has one.
+FAULTS = [
+    ("--map m", b"", "no paths", None),
+    ("--map m", b" \n\t\r\n", "no paths", None),
+    ("--map m", b"# a remark\n", "no paths", None),
+    ("--map m", b"agents=1\nsolution=\n", "no paths", None),
+    ("--map m", b"agents=1\n", "missing solution", None),
+    ("--map m", b"\n\nhello\n", "no form of paths in line 3", "hello"),
+    ("--map m", b"agents=1\nhello\n", "bad header in line 2", "hello"),
+    ("--map m", b"starts=(0,0)\ngoals=(0,0)\nstarts=(0,0)\n", "repeated list in line 3", "starts=(0,0)"),
+    ("--map m", b"solution=\n1:(0,0),\n", "bad time in line 2", "1:(0,0),"),
+    ("--map m", b"Agent 1: (0,0)->\n", "bad agent in line 1", "Agent 1: (0,0)->"),
+    ("--map m", b"path 0 0,0\npath 0 0,0\n", "bad agent in line 2", "path 0 0,0"),
+    ("--map m", b"path 0 0,0\ngoal 0 0,0\n", "bad path in line 2", "goal 0 0,0"),
+    ("--map m", b"path 0 0,0 x\xff\n", "bad path in line 1", "path 0 0,0 x?"),
+    ("--map m", b"solution=\n0:(0,0),(x,0),\n", "bad cell 1 in line 2", "0:(0,0),(x,0),"),
+    ("--map m", b"Agent 0: (0,0)->0,1->\n", "bad cell 1 in line 1", "Agent 0: (0,0)->0,1->"),
+    ("--map m", b"Agent 0: (2048,0)->", "bad cell 0 in line 1", "Agent 0: (2048,0)->"),
+    ("--map m", b"solution=\n0:\n", "no cells in line 2", "0:"),
+    ("--map m", b"path 0\n", "no cells in line 1", "path 0"),
+    ("--map m", b"goals=(0,0),(1,0)\nsolution=\n0:(0,0),\n", "cell count in line 3", "0:(0,0),"),
+    ("--map m --form agent", b"solution=\n0:(0,0),\n", "bad agent in line 1", "solution="),
+    ("--map m --form time", b"path 0 0,0\n", "bad header in line 1", "path 0 0,0"),
+    ("--map m --form session", b"Agent 0: (0,0)->\n", "bad path in line 1", "Agent 0: (0,0)->"),
+    ("--map m", b"Agent count=1\nsolution=\n0:(0,0),\n", "bad agent in line 1", "Agent count=1"),
+    ("--map map_size", b"path 0 x\n", "bad path in line 1", "path 0 x"),
+    ("--map m --scen s", b"path 0 0,0 2,0\n", "agent 0 at time 1: not-a-step", None),
+    ("--map m --scen s", b"path 0 0,0 0,0 1,0 1,1 2,0\n", "agent 0 at time 3: out-of-map", None),
+    ("--map m --scen s", b"path 0 1,0 2,0\n", "agent 0 at time 0: not-from-start", None),
+    ("--map field --scen tasks", b"solution=\n0:(0,0),(0,2),\n1:(1,0),(0,1),\n2:(2,0),(2,1),\n", "agent 1 at time 2: not-a-step", None),
+    ("--map m", b"starts=(1,0)\nsolution=\n0:(0,0),\n", "agent 0 at time 0: not-from-start", None),
+    ("--map m", b"path 0 0,0\npath 1 0,0 0,1\n", "agent 1: out-of-map", None),
+    ("--map m", b"goals=(3,0)\nsolution=\n0:(0,0),\n", "agent 0: out-of-map", None),
+    ("--map m --scen s --agents 1", b"path 0 0,0\npath 1 0,0\n", "agent 1 at time 0: unknown-agent", None),
+    ("--map m --scen s --agents 0", b"path 0 0,0\n", "agent 0 at time 0: unknown-agent", None),
+]
+
+# Words, and their fault's text.
+OTHER_FAULTS = [
+    ("--map none --paths nothing --agents 1", "--agents needs --scen"),
+    ("--map m --paths p --agents 0", "--agents needs --scen"),
+    ("--map none --paths nothing", "can't read none"),
+    ("--map none --scen nothing --paths p", "can't read none"),
+    ("--map m --scen none --paths nothing", "can't read none"),
+    ("--map m --paths none", "can't read none"),
+    ("--map . --paths p", "can't read ."),
+    ("--map map_size --scen scen_size --paths none", "can't read none"),
+    ("--map map_size --scen scen_size --paths p", "map: bad size"),
+    ("--map m --scen scen_size --paths p", "scen: size mismatch in line 2"),
+    ("--map m --scen s --paths p --agents 2", "scen: too few tasks, 1"),
+    ("--map m --scen s --paths p_two", "scen: too few tasks, 1"),
+]
+
+
+def is_checked(words, paths, report, solved):
+    put("worked", paths)
+    is_run(["check", *words.split(), "--paths", "worked"], b"", (0 if solved == "yes" else 1, f"version 0\n{report}solves {solved}\n", ""))
+    remove("worked")
+
+
+def are_faults():
+    """Each fault of paths is told in one line, and with --verbose its line in a second one; nothing is printed."""
+    for words, paths, text, line in FAULTS:
+        put("faulty", paths)
+        all_words = ["check", *words.split(), "--paths", "faulty"]
+        is_fault(all_words, f"paths: {text}")
+        more = "" if line is None else f"\n  line {text.split()[-1]}: {line}"
+        is_fault([*all_words, "-v"], f"paths: {text}{more}")
+    remove("faulty")
+
+
+def other_faults():
+    """Of the files the map is read first, then the scenario, then the paths."""
+    for words, text in OTHER_FAULTS:
+        is_fault(["check", *words.split()], text)
+
+
+def demo_check():
+    """The recipe for authors of solvers: the same plans in each form."""
+    with open(f"{DEMO}.answers") as answers:
+        report = answers.read().split("version 5\n")[2].split("end\n")[0] + "end\n"
+    for form in ("paths", "by-agent", "by-session"):
+        words = ["check", "--map", f"{DEMO}.map", "--paths", f"{DEMO}.{form}"]
+        for more in ([], ["--scen", f"{DEMO}.scen"]):
+            want(f"what {form} is", run([*words, *more]), (0, f"version 0\n{report}solves yes\n", ""))
+
+
+def with_files(test):
+    for name, text in FILES.items():
+        put(name, text)
+    test()
+
+
+def tests():
+    for name, words, paths, report, solved in WORKED:
+        yield f"check_{name}", lambda it=(words, paths, report, solved): with_files(lambda: is_checked(*it))
+    for test in (are_faults, other_faults, demo_check):
+        yield f"check_{test.__name__}", lambda test=test: with_files(test)
