@@ -145,7 +145,7 @@ def put_pairs(agents, steps):
 
 
 def speed():
-    """8,000 agents of 200 steps, 14 MB, take less than a second of processor time with one worker (the least of three runs)."""
+    """8,000 agents of 200 steps, 13 MB, take less than a second of processor time with one worker (the least of three runs)."""
     put_pairs(8000, 200)
     took = []
     for _ in range(3):
