@@ -73,9 +73,9 @@ Example:
 
 pub const CHECK_HELP: &str = "\
 A solver's paths are read in one of three forms, told by the first line that isn't blank:
-  time      solution=, and lines 0:(X,Y),(X,Y),        as LaCAM and PIBT print them
+  time      solution=, and lines 0:(X,Y),(X,Y),           as LaCAM and PIBT print them
   agent     lines Agent 0: (ROW,COLUMN)->(ROW,COLUMN)->   as CBS, EECBS, PBS and MAPF-LNS2 do
-  session   lines path 0 X,Y X,Y                       as serve takes them
+  session   lines path 0 X,Y X,Y                          as serve takes them
 Starts and goals are the scenario's first tasks; without a scenario they are what the file of paths
 says, and else the first and the last cells of the paths.
 
