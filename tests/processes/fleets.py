@@ -103,7 +103,8 @@ def is_lawful(text, words):
     if status == 2:
         want(f"what {text!r} prints", (said, complained.startswith("mapf_desk: "), complained.count("\n")), ("", True, 1))
     else:
-        want(f"the end of {text!r}", (said.splitlines()[-1], complained), (f"solves {'yes' if status == 0 else 'no'}", ""))
+        last = {0: ["solves yes"], 1: ["solves no"]}.get(status)
+        want(f"the end of {text!r}, of status {status},", (said.splitlines()[-1:], complained), (last, ""))
 
 
 def hostile_texts():
@@ -152,7 +153,7 @@ def speed():
         before = resource.getrusage(resource.RUSAGE_CHILDREN)
         status, said, _ = run(["check", "--map", "square", "--paths", "pairs", "--quiet", "--workers", "1"])
         after = resource.getrusage(resource.RUSAGE_CHILDREN)
-        want("the verdict", (status, said.splitlines()[1:3], said.splitlines()[-1]), (0, ["agents 8000", "conflicts 0"], "solves yes"))
+        want("the verdict", (status, said.splitlines()[1:3], said.splitlines()[-1:]), (0, ["agents 8000", "conflicts 0"], ["solves yes"]))
         took.append(after.ru_utime + after.ru_stime - before.ru_utime - before.ru_stime)
     remove("square", "pairs")
     if min(took) >= SECONDS:
@@ -168,7 +169,7 @@ def no_room_for_paths():
         if status == 2:
             want("what it does", (said, complained), ("", "mapf_desk: out of memory\n"))
         elif status != 127 and status >= 0:  # (at 127 the C library itself wasn't loaded)
-            want("the end", (status, said.splitlines()[-1], complained), (0, "solves yes", ""))
+            want("the end", (status, said.splitlines()[-1:], complained), (0, ["solves yes"], ""))
         seen.add(status)
     remove("square", "pairs")
     want("whether it ran out of memory, and had enough", {0, 2} <= seen, True)
