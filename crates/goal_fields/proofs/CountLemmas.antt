@@ -1,13 +1,13 @@
 -- What a queue has counted is the change count.
 use Rattle.std.specs.Prelude.{Bool, true, false, cond, ◌==◌, nat_lt, if◌then◌else◌, slice_index, slice_index_or, count_by}
 use Rattle.std.specs.List.{zip}
-use Rattle.std.proofs.Common.{◌≡◌, ℕ, suc, ◌+◌, ◌<◌, ◌≤◌, ◌⊎◌, List, [], ◌∷◌, length, map, get_or, Option, Some, None, refl, sym, ap, subst, ◌∙◌, inl, inr, arith}
+use Rattle.std.proofs.Common.{◌≡◌, ℕ, suc, ◌+◌, ◌<◌, ◌≤◌, ◌⊎◌, List, [], ◌∷◌, length, map, Option, Some, None, refl, sym, ap, subst, ◌∙◌, inl, inr, arith}
 use Rattle.std.proofs.Math.ListN.{length-map}
 use Rattle.std.proofs.lemmas.Bool.{cases_lt}
-use Rattle.std.proofs.lemmas.List.{get_or-map, get_or_read}
+use Rattle.std.proofs.lemmas.List.{get_or-map}
 use Rattle.std.proofs.lemmas.List.Sums.{sum_by-cons}
 use Rattle.grid_cells.specs.Cell.{Point}
-use Rattle.grid_cells.specs.Size.{Extent, Holds}
+use Rattle.grid_cells.specs.Size.{Holds}
 use Rattle.grid_cells.specs.Grid.{Chart, flag_index}
 use Rattle.grid_cells.specs.Walks.{IsDistance}
 use Rattle.cell_queue.proofs.Indexes.{index_below}
@@ -55,45 +55,41 @@ count_over-is (x ∷ d) (y ∷ g) long hd hg =
     omega arith
 
 -- no g is above the number that is none
-pub g-le : (grid : Chart) (size : Extent) (goal : Point) (g : List ℕ) → IsAtRest grid size goal g → (i : ℕ) → i < length g → slice_index g i ≤ far
-g-le grid size goal g rest i h =
+pub g-le : (grid : Chart) (goal : Point) (g : List ℕ) → IsAtRest grid goal g → (i : ℕ) → i < length g → slice_index g i ≤ far
+g-le grid goal g rest i h =
     (let (c, held, at) = cell_at grid.size (omega (arith, rest.sized.wide)) i (omega (arith, rest.one_g_each)) in
     subst (λ (n : ℕ). slice_index g n ≤ far) at (rest.consistent c held).bounded)
 
 -- between two repairs g is the distance
-pub IsDistance-at_rest : (grid : Chart) (size : Extent) (goal : Point) (g : List ℕ) → IsAtRest grid size goal g → (c : Point) → Holds grid.size c → IsDistance grid c goal (distance_of (mark_at grid.size g c))
-IsDistance-at_rest grid size goal g rest = IsDistance-consistent grid goal g rest.one_g_each rest.sized.cells_most rest.consistent
+pub IsDistance-at_rest : (grid : Chart) (goal : Point) (g : List ℕ) → IsAtRest grid goal g → (c : Point) → Holds grid.size c → IsDistance grid c goal (distance_of (mark_at grid.size g c))
+IsDistance-at_rest grid goal g rest = IsDistance-consistent grid goal g rest.one_g_each rest.sized.cells_most rest.consistent
 
--- a number that was read is the cell's
-module _ (grid : Chart) (size : Extent) (goal : Point) (g : List ℕ) (rest : IsAtRest grid size goal g) (c : Point) (held : Holds grid.size c) (i m : ℕ) (is : i ≡ flag_index size c) (read : m ≡ get_or g i m) where
-  its_mark : m ≡ mark_at grid.size g c
-  its_mark =
-      let number : i ≡ flag_index grid.size c = is ∙ ap (λ (z : Extent). flag_index z c) rest.is in
-      subst (λ (n : ℕ). m ≡ slice_index g n) number (get_or_read g i m (omega (arith, number, index_below grid.size c held, rest.one_g_each)) read 0)
+-- the number at a cell's place tells its distance
+module _ (grid : Chart) (goal : Point) (g : List ℕ) (rest : IsAtRest grid goal g) (c : Point) (held : Holds grid.size c) (i : ℕ) (is : i ≡ flag_index grid.size c) where
+  its_distance : (d : Option ℕ) → distance_of (slice_index g i) ≡ d → IsDistance grid c goal d
+  its_distance d e = subst (λ (v : Option ℕ). IsDistance grid c goal v) (ap (λ (n : ℕ). distance_of (slice_index g n)) (sym is) ∙ e) (IsDistance-at_rest grid goal g rest c held)
 
-  its_distance : (d : Option ℕ) → distance_of m ≡ d → IsDistance grid c goal d
-  its_distance d e = subst (λ (v : Option ℕ). IsDistance grid c goal v) (ap distance_of (sym its_mark) ∙ e) (IsDistance-at_rest grid size goal g rest c held)
+  pub distance_none : slice_index g i ≡ far → IsDistance grid c goal None
+  distance_none e = its_distance None (rw (far_yes (slice_index g i) (omega (arith, e)) (omega (arith, e))) refl)
 
-  pub distance_none : m ≡ far → IsDistance grid c goal None
-  distance_none e = its_distance None (rw (far_yes m (omega (arith, e)) (omega (arith, e))) refl)
-
-  pub distance_some : (m ≡ far → ⊥) → IsDistance grid c goal (Some m)
+  pub distance_some : (slice_index g i ≡ far → ⊥) → IsDistance grid c goal (Some (slice_index g i))
   distance_some ne =
-      let below : m < far = omega (arith, its_mark, (rest.consistent c held).bounded, ne) in
-      its_distance (Some m) (rw (far_no m below) refl)
+      let same : slice_index g i ≡ mark_at grid.size g c = ap (λ (n : ℕ). slice_index g n) is in
+      let below : slice_index g i < far = omega (arith, same, (rest.consistent c held).bounded, ne) in
+      its_distance (Some (slice_index g i)) (rw (far_no (slice_index g i) below) refl)
 
-pub AreDistances-at_rest : (grid : Chart) (size : Extent) (goal : Point) (g : List ℕ) → IsAtRest grid size goal g → AreDistances grid goal (map distance_of g)
-AreDistances-at_rest grid size goal g rest =
+pub AreDistances-at_rest : (grid : Chart) (goal : Point) (g : List ℕ) → IsAtRest grid goal g → AreDistances grid goal (map distance_of g)
+AreDistances-at_rest grid goal g rest =
     record {
       one_each = rw length-map rest.one_g_each;
       right = λ c h.
           (let inside : flag_index grid.size c < length g = omega (arith, index_below grid.size c h, rest.one_g_each) in
           let read : slice_index_or (map distance_of g) (flag_index grid.size c) None ≡ distance_of (mark_at grid.size g c) = get_or-map distance_of g (flag_index grid.size c) 0 None inside in
-          rw read (IsDistance-at_rest grid size goal g rest c h));
+          rw read (IsDistance-at_rest grid goal g rest c h));
     }
 
 -- the numbers before and after a repair
-module _ (old new : Chart) (old_size new_size : Extent) (goal : Point) (d g : List ℕ) (count : ℕ) (before : IsAtRest old old_size goal d) (after : IsAtRest new new_size goal g) (is : count ≡ count_over d g) where
+module _ (old new : Chart) (goal : Point) (d g : List ℕ) (count : ℕ) (before : IsAtRest old goal d) (after : IsAtRest new goal g) (is : count ≡ count_over d g) where
   -- there are at most two changes for each cell
   pub at_rest-few : count ≤ 2097152
   at_rest-few = omega (arith, is, count_over-le d g, before.one_g_each, before.sized.cells_most)
@@ -105,9 +101,9 @@ module _ (old new : Chart) (old_size new_size : Extent) (goal : Point) (d g : Li
       record {
         olds = map distance_of d;
         news = map distance_of g;
-        old_distances = AreDistances-at_rest old old_size goal d before;
-        new_distances = AreDistances-at_rest new new_size goal g after;
-        counted = is ∙ count_over-is d g long (g-le old old_size goal d before) (g-le new new_size goal g after);
+        old_distances = AreDistances-at_rest old goal d before;
+        new_distances = AreDistances-at_rest new goal g after;
+        counted = is ∙ count_over-is d g long (g-le old goal d before) (g-le new goal g after);
       }
 
   pub IsRepaired-at_rest : (map : Chart) → new ≡ map → new.size ≡ old.size → (was total taken now : ℕ) → count ≡ taken → HaveCounted count total now →

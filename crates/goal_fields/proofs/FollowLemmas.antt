@@ -11,7 +11,7 @@ use Rattle.goal_fields.specs.declared.lifelong.Lifelong.{Lifelong}
 use Rattle.goal_fields.specs.Marks.{mark_at}
 use Rattle.goal_fields.specs.Repair.{IsRhs, IsWrite, key_for}
 use Rattle.goal_fields.specs.Lifelong.{IsRoomy, IsGood, IsSameBut, KeepsKey, g_of}
-use Rattle.goal_fields.specs.Taking.{Lags, Follows, IsTaking, IsUnstirred}
+use Rattle.goal_fields.specs.Taking.{Advances, Lags, Follows, IsTaking, IsUnstirred}
 use Rattle.goal_fields.proofs.Neighbours.{cases_cell}
 use Rattle.goal_fields.proofs.UpdateLemmas.{key_min, key_none}
 use Rattle.goal_fields.proofs.TakeLemmas.{IsKey, IsKey-of, IsRhs-apart, IsWrite-set}
@@ -80,29 +80,67 @@ Lags-kept g old new c same kept lags =
       queued = kept ∙ lags.queued ∙ ap (λ (n : ℕ). key_for n lags.rhs) (sym (g_of-same old new c same));
     }
 
--- an update goes on with what follows a write
-pub Follows-update : (g : Point → ℕ) (old new : Lifelong) (from : Point) (cell : Option Point) (was now : ℕ) → IsSameBut old new →
+-- the update of one cell, or of none
+pub Advances-update : (old new : Lifelong) (cell : Option Point) → IsSameBut old new →
     ((c : Point) → cell ≡ Some c → IsGood new c) →
     ((c : Point) → Holds old.grid.size c → IsGood old c → IsGood new c) →
-    ((c : Point) → Holds old.grid.size c → (cell ≡ Some c → ⊥) → KeepsKey old new c) →
-    Follows g old from was now → Follows g new from was now
-Follows-update g old new from cell was now same here keeps others f =
-    record {
-      written = record {
-        here = g_of-same old new from same ∙ f.written.here;
-        elsewhere = λ c h apart. g_of-same old new c same ∙ f.written.elsewhere c (rw (← same.grid) h) apart;
-      };
-      before = f.before;
-      each = λ c h apart. each c (rw (← same.grid) h) apart (cases_some cell c);
-    }
+    ((c : Point) → Holds old.grid.size c → (cell ≡ Some c → ⊥) → KeepsKey old new c) → Advances old new
+Advances-update old new cell same here keeps others =
+    record { same = same; keeps = keeps; others = λ c h. elim (cases_some cell c) [ inl e ↦ inl (here c e) | inr ne ↦ inr (others c h ne) ] }
   where
     cases_some : (cell : Option Point) (c : Point) → (cell ≡ Some c) ⊎ (cell ≡ Some c → ⊥)
     cases_some None c = inr (λ e. cc)
     cases_some (Some a) c = elim (cases_cell a c) [ inl e ↦ inl (ap (λ v. Some v) e) | inr ne ↦ inr (λ e. ne cc) ]
 
-    each : (c : Point) → Holds old.grid.size c → c ≢ from → ((cell ≡ Some c) ⊎ (cell ≡ Some c → ⊥)) → IsGood new c ⊎ Lags g new c
-    each c h apart (inl e) = inl (here c e)
-    each c h apart (inr ne) = elim (f.each c h apart) [ inl good ↦ inl (keeps c h good) | inr lags ↦ inr (Lags-kept g old new c same (others c h ne) lags) ]
+pub Advances-refl : (s : Lifelong) → Advances s s
+Advances-refl s = record { same = record { grid = refl; goal = refl; g = refl; taken = refl; total = refl }; keeps = λ c h good. good; others = λ c h. inr refl }
+
+pub Advances-trans : (one two three : Lifelong) → Advances one two → Advances two three → Advances one three
+Advances-trans one two three first then =
+    record {
+      same = record {
+        grid = then.same.grid ∙ first.same.grid;
+        goal = then.same.goal ∙ first.same.goal;
+        g = then.same.g ∙ first.same.g;
+        taken = then.same.taken ∙ first.same.taken;
+        total = then.same.total ∙ first.same.total;
+      };
+      keeps = λ c h good. then.keeps c (there c h) (first.keeps c h good);
+      others = λ c h. elim (first.others c h) [
+        | inl good ↦ inl (then.keeps c (there c h) good)
+        | inr kept ↦ elim (then.others c (there c h)) [ inl good ↦ inl good | inr later ↦ inr (later ∙ kept) ]
+      ];
+    }
+  where
+    there : (c : Point) → Holds one.grid.size c → Holds two.grid.size c
+    there c h = rw first.same.grid h
+
+-- what is good or isn't stirred stays so
+pub unstirred_later : (old new : Lifelong) (c : Point) (was now : ℕ) → Advances old new → Holds old.grid.size c → IsGood old c ⊎ IsUnstirred old c was now → IsGood new c ⊎ IsUnstirred new c was now
+unstirred_later old new c was now on h (inl good) = inl (on.keeps c h good)
+unstirred_later old new c was now on h (inr still) = elim (on.others c h) [
+  | inl good ↦ inl good
+  | inr kept ↦ (let same : g_of new c ≡ g_of old c = g_of-same old new c on.same in
+      inr (record { unqueued = kept ∙ still.unqueued; lowered = λ lt. omega (arith, same, still.lowered lt); raised = λ lt e. still.raised lt (sym same ∙ e) }))
+]
+
+-- what follows a write goes on
+pub Follows-later : (g : Point → ℕ) (old new : Lifelong) (from : Point) (was now : ℕ) → Advances old new → Follows g old from was now → Follows g new from was now
+Follows-later g old new from was now on f =
+    record {
+      written = record {
+        here = g_of-same old new from on.same ∙ f.written.here;
+        elsewhere = λ c h apart. g_of-same old new c on.same ∙ f.written.elsewhere c (before c h) apart;
+      };
+      before = f.before;
+      each = λ c h apart. elim (f.each c (before c h) apart) [
+        | inl good ↦ inl (on.keeps c (before c h) good)
+        | inr lags ↦ elim (on.others c (before c h)) [ inl good ↦ inl good | inr kept ↦ inr (Lags-kept g old new c on.same kept lags) ]
+      ];
+    }
+  where
+    before : (c : Point) → Holds new.grid.size c → Holds old.grid.size c
+    before c h = rw (← on.same.grid) h
 
 -- a cell isn't next to itself
 pub apart_itself : (c : Point) → IsAdjacent c c → ⊥

@@ -22,7 +22,7 @@ use Rattle.grid_cells.specs.Grid.{Chart}
 use Rattle.grid_cells.specs.declared.sizes.TheConstants.{MOST_SIDE}
 use Rattle.goal_fields.specs.Target.{Standing, IsSound}
 use Rattle.goal_fields.specs.Changes.{IsRepaired}
-use Rattle.goal_fields.specs.Held.{HasGoal, StandFor, rank_of, RiseByGoal, SameButGoal, IsRising}
+use Rattle.goal_fields.specs.Held.{HasGoal, rank_of, RiseByGoal, SameButGoal, IsRising}
 use Rattle.goal_fields.specs.Kept.{goal_rank, IsKept}
 
 -- where a place of a list with one more stands
@@ -45,6 +45,29 @@ remove_cases xs i k d hi hk = go (cases_lt k i)
     go : ((k < i) ⊎ (i ≤ k)) → ((k < i) × (get_or (remove xs i) k d ≡ get_or xs k d)) ⊎ ((i ≤ k) × (k + 1 < length xs) × (get_or (remove xs i) k d ≡ get_or xs (k + 1) d))
     go (inl lt) = inl (lt, get_or-remove_below xs i d k lt hi)
     go (inr le) = inr (le, omega (arith, length-remove xs i hi), get_or-remove_above xs i d k le hi)
+
+-- what is made of each element
+pub map-insert : {X Y : Type 0} (f : X → Y) (xs : List X) (x : X) (i : ℕ) → insert (map f xs) i (f x) ≡ map f (insert xs i x)
+map-insert f xs x i = sym (map-append f (take i xs) (x ∷ drop i xs) ∙ rw (take-map, drop-map) refl)
+
+pub map-remove : {X Y : Type 0} (f : X → Y) (xs : List X) (i : ℕ) → remove (map f xs) i ≡ map f (remove xs i)
+map-remove f xs i = sym (map-append f (take i xs) (drop (suc i) xs) ∙ rw (take-map, drop-map) refl)
+
+-- what holds of each element, with one more and with one less
+pub All-insert : {X : Type 0} (P : X → Type 0) (xs : List X) (x : X) (i : ℕ) → i ≤ length xs → All P xs → P x → All P (insert xs i x)
+All-insert P xs x i room all here k d h =
+    elim (insert_cases xs i x k d room h) [
+      | inl (lt, same) ↦ rw same (all k d (omega arith))
+      | inr (inl (is, same)) ↦ rw same here
+      | inr (inr (m, is, le, within, same)) ↦ rw same (all m d within)
+    ]
+
+pub All-remove : {X : Type 0} (P : X → Type 0) (xs : List X) (i : ℕ) → i < length xs → All P xs → All P (remove xs i)
+All-remove P xs i h all k d hk =
+    elim (remove_cases xs i k d h hk) [
+      | inl (lt, same) ↦ rw same (all k d (omega arith))
+      | inr (le, more, same) ↦ rw same (all (k + 1) d more)
+    ]
 
 -- what stands in a list with one more
 pub Contains-insert : {X : Type 0} (xs : List X) (i : ℕ) (y x : X) → i ≤ length xs → Contains (insert xs i y) x → (x ≡ y) ⊎ Contains xs x
@@ -185,42 +208,22 @@ pub IsKept-insert : (ranks : List ℕ) (fields : List Standing) (field : Standin
 IsKept-insert ranks fields field at kept gap sound column row =
     let room : at ≤ length fields = omega (arith, gap.room, IsKept-long ranks fields kept) in
     record {
-      ranked = subst (λ (xs : List ℕ). insert xs at (goal_rank field) ≡ map goal_rank (insert fields at field)) (sym kept.ranked) (map-insert room);
+      ranked = subst (λ (xs : List ℕ). insert xs at (goal_rank field) ≡ map goal_rank (insert fields at field)) (sym kept.ranked) (map-insert goal_rank fields field at);
       rising = rising_insert ranks at (goal_rank field) kept.rising gap;
-      sound = λ k d h. elim (insert_cases fields at field k d room h) [
-        | inl (lt, same) ↦ rw same (kept.sound k d (omega arith))
-        | inr (inl (is, same)) ↦ rw same sound
-        | inr (inr (m, is, le, within, same)) ↦ rw same (kept.sound m d within)
-      ];
-      bounded = λ k d h. elim (insert_cases fields at field k d room h) [
-        | inl (lt, same) ↦ rw same (kept.bounded k d (omega arith))
-        | inr (inl (is, same)) ↦ rw same (column, row)
-        | inr (inr (m, is, le, within, same)) ↦ rw same (kept.bounded m d within)
-      ];
+      sound = All-insert IsSound fields field at room kept.sound sound;
+      bounded = All-insert (λ f. (f.goal.x < MOST_SIDE) × (f.goal.y < MOST_SIDE)) fields field at room kept.bounded (column, row);
     }
-  where
-    map-insert : at ≤ length fields → insert (map goal_rank fields) at (goal_rank field) ≡ map goal_rank (insert fields at field)
-    map-insert room = sym (map-append goal_rank (take at fields) (field ∷ drop at fields) ∙ rw (take-map, drop-map) refl)
 
 -- one field less
 pub IsKept-remove : (ranks : List ℕ) (fields : List Standing) (at : ℕ) → IsKept ranks fields → at < length ranks → IsKept (remove ranks at) (remove fields at)
 IsKept-remove ranks fields at kept h =
     let within : at < length fields = omega (arith, IsKept-long ranks fields kept) in
     record {
-      ranked = subst (λ (xs : List ℕ). remove xs at ≡ map goal_rank (remove fields at)) (sym kept.ranked) map-remove;
+      ranked = subst (λ (xs : List ℕ). remove xs at ≡ map goal_rank (remove fields at)) (sym kept.ranked) (map-remove goal_rank fields at);
       rising = rising_remove ranks at kept.rising h;
-      sound = λ k d hk. elim (remove_cases fields at k d within hk) [
-        | inl (lt, same) ↦ rw same (kept.sound k d (omega arith))
-        | inr (le, more, same) ↦ rw same (kept.sound (k + 1) d more)
-      ];
-      bounded = λ k d hk. elim (remove_cases fields at k d within hk) [
-        | inl (lt, same) ↦ rw same (kept.bounded k d (omega arith))
-        | inr (le, more, same) ↦ rw same (kept.bounded (k + 1) d more)
-      ];
+      sound = All-remove IsSound fields at within kept.sound;
+      bounded = All-remove (λ f. (f.goal.x < MOST_SIDE) × (f.goal.y < MOST_SIDE)) fields at within kept.bounded;
     }
-  where
-    map-remove : remove (map goal_rank fields) at ≡ map goal_rank (remove fields at)
-    map-remove = sym (map-append goal_rank (take at fields) (drop (suc at) fields) ∙ rw (take-map, drop-map) refl)
 
 -- the fields of other goals after one was put in
 pub SameButGoal-insert : (fields : List Standing) (field : Standing) (at : ℕ) → at ≤ length fields → SameButGoal fields (insert fields at field) field.goal
@@ -296,21 +299,11 @@ HasGoal-at ranks fields goal at kept narrow h is = go (slice_get_cases fields at
     go (inl (x, within, got, e)) = (x, (at, within, e), ap (λ (f : Standing). f.goal) (sym e) ∙ goal_at ranks fields goal kept narrow at x h is)
     go (inr (past, none)) = absurd (omega (arith, IsKept-long ranks fields kept))
 
--- all stand for the grid with one more that does
-pub StandFor-insert : (grid : Chart) (fields : List Standing) (field : Standing) (at : ℕ) → at ≤ length fields → StandFor grid fields → field.grid ≡ grid → StandFor grid (insert fields at field)
-StandFor-insert grid fields field at room all here k d h =
-    elim (insert_cases fields at field k d room h) [
-      | inl (lt, same) ↦ rw same (all k d (omega arith))
-      | inr (inl (is, same)) ↦ rw same here
-      | inr (inr (m, is, le, within, same)) ↦ rw same (all m d within)
-    ]
+-- the relation holds of one more
+pub AllZip-more : {X : Type 0} (R : X → X → Type 0) (old now : List X) (i : ℕ) (x new : X) → i < length old → i < length now → AllZip R (take i old) (take i now) → R (slice_index_or old i x) new →
+    AllZip R (take (i + 1) old) (take (i + 1) (set now i new))
+AllZip-more R old now i x new ho hn all one = rw (take_more old i x ho, take_more_set now i new hn) (AllZip-push R (take i old) (take i now) (slice_index_or old i x) new all one)
 
--- one more field is repaired
-pub AllZip-more : (grid : Chart) (old now : List Standing) (i : ℕ) (new d : Standing) → i < length old → i < length now → AllZip (IsRepaired grid) (take i old) (take i now) → IsRepaired grid (slice_index_or now i d) new → slice_index_or now i d ≡ slice_index_or old i d →
-    AllZip (IsRepaired grid) (take (i + 1) old) (take (i + 1) (set now i new))
-AllZip-more grid old now i new d ho hn all one same =
-    rw (take_more old i d ho, take_more_set now i new hn) (AllZip-push (IsRepaired grid) (take i old) (take i now) (slice_index_or old i d) new all (subst (λ (f : Standing). IsRepaired grid f new) same one))
-
--- and counted
-pub sum_by-more : (now : List Standing) (i : ℕ) (new : Standing) → i < length now → sum_by (λ field. field.taken) (take (i + 1) (set now i new)) ≡ sum_by (λ field. field.taken) (take i now) + new.taken
-sum_by-more now i new h = rw (take_more_set now i new h) (fold_push (λ (a : ℕ) (field : Standing). a + field.taken) 0 (take i now) new)
+-- and one more is counted
+pub sum_by-more : {X : Type 0} (f : X → ℕ) (now : List X) (i : ℕ) (new : X) → i < length now → sum_by f (take (i + 1) (set now i new)) ≡ sum_by f (take i now) + f new
+sum_by-more f now i new h = rw (take_more_set now i new h) (fold_push (λ (a : ℕ) (x : _). a + f x) 0 (take i now) new)

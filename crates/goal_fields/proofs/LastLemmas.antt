@@ -1,16 +1,16 @@
 -- The edits before a repair, and the state in which it begins.
-use Rattle.std.specs.Prelude.{Bool, true, false, Option, Some, None, IsTrue, ◌==◌, ◌&&◌, ◌↔◌, Contains}
+use Rattle.std.specs.Prelude.{Bool, true, false, Option, Some, None, IsTrue, ◌==◌, ◌&&◌, ◌↔◌}
 use Rattle.std.specs.List.{slice_get}
-use Rattle.std.proofs.Common.{◌≡◌, ℕ, ◌<◌, ◌≤◌, ◌⊎◌, inl, inr, List, [], ◌∷◌, length, refl, sym, ap, subst, ◌∙◌, arith, get_or}
+use Rattle.std.proofs.Common.{◌≡◌, ℕ, ◌+◌, ◌<◌, ◌≤◌, ◌⊎◌, inl, inr, List, [], ◌∷◌, ◌++◌, length, refl, sym, ap, subst, ◌∙◌, arith, get_or}
 use Rattle.std.proofs.lemmas.List.{ext_get_or, get_or-replicate, length-replicate}
 use Rattle.std.proofs.lemmas.Option.{unwrap_or-slice_get, slice_get-get_or}
 use Rattle.std.specs.Option.{unwrap_or}
-use Rattle.std.proofs.lemmas.List.Elements.{Contains-append_left, Contains-append_right, Contains-append_cases}
-use Rattle.std.proofs.lemmas.Grind.{common_steps}
+use Rattle.std.proofs.lemmas.List.Elements.{Contains-push_cases}
+use Rattle.std.proofs.lemmas.Bool.{cases_lt}
 use Rattle.grid_cells.specs.Cell.{Point, IsAdjacent}
 use Rattle.grid_cells.specs.Size.{Extent, IsSize, Holds}
 use Rattle.grid_cells.specs.Grid.{Chart, IsOpen, flag_index}
-use Rattle.cell_queue.specs.Queue.{area, Queue, empty_queue, IsEmpty}
+use Rattle.cell_queue.specs.Queue.{area, Queue, empty_queue, key_at, IsEmpty}
 use Rattle.cell_queue.proofs.Indexes.{index_below}
 use Rattle.goal_fields.specs.declared.lifelong.Lifelong.{Lifelong}
 use Rattle.goal_fields.specs.declared.search.Search.{Search}
@@ -20,12 +20,13 @@ use Rattle.goal_fields.proofs.FollowLemmas.{key_none_is}
 use Rattle.goal_fields.proofs.RepairEnds.{IsRhs-distance}
 use Rattle.goal_fields.specs.Marks.{far, mark_at, IsWhole}
 use Rattle.goal_fields.specs.Target.{flag_at, Covers}
-use Rattle.goal_fields.specs.Lifelong.{g_of, IsRoomy, IsGood, IsTouched, IsConsistent, IsSettled, IsInRepair}
+use Rattle.goal_fields.specs.Lifelong.{g_of, IsRoomy, IsGood, Waits, IsTouched, IsConsistent, IsSettled, IsInRepair}
+use Rattle.goal_fields.specs.Taking.{Advances, IsUnstirred}
 use Rattle.goal_fields.specs.Adopting.{IsAdopting}
 use Rattle.goal_fields.specs.Rest.{IsAtRest, IsRoomOn}
-use Rattle.goal_fields.proofs.Neighbours.{IsAdjacent-sym, cell_at, cases_cell, cases_held, cases_adjacent}
+use Rattle.goal_fields.proofs.Neighbours.{IsAdjacent-sym, cell_at, cases_adjacent}
 use Rattle.goal_fields.proofs.UpdateLemmas.{key_none}
-use Rattle.goal_fields.proofs.TakeLemmas.{count_over-same, rhs_in, rhs_in-good}
+use Rattle.goal_fields.proofs.TakeLemmas.{count_over-same, rhs_in, rhs_in-good, IsRhs-good}
 
 -- the map has a flag for the cell
 pub flag_given : (xs : List Bool) (i : ℕ) → i < length xs → (b : Bool) × (slice_get xs i ≡ Some b)
@@ -79,11 +80,10 @@ IsInRepair-begin now roomy good top taken =
     }
 
 -- after a breadth-first search the marks are at rest
-pub IsAtRest-found : (found_by : Search) (grid : Chart) (goal : Point) → IsFound found_by → found_by.grid ≡ grid → found_by.goal ≡ goal → IsAtRest grid grid.size goal found_by.marks.items
+pub IsAtRest-found : (found_by : Search) (grid : Chart) (goal : Point) → IsFound found_by → found_by.grid ≡ grid → found_by.goal ≡ goal → IsAtRest grid goal found_by.marks.items
 IsAtRest-found found_by grid goal found same_grid same_goal =
-    subst (λ (t : Chart). IsAtRest t t.size goal found_by.marks.items) same_grid (subst (λ (p : Point). IsAtRest found_by.grid found_by.grid.size p found_by.marks.items) same_goal
+    subst (λ (t : Chart). IsAtRest t goal found_by.marks.items) same_grid (subst (λ (p : Point). IsAtRest found_by.grid p found_by.marks.items) same_goal
     (record {
-      is = refl;
       sized = found.room.sized;
       goal_held = found.room.goal_held;
       whole = found.room.whole;
@@ -116,55 +116,6 @@ IsSettled-ended d s floor inv empty =
       empty = empty;
     }
 
--- the one element of a list
-only_one : (x v : Point) → Contains (x ∷ []) v → v ≡ x
-only_one x v con = grind (arith, common_steps)
-
--- a cell is near another: it is the same or adjacent
-abbrev Near : Point → Point → Type 0
-Near v c = (c ≡ v) ⊎ IsAdjacent v c
-
--- whether a cell is near one of the cells that the map has
-near_some : (size : Extent) (cells : List Point) (c : Point) → ((v : Point) × Contains cells v × Holds size v × Near v c) ⊎ ((v : Point) → Contains cells v → Holds size v → Near v c → ⊥)
-near_some size [] c = inr (λ v con held near. absurd (omega (arith, con.1)))
-near_some size (x ∷ xs) c = go (cases_held size x) (cases_cell c x) (cases_adjacent x c) (near_some size xs c)
-  where
-    first : Contains (x ∷ xs) x
-    first = Contains-append_left (x ∷ []) xs x (0, omega arith, refl)
-
-    later : (Holds size x → Near x c → ⊥) → (((v : Point) × Contains xs v × Holds size v × Near v c) ⊎ ((v : Point) → Contains xs v → Holds size v → Near v c → ⊥)) →
-        ((v : Point) × Contains (x ∷ xs) v × Holds size v × Near v c) ⊎ ((v : Point) → Contains (x ∷ xs) v → Holds size v → Near v c → ⊥)
-    later apart (inl (v, con, held, near)) = inl (v, Contains-append_right (x ∷ []) xs v con, held, near)
-    later apart (inr none) = inr (λ v con held near. elim (Contains-append_cases (x ∷ []) xs v con) [
-      | inl here ↦ (let e : v ≡ x = only_one x v here in apart (subst (λ (w : Point). Holds size w) e held) (subst (λ (w : Point). Near w c) e near))
-      | inr there ↦ none v there held near
-    ])
-
-    go : (Holds size x ⊎ (Holds size x → ⊥)) → ((c ≡ x) ⊎ (c ≡ x → ⊥)) → (IsAdjacent x c ⊎ (IsAdjacent x c → ⊥)) → (((v : Point) × Contains xs v × Holds size v × Near v c) ⊎ ((v : Point) → Contains xs v → Holds size v → Near v c → ⊥)) →
-        ((v : Point) × Contains (x ∷ xs) v × Holds size v × Near v c) ⊎ ((v : Point) → Contains (x ∷ xs) v → Holds size v → Near v c → ⊥)
-    go (inr out) _ _ rest = later (λ held near. out held) rest
-    go (inl h) (inl e) _ rest = inl (x, first, h, inl e)
-    go (inl h) (inr ne) (inl adj) rest = inl (x, first, h, inr adj)
-    go (inl h) (inr ne) (inr apart) rest = later (λ held near. elim near [ inl e ↦ ne e | inr adj ↦ apart adj ]) rest
-
--- a cell none of whose neighbours has changed, nor itself, keeps its equation
-IsRhs-unchanged : (old new : Chart) (goal : Point) (g : Point → ℕ) (c : Point) (r : ℕ) → old.size ≡ new.size →
-    ((v : Point) → Holds old.size v → Near v c → flag_at old v ≡ flag_at new v) → IsRhs old goal g c r → IsRhs new goal g c r
-IsRhs-unchanged old new goal g c r size same a =
-    record {
-      bounded = a.bounded;
-      closed = λ shut. a.closed (λ o. shut (now c (inl refl) o));
-      at_goal = λ o e. a.at_goal (before c (inl refl) o) e;
-      upper = λ o n v adj on. a.upper (before c (inl refl) o) n v adj (before v (inr (IsAdjacent-sym c v adj)) on);
-      lower = λ o n lt. (let (v, adj, on, e) = a.lower (before c (inl refl) o) n lt in (v, adj, now v (inr (IsAdjacent-sym c v adj)) on, e));
-    }
-  where
-    now : (v : Point) → Near v c → IsOpen old v → IsOpen new v
-    now v near o = (subst (λ (z : Extent). Holds z v) size o.0, sym (same v o.0 near) ∙ o.1)
-
-    before : (v : Point) → Near v c → IsOpen new v → IsOpen old v
-    before v near o = (let held : Holds old.size v = subst (λ (z : Extent). Holds z v) (sym size) o.0 in (held, same v held near ∙ o.1))
-
 -- flags are the same or differ
 cases_flag : (a b : Option Bool) → (a ≡ b) ⊎ (a ≡ b → ⊥)
 cases_flag None None = inl refl
@@ -175,33 +126,110 @@ cases_flag (Some false) (Some false) = inl refl
 cases_flag (Some true) (Some false) = inr (λ e. cc)
 cases_flag (Some false) (Some true) = inr (λ e. cc)
 
+-- one more cell is touched: where it is closed and had a distance, each neighbour is good or isn't stirred by its closing
+pub IsTouched-more : (start old new : Lifelong) (done : List Point) (a : Point) → Advances old new → IsRoomy new → IsGood new a →
+    ((c : Point) → Holds new.grid.size c → IsAdjacent a c → g_of new a < far → IsOpen new.grid a ⊎ (IsGood new c ⊎ IsUnstirred new c (g_of new a) far)) →
+    IsTouched start old done → IsTouched start new (done ++ a ∷ [])
+IsTouched-more start old new done a on roomy here near t =
+    record {
+      roomy = roomy;
+      grid = grid;
+      goal = on.same.goal ∙ t.goal;
+      g = g;
+      taken = on.same.taken ∙ t.taken;
+      total = on.same.total ∙ t.total;
+      here = λ v con h. elim (Contains-push_cases done a v con) [ inl before ↦ on.keeps v (rw t.grid h) (t.here v before h) | inr last ↦ subst (IsGood new) last here ];
+      each = λ c h. elim (t.each c h) [
+        | inl good ↦ inl (on.keeps c (rw t.grid h) good)
+        | inr waits ↦ elim (on.others c (rw t.grid h)) [ inl good ↦ inl good | inr kept ↦ still c h waits (kept ∙ waits.unqueued) (cases_adjacent a c) (cases_lt (g_of start a) far) ]
+      ];
+    }
+  where
+    grid : new.grid ≡ start.grid
+    grid = on.same.grid ∙ t.grid
+
+    g : new.g.items ≡ start.g.items
+    g = on.same.g ∙ t.g
+
+    same : (c : Point) → g_of new c ≡ g_of start c
+    same c = ap (λ (z : Chart). mark_at z.size new.g.items c) grid ∙ ap (λ (xs : List ℕ). mark_at start.grid.size xs c) g
+
+    waits_on : (c : Point) → Waits start old done c → key_at new.queue c ≡ None →
+        (Holds start.grid.size a → IsAdjacent c a → g_of start a < far → g_of start c ≡ g_of start a + 1 → IsOpen start.grid a) → Waits start new (done ++ a ∷ []) c
+    waits_on c waits unqueued last =
+        record {
+          unqueued = unqueued;
+          on_way = λ v con hv adj lt e. elim (Contains-push_cases done a v con) [
+            | inl before ↦ waits.on_way v before hv adj lt e
+            | inr is ↦ subst (IsOpen start.grid) is
+                (last (subst (Holds start.grid.size) (sym is) hv) (subst (IsAdjacent c) (sym is) adj) (subst (λ (w : Point). g_of start w < far) (sym is) lt) (subst (λ (w : Point). g_of start c ≡ g_of start w + 1) (sym is) e))
+          ];
+        }
+
+    still : (c : Point) → Holds start.grid.size c → Waits start old done c → key_at new.queue c ≡ None → (IsAdjacent a c ⊎ (IsAdjacent a c → ⊥)) → ((g_of start a < far) ⊎ (far ≤ g_of start a)) →
+        IsGood new c ⊎ Waits start new (done ++ a ∷ []) c
+    still c h waits unqueued (inr apart) _ = inr (waits_on c waits unqueued (λ ha adj lt e. absurd (apart (IsAdjacent-sym c a adj))))
+    still c h waits unqueued (inl adj) (inr none) = inr (waits_on c waits unqueued (λ ha back lt e. absurd (omega arith)))
+    still c h waits unqueued (inl adj) (inl some) = elim (near c (rw grid h) adj (omega (arith, same a))) [
+      | inl free ↦ inr (waits_on c waits unqueued (λ ha back lt e. subst (λ (z : Chart). IsOpen z a) grid free))
+      | inr (inl good) ↦ inl good
+      | inr (inr unstirred) ↦ inr (waits_on c waits unqueued (λ ha back lt e. absurd (unstirred.raised (omega (arith, same a)) (omega (arith, same a, same c, e)))))
+    ]
+
+-- a cell that still waits has the same equation on the new map
+IsRhs-waiting : (old : Chart) (start now : Lifelong) (changed : List Point) (c : Point) → old.size ≡ start.grid.size → Covers changed old start.grid →
+    ((v : Point) → Holds start.grid.size v → IsRhs old start.goal (g_of start) v (g_of start v)) → Holds start.grid.size c → flag_at old c ≡ flag_at start.grid c → Waits start now changed c →
+    IsRhs start.grid start.goal (g_of start) c (g_of start c)
+IsRhs-waiting old start now changed c size covers at_start held here waits =
+    record {
+      bounded = a.bounded;
+      closed = λ shut. a.closed (λ o. shut (on_new c here o));
+      at_goal = λ o e. a.at_goal (on_old c here o) e;
+      upper = λ o n v adj on. elim (cases_flag (flag_at old v) (flag_at start.grid v)) [
+        | inl same ↦ a.upper (on_old c here o) n v adj (on_old v same on)
+        | inr differ ↦ (let none : g_of start v ≡ far = (at_start v on.0).closed (λ was. differ (was.1 ∙ sym on.1)) in omega (arith, none, a.bounded))
+      ];
+      lower = λ o n lt. (let (v, adj, on, e) = a.lower (on_old c here o) n lt in
+          let hv : Holds start.grid.size v = subst (λ (z : Extent). Holds z v) size on.0 in
+          (v, adj, elim (cases_flag (flag_at old v) (flag_at start.grid v)) [ inl same ↦ on_new v same on | inr differ ↦ waits.on_way v (covers v on.0 differ) hv adj (omega (arith, lt, e)) e ], e));
+    }
+  where
+    a : IsRhs old start.goal (g_of start) c (g_of start c)
+    a = at_start c held
+
+    on_new : (v : Point) → flag_at old v ≡ flag_at start.grid v → IsOpen old v → IsOpen start.grid v
+    on_new v same o = (subst (λ (z : Extent). Holds z v) size o.0, sym same ∙ o.1)
+
+    on_old : (v : Point) → flag_at old v ≡ flag_at start.grid v → IsOpen start.grid v → IsOpen old v
+    on_old v same o = (subst (λ (z : Extent). Holds z v) (sym size) o.0, same ∙ o.1)
+
 -- once the changed cells are touched, each cell is good, and a repair begins
 pub IsInRepair-touched : (old : Chart) (start now : Lifelong) (changed : List Point) → old.size ≡ start.grid.size → Covers changed old start.grid → IsConsistent old start →
-    IsRoomy start → IsEmpty start.queue → IsTouched start now changed → IsInRepair now.g.items now 0
-IsInRepair-touched old start now changed size covers consistent roomy empty t =
+    IsTouched start now changed → IsInRepair now.g.items now 0
+IsInRepair-touched old start now changed size covers consistent t =
     IsInRepair-begin now t.roomy (λ c h. good c (subst (λ (z : Chart). Holds z.size c) t.grid h)) top t.taken
   where
     at_start : (c : Point) → Holds start.grid.size c → IsRhs old start.goal (g_of start) c (g_of start c)
     at_start c h = (let held : Holds old.size c = rw size h in subst (λ (z : Extent). IsRhs old start.goal (mark_at z start.g.items) c (mark_at z start.g.items c)) size (consistent c held))
 
-    top : (c : Point) → Holds now.grid.size c → g_of now c ≤ far
-    top c h =
-        let held : Holds start.grid.size c = subst (λ (z : Chart). Holds z.size c) t.grid h in
-        let same : g_of now c ≡ g_of start c = ap (λ (z : Chart). mark_at z.size now.g.items c) t.grid ∙ ap (λ (xs : List ℕ). mark_at start.grid.size xs c) t.g in
-        omega (arith, same, (at_start c held).bounded)
+    same : (c : Point) → g_of now c ≡ g_of start c
+    same c = ap (λ (z : Chart). mark_at z.size now.g.items c) t.grid ∙ ap (λ (xs : List ℕ). mark_at start.grid.size xs c) t.g
 
-    unchanged : (c v : Point) → ((w : Point) → Contains changed w → Holds start.grid.size w → Near w c → ⊥) → Holds old.size v → Near v c → flag_at old v ≡ flag_at start.grid v
-    unchanged c v none held near = elim (cases_flag (flag_at old v) (flag_at start.grid v)) [ inl same ↦ same | inr differ ↦ absurd (none v (covers v held differ) (rw (← size) held) near) ]
+    top : (c : Point) → Holds now.grid.size c → g_of now c ≤ far
+    top c h = omega (arith, same c, (at_start c (subst (λ (z : Chart). Holds z.size c) t.grid h)).bounded)
 
     good : (c : Point) → Holds start.grid.size c → IsGood now c
-    good c h = elim (near_some start.grid.size changed c) [
-      | inl (v, con, hv, near) ↦ t.near v con hv c h near
-      | inr none ↦ t.keeps c h (record {
-        rhs = g_of start c;
-        equation = IsRhs-unchanged old start.grid start.goal (g_of start) c (g_of start c) size
-            (λ v hv near. unchanged c v none hv near) (at_start c h);
-        queued = empty c (rw roomy.queue h) ∙ key_none (g_of start c) (g_of start c) refl;
-      })
+    good c h = elim (t.each c h) [
+      | inl well ↦ well
+      | inr waits ↦ elim (cases_flag (flag_at old c) (flag_at start.grid c)) [
+        | inr differ ↦ t.here c (covers c (rw size h) differ) h
+        | inl here ↦ record {
+          rhs = g_of start c;
+          equation = subst (λ (xs : List ℕ). IsRhs now.grid now.goal (mark_at now.grid.size xs) c (g_of start c)) (sym t.g)
+              (IsRhs-good now start (sym t.grid) (sym t.goal) c (g_of start c) (IsRhs-waiting old start now changed c size covers at_start h here waits));
+          queued = waits.unqueued ∙ key_none (g_of now c) (g_of start c) (same c);
+        }
+      ]
     ]
 
 -- once all changed cells are looked at, the flags are those of the new grid

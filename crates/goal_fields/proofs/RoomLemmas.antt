@@ -1,67 +1,99 @@
--- The room that is lent to the fields.
+-- The fields that distances are, and the room that is lent to them.
 use Rattle.std.specs.Prelude.{All, IfSome, insert, remove}
 use Rattle.std.specs.List.{AllZip}
 use Rattle.std.proofs.lemmas.Bool.{cases_eq}
-use Rattle.std.proofs.lemmas.List.Elements.{length_all_zip, AllZip-get_or}
-use Rattle.std.proofs.Common.{◌≡◌, ℕ, ◌+◌, ◌<◌, ◌≤◌, ◌⊎◌, List, Option, Some, None, length, refl, sym, ap, subst, ◌∙◌, inl, inr, arith}
+use Rattle.std.proofs.Common.{◌≡◌, ℕ, ◌<◌, ◌≤◌, ◌⊎◌, List, [], ◌∷◌, Option, Some, None, length, map, get_or, refl, sym, ap, subst, ◌∙◌, inl, inr, arith}
+use Rattle.std.proofs.lemmas.List.{get_or-map}
 use Rattle.std.proofs.lemmas.List.Edits.{length-insert}
+use Rattle.std.proofs.Math.ListN.{length-map}
 use Rattle.grid_cells.specs.Cell.{Point}
 use Rattle.grid_cells.specs.Grid.{Chart}
 use Rattle.cell_queue.specs.Queue.{area}
-use Rattle.goal_fields.specs.Marks.{IsWhole}
-use Rattle.goal_fields.specs.Changes.{IsRepaired}
+use Rattle.goal_fields.specs.declared.distances.Distances.{Distances}
 use Rattle.goal_fields.specs.declared.lifelong.Lifelong.{Lifelong}
+use Rattle.goal_fields.specs.Marks.{IsWhole}
 use Rattle.goal_fields.specs.Target.{Standing, Covers}
+use Rattle.goal_fields.specs.Changes.{IsRepaired}
+use Rattle.goal_fields.specs.Rest.{IsRoomOn}
 use Rattle.goal_fields.specs.Held.{StandFor}
-use Rattle.goal_fields.specs.Rest.{IsRoomOn, HaveRoom}
-use Rattle.goal_fields.proofs.HeldLemmas.{remove_cases, StandFor-insert}
+use Rattle.goal_fields.specs.Standings.{AreAtRest, AreRepaired, standing_on, chart_in, standings, HaveRoom}
+use Rattle.goal_fields.proofs.HeldLemmas.{map-insert, map-remove, All-insert, All-remove}
 
--- some field, where none is at hand
-no_field : Chart → Standing
-no_field grid = record { grid = grid; goal = record { x = 0; y = 0 }; taken = 0; total = 0 }
+-- what holds of each of some fields holds of one
+of_one : (grid : Chart) (held : List Distances) (P : Standing → Type 0) → 0 < length held → All P (map (standing_on grid) held) → (one : Distances) × P (standing_on grid one)
+of_one grid [] P some all = absurd (omega (arith, some))
+of_one grid (x ∷ held) P some all = (x, all 0 (standing_on grid x) (omega arith))
 
--- the room is on the map that the fields stand for
-pub room_stands : (grid : Chart) (fields : List Standing) (room : Option Lifelong) → HaveRoom fields room → StandFor grid fields → IfSome room (IsRoomOn grid)
-room_stands grid fields None have stand = tt
-room_stands grid fields (Some room) (some, on, all) stand =
-    let same : room.grid ≡ grid = sym (all 0 (no_field grid) some) ∙ stand 0 (no_field grid) some in
-    subst (λ (t : Chart). IsRoomOn t room) same on
+-- distances are the same fields on one map, and where there are none
+same_standings : (one other : Chart) (held : List Distances) → (length held ≡ 0) ⊎ (one ≡ other) → map (standing_on one) held ≡ map (standing_on other) held
+same_standings one other held (inr e) = ap (λ (t : Chart). map (standing_on t) held) e
+same_standings one other [] (inl none) = refl
+same_standings one other (x ∷ held) (inl none) = absurd (omega (arith, none))
+
+-- fields that stand for a grid are on the room's map
+on_grid : (grid : Chart) (held : List Distances) (room : Option Lifelong) → HaveRoom held room → StandFor grid (standings room held) → (length held ≡ 0) ⊎ (chart_in room ≡ grid)
+on_grid grid held None have stand = inl have
+on_grid grid held (Some room) have stand = inr (of_one room.grid held (λ field. field.grid ≡ grid) have.0 stand).1
+
+pub room_stands : (grid : Chart) (held : List Distances) (room : Option Lifelong) → HaveRoom held room → StandFor grid (standings room held) → IfSome room (IsRoomOn grid)
+room_stands grid held None have stand = tt
+room_stands grid held (Some room) have stand = subst (λ (t : Chart). IsRoomOn t room) (of_one room.grid held (λ field. field.grid ≡ grid) have.0 stand).1 have.1
+
+-- and they are the distances on it
+all_at_rest : (grid : Chart) (held : List Distances) (room : Option Lifelong) → HaveRoom held room → (length held ≡ 0) ⊎ (chart_in room ≡ grid) → All (AreAtRest grid) held
+all_at_rest grid held room have (inl none) = λ k d h. absurd (omega (arith, none, h))
+all_at_rest grid held None have (inr same) = λ k d h. absurd (omega (arith, have, h))
+all_at_rest grid held (Some room) have (inr same) = subst (λ (t : Chart). All (AreAtRest t) held) same have.2
+
+-- there are as many fields
+pub standings-long : (room : Option Lifelong) (held : List Distances) → length (standings room held) ≡ length held
+standings-long room held = rw length-map refl
+
+-- one of them
+pub standings-at : (room : Option Lifelong) (held : List Distances) (i : ℕ) (one : Distances) → i < length held → one ≡ get_or held i one → get_or (standings room held) i (standing_on (chart_in room) one) ≡ standing_on (chart_in room) one
+standings-at room held i one h is = get_or-map (standing_on (chart_in room)) held i one (standing_on (chart_in room) one) h ∙ ap (standing_on (chart_in room)) (sym is)
 
 -- one field more
-pub HaveRoom-insert : (grid : Chart) (fields : List Standing) (field : Standing) (at : ℕ) (room : Lifelong) → at ≤ length fields → StandFor grid fields → field.grid ≡ grid → IsRoomOn grid room → HaveRoom (insert fields at field) (Some room)
-HaveRoom-insert grid fields field at room within stand here on = (
-  omega (arith, length-insert fields at field within),
-  subst (λ (t : Chart). IsRoomOn t room) (sym on.map) on,
-  (λ k d h. StandFor-insert grid fields field at within stand here k d h ∙ sym on.map),
-)
+module _ (grid : Chart) (held : List Distances) (old : Option Lifelong) (have : HaveRoom held old) (stand : StandFor grid (standings old held)) (one : Distances) (at : ℕ) (room : at ≤ length held) (now : Lifelong) (on : IsRoomOn grid now) where
+  pub standings-insert : standings (Some now) (insert held at one) ≡ insert (standings old held) at (standing_on grid one)
+  standings-insert =
+      same_standings now.grid grid (insert held at one) (inr on.map) ∙ sym (map-insert (standing_on grid) held one at)
+      ∙ ap (λ (fields : List Standing). insert fields at (standing_on grid one)) (sym (same_standings (chart_in old) grid held (on_grid grid held old have stand)))
+
+  pub HaveRoom-insert : AreAtRest grid one → HaveRoom (insert held at one) (Some now)
+  HaveRoom-insert here = (
+    omega (arith, length-insert held at one room),
+    subst (λ (t : Chart). IsRoomOn t now) (sym on.map) on,
+    subst (λ (t : Chart). All (AreAtRest t) (insert held at one)) (sym on.map) (All-insert (AreAtRest grid) held one at room (all_at_rest grid held old have (on_grid grid held old have stand)) here),
+  )
 
 -- one field less
-pub HaveRoom-remove : (fields : List Standing) (at : ℕ) (old new : Option Lifelong) → at < length fields → (length (remove fields at) ≡ 0 → new ≡ None) → (0 < length (remove fields at) → new ≡ old) →
-    HaveRoom fields old → HaveRoom (remove fields at) new
-HaveRoom-remove fields at old new h none some have = go (cases_eq (length (remove fields at)) 0)
-  where
-    rest : (room : Option Lifelong) → 0 < length (remove fields at) → HaveRoom fields room → HaveRoom (remove fields at) room
-    rest None left have = absurd (omega (arith, have, h))
-    rest (Some room) left (_, on, all) = (
-      left,
-      on,
-      (λ k d hk. elim (remove_cases fields at k d h hk) [
-        | inl (lt, same) ↦ rw same (all k d (omega arith))
-        | inr (le, more, same) ↦ rw same (all (k + 1) d more)
-      ]),
-    )
+module _ (held : List Distances) (at : ℕ) (old new : Option Lifelong) (h : at < length held) (none : length (remove held at) ≡ 0 → new ≡ None) (some : 0 < length (remove held at) → new ≡ old) (have : HaveRoom held old) where
+  pub standings-remove : standings new (remove held at) ≡ remove (standings old held) at
+  standings-remove = go (cases_eq (length (remove held at)) 0) ∙ sym (map-remove (standing_on (chart_in old)) held at)
+    where
+      go : ((length (remove held at) ≡ 0) ⊎ (length (remove held at) ≡ 0 → ⊥)) → standings new (remove held at) ≡ standings old (remove held at)
+      go (inl e) = same_standings (chart_in new) (chart_in old) (remove held at) (inl e)
+      go (inr ne) = ap (λ (room : Option Lifelong). standings room (remove held at)) (some (omega arith))
 
-    go : ((length (remove fields at) ≡ 0) ⊎ (length (remove fields at) ≡ 0 → ⊥)) → HaveRoom (remove fields at) new
-    go (inl e) = subst (HaveRoom (remove fields at)) (sym (none e)) e
-    go (inr ne) = (let left : 0 < length (remove fields at) = omega arith in subst (HaveRoom (remove fields at)) (sym (some left)) (rest old left have))
+  pub HaveRoom-remove : HaveRoom (remove held at) new
+  HaveRoom-remove = go (cases_eq (length (remove held at)) 0)
+    where
+      rest : (room : Option Lifelong) → 0 < length (remove held at) → HaveRoom held room → HaveRoom (remove held at) room
+      rest None left have = absurd (omega (arith, have, h))
+      rest (Some room) left (_, on, all) = (left, on, All-remove (AreAtRest room.grid) held at h all)
+
+      go : ((length (remove held at) ≡ 0) ⊎ (length (remove held at) ≡ 0 → ⊥)) → HaveRoom (remove held at) new
+      go (inl e) = subst (HaveRoom (remove held at)) (sym (none e)) e
+      go (inr ne) = (let left : 0 < length (remove held at) = omega arith in subst (HaveRoom (remove held at)) (sym (some left)) (rest old left have))
 
 -- the room's map becomes another one of that size, for all fields
-module _ (fields : List Standing) (room : Lifelong) (have : HaveRoom fields (Some room)) (grid : Chart) where
-  pub room_size : All (λ field. grid.size ≡ field.grid.size) fields → grid.size ≡ room.grid.size
-  room_size same = same 0 (no_field grid) have.0 ∙ ap (λ (t : Chart). t.size) (have.2 0 (no_field grid) have.0)
+module _ (held : List Distances) (room : Lifelong) (have : HaveRoom held (Some room)) (grid : Chart) where
+  pub room_size : All (λ field. grid.size ≡ field.grid.size) (standings (Some room) held) → grid.size ≡ room.grid.size
+  room_size same = (of_one room.grid held (λ field. grid.size ≡ field.grid.size) have.0 same).1
 
-  pub room_covered : (changed : List Point) → All (λ field. Covers changed field.grid grid) fields → Covers changed room.grid grid
-  room_covered changed covered = subst (λ (t : Chart). Covers changed t grid) (have.2 0 (no_field grid) have.0) (covered 0 (no_field grid) have.0)
+  pub room_covered : (changed : List Point) → All (λ field. Covers changed field.grid grid) (standings (Some room) held) → Covers changed room.grid grid
+  room_covered changed covered = (of_one room.grid held (λ field. Covers changed field.grid grid) have.0 covered).1
 
   pub IsRoomOn-adopt : grid.size ≡ room.grid.size → IsWhole grid → IsRoomOn grid (record room { grid = grid })
   IsRoomOn-adopt size whole =
@@ -75,10 +107,16 @@ module _ (fields : List Standing) (room : Lifelong) (have : HaveRoom fields (Som
       }
 
   -- and they are repaired for it
-  pub HaveRoom-repaired : (new : List Standing) (now : Lifelong) → AllZip (IsRepaired grid) fields new → IsRoomOn grid now → HaveRoom new (Some now)
-  HaveRoom-repaired new now each on =
-      let long : length fields ≡ length new = length_all_zip (IsRepaired grid) fields new each in (
-        omega (arith, have.0),
-        subst (λ (t : Chart). IsRoomOn t now) (sym on.map) on,
-        (λ k d h. (AllZip-get_or (IsRepaired grid) fields new k d d each (omega arith)).stands ∙ sym on.map),
-      )
+  pub HaveRoom-repaired : (new : List Distances) (now : Lifelong) → length new ≡ length held → All (AreAtRest grid) new → IsRoomOn grid now → HaveRoom new (Some now)
+  HaveRoom-repaired new now long rest on = (
+    omega (arith, have.0, long),
+    subst (λ (t : Chart). IsRoomOn t now) (sym on.map) on,
+    subst (λ (t : Chart). All (AreAtRest t) new) (sym on.map) rest,
+  )
+
+-- distances that are repaired are fields that are repaired
+pub standings-repaired : (old grid : Chart) (before after : List Distances) → AllZip (AreRepaired old grid) before after → AllZip (IsRepaired grid) (map (standing_on old) before) (map (standing_on grid) after)
+standings-repaired old grid [] [] all = all
+standings-repaired old grid [] (y ∷ after) all = absurd all
+standings-repaired old grid (x ∷ before) [] all = absurd all
+standings-repaired old grid (x ∷ before) (y ∷ after) all = (all.0, standings-repaired old grid before after all.1)

@@ -9,4 +9,5 @@ pub mod Repair
 pub mod Lifelong
 pub mod Search
 pub mod Rest
+pub mod Standings
 pub mod Taking

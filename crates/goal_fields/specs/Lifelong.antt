@@ -1,11 +1,11 @@
 -- The state of Lifelong Planning A* (Koenig, Likhachev, Furcy 2004), and what holds of it.
-use Rattle.std.specs.Prelude.{◌≡◌, ◌⊎◌, ℕ, ◌+◌, List, [], ◌∷◌, length, Contains}
+use Rattle.std.specs.Prelude.{◌≡◌, ◌⊎◌, ℕ, ◌+◌, ◌<◌, None, List, [], ◌∷◌, length, Contains}
 use Rattle.grid_cells.specs.Cell.{Point, IsAdjacent}
 use Rattle.grid_cells.specs.Size.{IsSize, Holds}
-use Rattle.grid_cells.specs.Grid.{Chart}
+use Rattle.grid_cells.specs.Grid.{Chart, IsOpen}
 use Rattle.cell_queue.specs.Queue.{area, key_at, IsEmpty}
 use Rattle.goal_fields.specs.declared.lifelong.Lifelong.{Lifelong}
-use Rattle.goal_fields.specs.Marks.{IsWhole, mark_at}
+use Rattle.goal_fields.specs.Marks.{IsWhole, mark_at, far}
 use Rattle.goal_fields.specs.Repair.{IsRhs, IsRepairing, change, key_for}
 
 -- a cell's g
@@ -64,7 +64,12 @@ pub record IsSettled (s : Lifelong) : Type 0 where
 abbrev pub IsConsistent : Chart → Lifelong → Type 0
 IsConsistent grid s = (c : Point) → Holds grid.size c → IsRhs grid s.goal (mark_at grid.size s.g.items) c (mark_at grid.size s.g.items c)
 
--- a repair has begun: the cells near those that are done are good, and each that was good
+-- the cell isn't queued, and none of these cells has closed on its way; `old` is the state in which the repair began
+pub record Waits (old now : Lifelong) (done : List Point) (cell : Point) : Type 0 where
+  pub unqueued : key_at now.queue cell ≡ None
+  pub on_way : (v : Point) → Contains done v → Holds old.grid.size v → IsAdjacent cell v → g_of old v < far → g_of old cell ≡ g_of old v + 1 → IsOpen old.grid v
+
+-- a repair has begun: the cells that are done are good, and each other one is good or waits
 pub record IsTouched (old now : Lifelong) (done : List Point) : Type 0 where
   pub roomy : IsRoomy now
   pub grid : now.grid ≡ old.grid
@@ -72,8 +77,8 @@ pub record IsTouched (old now : Lifelong) (done : List Point) : Type 0 where
   pub g : now.g.items ≡ old.g.items
   pub taken : now.queue.taken ≡ 0
   pub total : now.queue.total ≡ old.queue.total
-  pub near : (v : Point) → Contains done v → Holds old.grid.size v → (c : Point) → Holds old.grid.size c → ((c ≡ v) ⊎ IsAdjacent v c) → IsGood now c
-  pub keeps : (c : Point) → Holds old.grid.size c → IsGood old c → IsGood now c
+  pub here : (v : Point) → Contains done v → Holds old.grid.size v → IsGood now v
+  pub each : (c : Point) → Holds old.grid.size c → IsGood now c ⊎ Waits old now done c
 
 -- grid and goal are the same
 pub record KeepsTarget (old new : Lifelong) : Type 0 where

@@ -1,17 +1,15 @@
 -- A field between two repairs, and the room in which it is repaired.
-use Rattle.std.specs.Prelude.{◌≡◌, ◌<◌, ◌^◌, ℕ, List, Option, Some, None, All, length}
+use Rattle.std.specs.Prelude.{◌≡◌, ◌<◌, ◌^◌, ℕ, List, Option, Some, None, length}
 use Rattle.grid_cells.specs.Cell.{Point}
-use Rattle.grid_cells.specs.Size.{Extent, IsSize, Holds}
+use Rattle.grid_cells.specs.Size.{IsSize, Holds}
 use Rattle.grid_cells.specs.Grid.{Chart}
 use Rattle.cell_queue.specs.Queue.{area, IsEmpty}
 use Rattle.goal_fields.specs.declared.lifelong.Lifelong.{Lifelong}
 use Rattle.goal_fields.specs.Marks.{IsWhole, mark_at}
 use Rattle.goal_fields.specs.Repair.{IsRhs}
-use Rattle.goal_fields.specs.Target.{Standing}
 
 -- there is one number for each cell of the map, and these meet the equations of rhs
-pub record IsAtRest (grid : Chart) (size : Extent) (goal : Point) (g : List ℕ) : Type 0 where
-  pub is : size ≡ grid.size
+pub record IsAtRest (grid : Chart) (goal : Point) (g : List ℕ) : Type 0 where
   pub sized : IsSize grid.size.width grid.size.height
   pub goal_held : Holds grid.size goal
   pub whole : IsWhole grid
@@ -31,11 +29,6 @@ pub record IsRoomOn (grid : Chart) (room : Lifelong) : Type 0 where
   pub whole : IsWhole grid
   pub idle : IsIdle room
   pub counted : room.queue.total < 2 ^ 64
-
--- there is a room on the map of the fields, if there is a field
-abbrev pub HaveRoom : List Standing → Option Lifelong → Type 0
-HaveRoom fields None = length fields ≡ 0
-HaveRoom fields (Some room) = (0 < length fields) × IsRoomOn room.grid room × All (λ field. field.grid ≡ room.grid) fields
 
 -- how many cells the room's queue has taken since it was made, 0 where there is no room
 abbrev pub total_in : Option Lifelong → ℕ

@@ -5,7 +5,13 @@ use Rattle.grid_cells.specs.Size.{Holds}
 use Rattle.cell_queue.specs.Queue.{key_at}
 use Rattle.goal_fields.specs.declared.lifelong.Lifelong.{Lifelong}
 use Rattle.goal_fields.specs.Repair.{IsRhs, IsWrite, key_for}
-use Rattle.goal_fields.specs.Lifelong.{IsGood, g_of}
+use Rattle.goal_fields.specs.Lifelong.{IsGood, IsSameBut, KeepsKey, g_of}
+
+-- keys alone have changed: a cell that was good is, and each has its key from before or is good
+pub record Advances (old new : Lifelong) : Type 0 where
+  pub same : IsSameBut old new
+  pub keeps : (c : Point) → Holds old.grid.size c → IsGood old c → IsGood new c
+  pub others : (c : Point) → Holds old.grid.size c → IsGood new c ⊎ KeepsKey old new c
 
 -- the cell is in the queue as its rhs wanted it before the write; `g` are the numbers before
 pub record Lags (g : Point → ℕ) (s : Lifelong) (cell : Point) : Type 0 where

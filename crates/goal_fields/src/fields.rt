@@ -1,27 +1,29 @@
 ghost use Rattle.std.specs.Prelude.{◌≡◌, ◌+◌, ◌*◌, ◌<◌, ◌≤◌, ℕ, [], All, Contains, IfOk, IfErr, IfSome, IfNone, sum_by, slice_index, length};
 ghost use Rattle.std.specs.List.{AllZip};
 ghost use Rattle.grid_cells.specs.Size.{Holds};
+ghost use Rattle.grid_cells.specs.Grid.{Chart};
 ghost use Rattle.goal_fields.specs.Target.{Covers, IsSound, HaveCounted};
 ghost use Rattle.goal_fields.specs.Changes.{IsRepaired};
 ghost use Rattle.goal_fields.specs.Rest.{IsRoomOn};
+ghost use Rattle.goal_fields.specs.Standings.{AreAtRest, AreRepaired};
 ghost use Rattle.goal_fields.specs.Held.{HasGoal, StandFor, RiseByGoal, SameButGoal, rank_of, IsRising};
 
-use crate::field::Field;
+use crate::distances::Distances;
+use crate::held::Held;
 use crate::lending::{give_back, let_go, made};
 use crate::lifelong::Lifelong;
 use crate::maps::adopt;
-use crate::rooms::Lent;
 use grid_cells::{Cell, Grid, MOST_SIDE, OutOfMemory};
 use std::alloc::Global;
 use std::marker::Model;
 
-/// A field for each distinct goal that is held, all of them on one grid. The queue, which a repair needs
-/// beside the map and the distances, stands once and is lent to each field in turn.
+/// A field for each distinct goal that is held, all of them on one grid: the distances to each goal, and
+/// once the map, with the queue that is lent to each of them in turn while it is repaired.
 #[derive(Drop)]
 pub struct Fields {
     alloc: Global,
     ranks: Vec<u32>,
-    fields: Vec<Field<Lent>>,
+    fields: Vec<Distances>,
     room: Option<Lifelong>,
 }
 
@@ -32,11 +34,12 @@ impl Model for Fields {
     ghost Value = { Holding };
 
     ghost use Rattle.goal_fields.specs.Kept.{IsKept};
-    ghost use Rattle.goal_fields.specs.Rest.{HaveRoom, total_in};
+    ghost use Rattle.goal_fields.specs.Rest.{total_in};
+    ghost use Rattle.goal_fields.specs.Standings.{HaveRoom, standings};
 
-    ghost view = { λ f. record { fields = f.fields.items; total = total_in f.room } };
+    ghost view = { λ f. record { fields = standings f.room f.fields.items; total = total_in f.room } };
 
-    ghost invariant = { λ f. IsKept f.ranks.items f.fields.items × HaveRoom f.fields.items f.room };
+    ghost invariant = { λ f. IsKept f.ranks.items (standings f.room f.fields.items) × HaveRoom f.fields.items f.room };
 }
 
 impl Fields {
@@ -75,7 +78,7 @@ impl Fields {
             mut fields,
             room,
         } = self;
-        let field = Field::lent(alloc, grid, goal)?;
+        let field = Distances::new(alloc, grid, goal)?;
         let room = made(alloc, room, grid, goal)?;
         ranks.insert(at, rank)?;
         fields.insert(at, field)?;
@@ -130,13 +133,17 @@ impl Fields {
     }
 
     /// The field of the goal, if it is held.
-    pub fn field(&self, goal: Cell) -> Option<&Field<Lent>>
-        ensures found { IfSome result (λ field. Contains self.now.fields field.now × (field.now.goal ≡ goal)) }
+    pub fn field(&self, goal: Cell) -> Option<Held<'_>>
+        ensures found { IfSome result (λ field. Contains self.now.fields field × (field.goal ≡ goal)) }
         ensures none { IfNone result (HasGoal self.now.fields goal → ⊥) }
         ensures one_each { RiseByGoal self.now.fields }
     {
+        let Some(room) = &self.room else { return None };
         match place(&self.ranks, rank(goal)) {
-            Ok(at) => Some(&self.fields[at]),
+            Ok(at) => Some(Held {
+                map: &room.grid,
+                distances: &self.fields[at],
+            }),
             Err(_) => None,
         }
     }
@@ -164,12 +171,12 @@ fn place(ranks: &[u32], rank: u32) -> Result<usize, usize>
 }
 
 // Repairs each of the fields for the map of the room, which is lent to one after another.
-fn repair_each(fields: &mut [Field<Lent>], room: &mut Lifelong, changed: &[Cell]) -> u64
+fn repair_each(fields: &mut [Distances], room: &mut Lifelong, changed: &[Cell]) -> u64
     requires few { length fields.old ≤ 4194304 }
     requires room { IsRoomOn room.old.grid room.old }
-    requires same_size { All (λ field. room.old.grid.size ≡ field.grid.size) fields.old }
-    requires covered { All (λ field. Covers changed.now field.grid room.old.grid) fields.old }
-    ensures each { AllZip (IsRepaired room.old.grid) fields.old fields.new }
+    requires at_rest { (old : Chart) × (old.size ≡ room.old.grid.size) × Covers changed.now old room.old.grid × All (AreAtRest old) fields.old }
+    ensures each { (old : Chart) → old.size ≡ room.old.grid.size → All (AreAtRest old) fields.old → AllZip (AreRepaired old room.old.grid) fields.old fields.new }
+    ensures at_rest { All (AreAtRest room.old.grid) fields.new }
     ensures sum { result ≡ sum_by (λ field. field.taken) fields.new }
     ensures told { HaveCounted result room.old.queue.total room.new.queue.total }
     ensures room { IsRoomOn room.old.grid room.new }

@@ -1,9 +1,8 @@
 ghost use Rattle.std.specs.Prelude.{◌≡◌, ◌<◌, Some, None, IfOk, IfSome, length};
 ghost use Rattle.goal_fields.specs.Rest.{IsRoomOn, total_in};
 
-use crate::field::Field;
+use crate::distances::Distances;
 use crate::lifelong::Lifelong;
-use crate::rooms::Lent;
 use grid_cells::{Cell, Grid, OutOfMemory};
 use std::alloc::Global;
 
@@ -25,7 +24,7 @@ pub fn made(
 }
 
 // Lets the room go where no field is left.
-pub fn let_go(room: &mut Option<Lifelong>, fields: &[Field<Lent>])
+pub fn let_go(room: &mut Option<Lifelong>, fields: &[Distances])
     ensures none { length fields.now ≡ 0 → room.new ≡ None }
     ensures some { 0 < length fields.now → room.new ≡ room.old }
 {

@@ -1,20 +1,21 @@
 //! Distances of all cells of a map to a goal, mended by Lifelong Planning A* as cells open and close.
 #![tactic(auto)]
 
+mod distances;
 mod field;
 mod fields;
+mod held;
 mod laws;
 mod lending;
 mod lifelong;
 mod maps;
 mod places;
 mod plain;
-mod rooms;
 mod search;
 mod updates;
 
 pub use field::Field;
 pub use fields::Fields;
+pub use held::Held;
 pub use laws::one_change_count;
 pub use plain::PlainField;
-pub use rooms::{Ground, Lent};

@@ -13,7 +13,6 @@ ghost use Rattle.goal_fields.specs.declared.lifelong.Lifelong.{Lifelong};
 ghost use Rattle.goal_fields.specs.Lifelong.{IsRoomy, IsGood, IsSameBut, IsInRepair, IsSettled, IsConsistent, IsTouched, KeepsTarget, g_of, count_over};
 
 use crate::places::{around, place_of};
-use crate::rooms::Ground;
 use cell_queue::CellQueue;
 use grid_cells::{Cell, Grid, OutOfMemory};
 use std::alloc::Global;
@@ -70,14 +69,19 @@ impl Lifelong {
         self.queue.taken()
     }
 
-    // Updates the cell and its neighbours, where the map has the cell.
+    // Updates the cell, which may have opened or closed, and where it is closed the neighbours that may
+    // have hung on it, where the map has the cell.
     fn touch(&mut self, cell: Cell)
         requires { IsRoomy self.old }
         ensures touched { (start : Lifelong) (done : List Point) → IsTouched start self.old done → IsTouched start self.new (done ++ cell ∷ []) }
         ensures roomy { IsRoomy self.new }
     {
         if self.grid.size().holds(cell) {
-            self.spread(cell);
+            self.update(Some(cell));
+            let g = self.g[place_of(&self.grid, cell)];
+            if g < FAR && !self.grid.is_open(cell) {
+                self.follow_all(cell, g, FAR);
+            }
         }
     }
 }
@@ -124,9 +128,9 @@ impl Lifelong {
         requires idle { IsIdle self.old }
         requires whole { IsWhole self.old.grid }
         requires at_rest { (old : Chart) × (old.size ≡ self.old.grid.size) × Covers changed.now old self.old.grid
-            × IsAtRest old old.size goal g.old.items }
+            × IsAtRest old goal g.old.items }
         ensures idle { IsIdle self.new }
-        ensures at_rest { IsAtRest self.new.grid self.new.grid.size goal g.new.items }
+        ensures at_rest { IsAtRest self.new.grid goal g.new.items }
         ensures grid { self.new.grid ≡ self.old.grid }
         ensures count { result ≡ count_over g.old.items g.new.items }
         ensures counted { result ≡ self.new.queue.taken }
@@ -138,16 +142,4 @@ impl Lifelong {
         mem::swap(&mut self.g, g);
         taken
     }
-}
-
-impl Ground for Lifelong {
-    ghost use Rattle.goal_fields.specs.Rest.{IsIdle};
-
-    ghost chart = { λ room. room.grid };
-
-    ghost taken = { λ room. room.queue.taken };
-
-    ghost total = { λ room. room.queue.total };
-
-    ghost is_idle = { λ room. IsIdle room };
 }

@@ -2,7 +2,7 @@ ghost use Rattle.std.specs.Prelude.{◌≡◌, IfOk, None};
 ghost use Rattle.grid_cells.specs.Size.{Holds};
 ghost use Rattle.grid_cells.specs.Walks.{IsDistance};
 
-use crate::search::Search;
+use crate::distances::{distance_by, found};
 use grid_cells::{Cell, Grid, OutOfMemory};
 use std::alloc::Global;
 use std::marker::Model;
@@ -10,7 +10,9 @@ use std::marker::Model;
 /// The distances of all cells to one goal on a grid that doesn't change, by breadth-first search.
 #[derive(Drop)]
 pub struct PlainField {
-    search: Search,
+    grid: Grid,
+    goal: Cell,
+    g: Vec<u32>,
 }
 
 // Clauses see the grid that the field stands for, and the goal.
@@ -19,11 +21,11 @@ impl Model for PlainField {
 
     ghost Value = { Target };
 
-    ghost use Rattle.goal_fields.specs.Search.{IsFound};
+    ghost use Rattle.goal_fields.specs.Rest.{IsAtRest};
 
-    ghost view = { λ field. record { grid = field.search.grid; goal = field.search.goal } };
+    ghost view = { λ field. record { grid = field.grid; goal = field.goal } };
 
-    ghost invariant = { λ field. IsFound field.search };
+    ghost invariant = { λ field. IsAtRest field.grid field.goal field.g.items };
 }
 
 impl PlainField {
@@ -31,9 +33,8 @@ impl PlainField {
         requires { Holds grid.now.size goal }
         ensures { IfOk result (λ field. field ≡ record { grid = grid.now; goal = goal }) }
     {
-        let mut search = Search::new(alloc, grid, goal)?;
-        search.run();
-        Ok(PlainField { search })
+        let (grid, g) = found(alloc, grid, goal)?;
+        Ok(PlainField { grid, goal, g })
     }
 
     /// The distance from the cell to the goal in steps; none where there is no walk, and outside the
@@ -42,6 +43,6 @@ impl PlainField {
         ensures inside { Holds self.now.grid.size cell → IsDistance self.now.grid cell self.now.goal result }
         ensures outside { (Holds self.now.grid.size cell → ⊥) → result ≡ None }
     {
-        self.search.distance(cell)
+        distance_by(&self.grid, &self.g, cell)
     }
 }

@@ -1,9 +1,8 @@
-ghost use Rattle.std.specs.Prelude.{◌≡◌, ◌+◌, ◌≤◌, ◌<◌, IfOk, IfSome, None};
+ghost use Rattle.std.specs.Prelude.{◌≡◌, ◌+◌, ◌≤◌, ◌<◌, IfOk, IfSome};
 ghost use Rattle.std.specs.Option.{ForSome};
 ghost use Rattle.grid_cells.specs.Cell.{IsAdjacent};
 ghost use Rattle.grid_cells.specs.Size.{Holds};
 ghost use Rattle.grid_cells.specs.Grid.{IsOpen};
-ghost use Rattle.goal_fields.specs.Marks.{distance_of};
 ghost use Rattle.goal_fields.specs.Search.{IsSearching, GoesOn, KeepsMap, HasRoom, IsBlank, IsFound, front_of, mark_of};
 
 use crate::places::{around, place_of};
@@ -112,18 +111,5 @@ impl Search {
         while self.head < self.tail {
             self.expand();
         }
-    }
-
-    // The distance of the cell, where the map has it.
-    pub fn distance(&self, cell: Cell) -> Option<u32>
-        requires { IsFound self.now }
-        ensures inside { Holds self.now.grid.size cell → result ≡ distance_of (mark_of self.now cell) }
-        ensures outside { (Holds self.now.grid.size cell → ⊥) → result ≡ None }
-    {
-        if !self.grid.size().holds(cell) {
-            return None;
-        }
-        let mark = self.marks[place_of(&self.grid, cell)];
-        if mark == FAR { None } else { Some(mark) }
     }
 }

@@ -7,7 +7,7 @@ ghost use Rattle.grid_cells.specs.Grid.{IsOpen};
 ghost use Rattle.goal_fields.specs.Marks.{far};
 ghost use Rattle.goal_fields.specs.Repair.{IsRhs};
 ghost use Rattle.goal_fields.specs.Lifelong.{IsRoomy, IsGood, IsSameBut, KeepsKey, g_of};
-ghost use Rattle.goal_fields.specs.Taking.{IsTaking, Follows, IsUnstirred};
+ghost use Rattle.goal_fields.specs.Taking.{Advances, IsTaking, IsUnstirred};
 
 use crate::lifelong::Lifelong;
 use crate::places::{around, place_of};
@@ -50,7 +50,7 @@ impl Lifelong {
     }
 
     // Puts the cell into the queue or takes it out, as its rhs wants it.
-    fn update(&mut self, cell: Option<Cell>)
+    pub fn update(&mut self, cell: Option<Cell>)
         requires roomy { IsRoomy self.old }
         requires held { ForSome cell (Holds self.old.grid.size) }
         ensures roomy { IsRoomy self.new }
@@ -68,23 +68,6 @@ impl Lifelong {
         } else {
             self.queue.put(cell, g.min(rhs));
         }
-    }
-
-    // Updates the cell and its neighbours.
-    pub fn spread(&mut self, from: Cell)
-        requires roomy { IsRoomy self.old }
-        requires held { Holds self.old.grid.size from }
-        ensures roomy { IsRoomy self.new }
-        ensures same { IsSameBut self.old self.new }
-        ensures near { (c : Point) → Holds self.old.grid.size c → ((c ≡ from) ⊎ IsAdjacent from c) → IsGood self.new c }
-        ensures keeps { (c : Point) → Holds self.old.grid.size c → IsGood self.old c → IsGood self.new c }
-    {
-        let [up, left, right, down] = around(&self.grid, from);
-        self.update(Some(from));
-        self.update(up);
-        self.update(left);
-        self.update(right);
-        self.update(down);
     }
 
     // Whether the rhs of the cell may be another one, as the g of a neighbour was this and is that now.
@@ -107,16 +90,29 @@ impl Lifelong {
         requires roomy { IsRoomy self.old }
         requires held { ForSome cell (Holds self.old.grid.size) }
         ensures roomy { IsRoomy self.new }
-        ensures same { IsSameBut self.old self.new }
-        ensures keeps { (c : Point) → Holds self.old.grid.size c → IsGood self.old c → IsGood self.new c }
-        ensures follows { (g : Point → ℕ) (from : Point) → Follows g self.old from was now → Follows g self.new from was now }
-        ensures here { (g : Point → ℕ) (from : Point) → Follows g self.old from was now →
-            ForSome cell (λ c. c ≢ from → IsGood self.new c) }
+        ensures advances { Advances self.old self.new }
+        ensures here { ForSome cell (λ c. IsGood self.new c ⊎ IsUnstirred self.new c was now) }
     {
         let Some(next) = cell else { return };
         if self.is_stirred(next, was, now) {
             self.update(Some(next));
         }
+    }
+
+    // Updates those neighbours of the cell whose rhs may be other ones, as its g was this and is that
+    // now.
+    pub fn follow_all(&mut self, from: Cell, was: u32, now: u32)
+        requires roomy { IsRoomy self.old }
+        requires held { Holds self.old.grid.size from }
+        ensures roomy { IsRoomy self.new }
+        ensures advances { Advances self.old self.new }
+        ensures near { (c : Point) → Holds self.old.grid.size c → IsAdjacent from c → IsGood self.new c ⊎ IsUnstirred self.new c was now }
+    {
+        let [up, left, right, down] = around(&self.grid, from);
+        self.follow(up, was, now);
+        self.follow(left, was, now);
+        self.follow(right, was, now);
+        self.follow(down, was, now);
     }
 
     // Updates what hangs on the cell, whose g was this before it was written: its neighbours, and the
@@ -130,11 +126,7 @@ impl Lifelong {
             (c : Point) → Holds self.old.grid.size c → IsGood self.new c }
     {
         let now = self.g[place_of(&self.grid, from)];
-        let [up, left, right, down] = around(&self.grid, from);
         self.update(if now < was { None } else { Some(from) });
-        self.follow(up, was, now);
-        self.follow(left, was, now);
-        self.follow(right, was, now);
-        self.follow(down, was, now);
+        self.follow_all(from, was, now);
     }
 }

@@ -5,7 +5,7 @@ ghost use Rattle.grid_cells.specs.Size.{Holds};
 ghost use Rattle.goal_fields.specs.Target.{Covers, flag_at};
 ghost use Rattle.goal_fields.specs.Held.{StandFor};
 
-use goal_fields::{Field, Fields, Ground};
+use goal_fields::{Field, Fields};
 use grid_cells::{Cell, Grid, Size};
 use std::alloc::Global;
 use std::process::Abort;
@@ -64,7 +64,7 @@ pub fn open_map(rt: &impl Abort, alloc: Global, size: Size) -> Grid
 pub const NO: u32 = u32::MAX;
 
 /// Whether the distances of the first cells of a row are those.
-pub fn has_row(rt: &impl Abort, field: &Field<impl Ground>, y: u32, wanted: &[u32]) -> bool {
+pub fn has_row(rt: &impl Abort, field: &Field, y: u32, wanted: &[u32]) -> bool {
     let mut x = 0u32;
     for want in wanted {
         if field.distance(at(rt, x, y)).unwrap_or(NO) != *want {

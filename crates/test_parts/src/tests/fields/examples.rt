@@ -115,5 +115,7 @@ fn sum_over_two_goals(rt: HostRuntime) {
     let mut fields = fields.hold(&grid, left).expect(&rt, "memory");
     assert!(rt; change_each(&mut fields, &mut grid, &[at(&rt, 1, 0)], false) == 4);
     let field = fields.field(left).expect(&rt, "a field");
-    assert!(rt; has_row(&rt, field, 0, &[0, NO, NO]));
+    assert!(rt; field.distance(left) == Some(0));
+    assert!(rt; field.distance(at(&rt, 1, 0)).is_none());
+    assert!(rt; field.distance(right).is_none());
 }

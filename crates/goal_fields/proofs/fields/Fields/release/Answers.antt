@@ -3,51 +3,71 @@ use Rattle.std.proofs.Common.{◌≡◌, ◌<◌, length, ap, ◌∙◌, arith}
 use Rattle.goal_fields.specs.Held.{rank_of}
 use Rattle.goal_fields.specs.Rest.{total_in}
 use Rattle.goal_fields.proofs.HeldLemmas.{IsGap, IsGap-from, HasGoal-gap, RiseByGoal-kept, IsKept-remove, HasGoal-remove, SameButGoal-remove, goal_at, IsKept-long, HasGoal-at}
-use Rattle.goal_fields.proofs.RoomLemmas.{HaveRoom-remove}
+use Rattle.goal_fields.specs.Standings.{standings}
+use Rattle.goal_fields.proofs.RoomLemmas.{HaveRoom-remove, standings-remove, standings-long}
 use Rattle.goal_fields.proofs.fields.Fields.release.Goals as goal
 
 pub invariant_of-self : goal.invariant_of-self
 invariant_of-self c =
     let within : c.in-Ok.at < length c.self.inside.ranks.items = rw (← c.deref.ensures.value) c.in-Ok.ensures.within in
-    let within_fields : c.in-Ok.at < length c.self.inside.fields.items = omega (arith, IsKept-long c.self.inside.ranks.items c.self.inside.fields.items c.self.invariant.0) in
+    let within_fields : c.in-Ok.at < length c.self.inside.fields.items = omega (arith, within, IsKept-long c.self.inside.ranks.items (standings c.self.inside.room c.self.inside.fields.items) c.self.invariant.0, standings-long c.self.inside.room c.self.inside.fields.items) in
     let left = c.deref-in-Ok.ensures.value in
-    rw (c.remove.ensures.items, c.remove-in-Ok.ensures.items) (
-      IsKept-remove c.self.inside.ranks.items c.self.inside.fields.items c.in-Ok.at c.self.invariant.0 within,
-      HaveRoom-remove c.self.inside.fields.items c.in-Ok.at c.self.inside.room c.let_go.new.room within_fields (rw (left, c.remove-in-Ok.ensures.items) at c.let_go.ensures.none) (rw (left, c.remove-in-Ok.ensures.items) at c.let_go.ensures.some) c.self.invariant.1,
+    let none = rw (left, c.remove-in-Ok.ensures.items) at c.let_go.ensures.none in
+    let some = rw (left, c.remove-in-Ok.ensures.items) at c.let_go.ensures.some in
+    let view = ap (standings c.let_go.new.room) c.remove-in-Ok.ensures.items ∙ standings-remove c.self.inside.fields.items c.in-Ok.at c.self.inside.room c.let_go.new.room within_fields none some c.self.invariant.1 in (
+      rw (c.remove.ensures.items, view) (IsKept-remove c.self.inside.ranks.items (standings c.self.inside.room c.self.inside.fields.items) c.in-Ok.at c.self.invariant.0 within),
+      rw c.remove-in-Ok.ensures.items (HaveRoom-remove c.self.inside.fields.items c.in-Ok.at c.self.inside.room c.let_go.new.room within_fields none some c.self.invariant.1),
     )
 
 pub returns-in-Ok-clause-gone : goal.returns-in-Ok-clause-gone
 returns-in-Ok-clause-gone c =
     let within : c.in-Ok.at < length c.self.inside.ranks.items = rw (← c.deref.ensures.value) c.in-Ok.ensures.within in
     let is : slice_index c.self.inside.ranks.items c.in-Ok.at ≡ rank_of c.args.goal = rw (← c.deref.ensures.value) c.in-Ok.ensures.found ∙ c.rank.ensures.is in
-    rw c.remove-in-Ok.ensures.items (HasGoal-remove c.self.inside.ranks.items c.self.inside.fields.items c.args.goal c.in-Ok.at c.self.invariant.0 within is)
+    let within_fields : c.in-Ok.at < length c.self.inside.fields.items = omega (arith, within, IsKept-long c.self.inside.ranks.items (standings c.self.inside.room c.self.inside.fields.items) c.self.invariant.0, standings-long c.self.inside.room c.self.inside.fields.items) in
+    let left = c.deref-in-Ok.ensures.value in
+    let none = rw (left, c.remove-in-Ok.ensures.items) at c.let_go.ensures.none in
+    let some = rw (left, c.remove-in-Ok.ensures.items) at c.let_go.ensures.some in
+    let view = ap (standings c.let_go.new.room) c.remove-in-Ok.ensures.items ∙ standings-remove c.self.inside.fields.items c.in-Ok.at c.self.inside.room c.let_go.new.room within_fields none some c.self.invariant.1 in
+    rw view (HasGoal-remove c.self.inside.ranks.items (standings c.self.inside.room c.self.inside.fields.items) c.args.goal c.in-Ok.at c.self.invariant.0 within is)
 
 pub returns-in-Ok-clause-others : goal.returns-in-Ok-clause-others
 returns-in-Ok-clause-others c =
     let within : c.in-Ok.at < length c.self.inside.ranks.items = rw (← c.deref.ensures.value) c.in-Ok.ensures.within in
     let is : slice_index c.self.inside.ranks.items c.in-Ok.at ≡ rank_of c.args.goal = rw (← c.deref.ensures.value) c.in-Ok.ensures.found ∙ c.rank.ensures.is in
-    rw (c.remove-in-Ok.ensures.items, ← c.self.view_is) (SameButGoal-remove c.self.inside.fields.items c.args.goal c.in-Ok.at (omega (arith, IsKept-long c.self.inside.ranks.items c.self.inside.fields.items c.self.invariant.0))
-    (λ d. goal_at c.self.inside.ranks.items c.self.inside.fields.items c.args.goal c.self.invariant.0 c.rank.ensures.column c.in-Ok.at d within is))
+    let within_fields : c.in-Ok.at < length c.self.inside.fields.items = omega (arith, within, IsKept-long c.self.inside.ranks.items (standings c.self.inside.room c.self.inside.fields.items) c.self.invariant.0, standings-long c.self.inside.room c.self.inside.fields.items) in
+    let left = c.deref-in-Ok.ensures.value in
+    let none = rw (left, c.remove-in-Ok.ensures.items) at c.let_go.ensures.none in
+    let some = rw (left, c.remove-in-Ok.ensures.items) at c.let_go.ensures.some in
+    let view = ap (standings c.let_go.new.room) c.remove-in-Ok.ensures.items ∙ standings-remove c.self.inside.fields.items c.in-Ok.at c.self.inside.room c.let_go.new.room within_fields none some c.self.invariant.1 in
+    rw (view, ← c.self.view_is) (SameButGoal-remove (standings c.self.inside.room c.self.inside.fields.items) c.args.goal c.in-Ok.at (omega (arith, within_fields, standings-long c.self.inside.room c.self.inside.fields.items))
+    (λ d. goal_at c.self.inside.ranks.items (standings c.self.inside.room c.self.inside.fields.items) c.args.goal c.self.invariant.0 c.rank.ensures.column c.in-Ok.at d within is))
 
 pub returns-in-Ok-clause-one_each : goal.returns-in-Ok-clause-one_each
 returns-in-Ok-clause-one_each c =
     let within : c.in-Ok.at < length c.self.inside.ranks.items = rw (← c.deref.ensures.value) c.in-Ok.ensures.within in
-    rw c.remove-in-Ok.ensures.items (RiseByGoal-kept _ _ (IsKept-remove c.self.inside.ranks.items c.self.inside.fields.items c.in-Ok.at c.self.invariant.0 within))
+    let within_fields : c.in-Ok.at < length c.self.inside.fields.items = omega (arith, within, IsKept-long c.self.inside.ranks.items (standings c.self.inside.room c.self.inside.fields.items) c.self.invariant.0, standings-long c.self.inside.room c.self.inside.fields.items) in
+    let left = c.deref-in-Ok.ensures.value in
+    let none = rw (left, c.remove-in-Ok.ensures.items) at c.let_go.ensures.none in
+    let some = rw (left, c.remove-in-Ok.ensures.items) at c.let_go.ensures.some in
+    let view = ap (standings c.let_go.new.room) c.remove-in-Ok.ensures.items ∙ standings-remove c.self.inside.fields.items c.in-Ok.at c.self.inside.room c.let_go.new.room within_fields none some c.self.invariant.1 in
+    rw view (RiseByGoal-kept _ _ (IsKept-remove c.self.inside.ranks.items (standings c.self.inside.room c.self.inside.fields.items) c.in-Ok.at c.self.invariant.0 within))
 
 pub returns-in_default-clause-gone : goal.returns-in_default-clause-gone
 returns-in_default-clause-gone c =
     let gap : IsGap c.self.inside.ranks.items (rank_of c.args.goal) c.in_default.field-0 =
     IsGap-from c.self.inside.ranks.items c.deref.result.now c.rank.result (rank_of c.args.goal) c.in_default.field-0 c.deref.ensures.value c.rank.ensures.is c.in_default.ensures.room c.in_default.ensures.below c.in_default.ensures.above in
-    rw (← c.self.view_is) (HasGoal-gap c.self.inside.ranks.items c.self.inside.fields.items c.args.goal c.in_default.field-0 c.self.invariant.0 gap)
+    rw (← c.self.view_is) (HasGoal-gap c.self.inside.ranks.items (standings c.self.inside.room c.self.inside.fields.items) c.args.goal c.in_default.field-0 c.self.invariant.0 gap)
 
 pub returns-in_default-clause-one_each : goal.returns-in_default-clause-one_each
-returns-in_default-clause-one_each c = rw (← c.self.view_is) (RiseByGoal-kept c.self.inside.ranks.items c.self.inside.fields.items c.self.invariant.0)
+returns-in_default-clause-one_each c = rw (← c.self.view_is) (RiseByGoal-kept c.self.inside.ranks.items (standings c.self.inside.room c.self.inside.fields.items) c.self.invariant.0)
 
 pub returns-in-Ok-clause-told : goal.returns-in-Ok-clause-told
-returns-in-Ok-clause-told c some = rw (← c.self.view_is) (ap total_in ((rw (c.deref-in-Ok.ensures.value) at c.let_go.ensures.some) some))
+returns-in-Ok-clause-told c some =
+    let left : 0 < length c.remove-in-Ok.new.self.items = omega (arith, some, standings-long c.let_go.new.room c.remove-in-Ok.new.self.items) in
+    rw (← c.self.view_is) (ap total_in (rw c.deref-in-Ok.ensures.value at c.let_go.ensures.some left))
 
 pub returns-in-Ok-clause-unheld : goal.returns-in-Ok-clause-unheld
 returns-in-Ok-clause-unheld c none =
     let within : c.in-Ok.at < length c.self.inside.ranks.items = rw (← c.deref.ensures.value) c.in-Ok.ensures.within in
     let is : slice_index c.self.inside.ranks.items c.in-Ok.at ≡ rank_of c.args.goal = rw (← c.deref.ensures.value) c.in-Ok.ensures.found ∙ c.rank.ensures.is in
-    absurd ((rw (← c.self.view_is) at none) (HasGoal-at c.self.inside.ranks.items c.self.inside.fields.items c.args.goal c.in-Ok.at c.self.invariant.0 c.rank.ensures.column within is))
+    absurd ((rw (← c.self.view_is) at none) (HasGoal-at c.self.inside.ranks.items (standings c.self.inside.room c.self.inside.fields.items) c.args.goal c.in-Ok.at c.self.invariant.0 c.rank.ensures.column within is))

@@ -1,4 +1,4 @@
-use Rattle.std.proofs.Common.{take, refl, arith, ◌≡◌}
+use Rattle.std.proofs.Common.{take, refl, arith, inr, ◌≡◌}
 use Rattle.std.proofs.lemmas.List.{take_more, take_all}
 use Rattle.goal_fields.proofs.LastLemmas.{IsInRepair-touched}
 use Rattle.goal_fields.proofs.lifelong.Lifelong.mend.Goals as goal
@@ -20,8 +20,8 @@ loop-cell-init c =
       g = refl;
       taken = rw c.reset.ensures.is refl;
       total = rw c.reset.ensures.is refl;
-      near = λ v con hv w hw close. absurd (omega (arith, con.1));
-      keeps = λ w hw good. record { rhs = good.rhs; equation = good.equation; queued = rw c.reset.ensures.is good.queued };
+      here = λ v con hv. absurd (omega (arith, con.1));
+      each = λ w hw. inr (record { unqueued = rw c.reset.ensures.is (c.requires.empty w (rw roomy.queue hw)); on_way = λ v con hv adj lt e. absurd (omega (arith, con.1)) });
     }
 
 pub loop-cell-preserved : goal.loop-cell-preserved
@@ -33,7 +33,7 @@ pub settle-requires : goal.settle-requires
 settle-requires c =
     let whole : take c.loop-cell.cell-index c.args.changed.now ≡ c.args.changed.now = take_all c.loop-cell.cell-index c.args.changed.now c.loop-cell-test.false in
     record {
-      begun = IsInRepair-touched c.requires.consistent.0 c.args.self.now c.loop-cell.self c.args.changed.now c.requires.consistent.1 c.requires.consistent.2 c.requires.consistent.3 c.requires.roomy c.requires.empty (rw whole at c.loop-cell.invariant);
+      begun = IsInRepair-touched c.requires.consistent.0 c.args.self.now c.loop-cell.self c.args.changed.now c.requires.consistent.1 c.requires.consistent.2 c.requires.consistent.3 (rw whole at c.loop-cell.invariant);
       bound = rw c.loop-cell.invariant.total c.reset.ensures.bound;
     }
 
