@@ -13,4 +13,5 @@ pub mod Late
 pub mod Walks
 pub mod MoverIn
 pub mod LeftRings
+pub mod Beside
 pub mod Turning
