@@ -181,8 +181,8 @@ fn end_sharing<R: Wait>(
     }
 }
 
-// Whether the reports are equal.
-fn is_same(report: &Report, other: &Report) -> bool
+/// Whether the reports are equal.
+pub fn is_same(report: &Report, other: &Report) -> bool
     ensures { IsTrue result ↔ (report.now ≡ other.now) }
 {
     report == other

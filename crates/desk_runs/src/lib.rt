@@ -14,12 +14,12 @@ mod scenes;
 mod scripts;
 mod serving;
 
-pub use auditing::run_audit;
-pub use drilling::{MOST_SCRIPTS, hear_drill, run_drill};
+pub use auditing::{report_of, run_audit};
+pub use drilling::{MOST_SCRIPTS, hear_drill, is_same, run_drill};
 pub use faults::{Fault, RunFault};
 pub use hearing::{Hearing, MOST_HEARD};
 pub use laws::saved_desks_come_back;
 pub use opening::open_desk;
 pub use saving::save_desk;
 pub use scenes::scene_of;
-pub use serving::{MOST_BYTES, run_serve, serve_desk};
+pub use serving::{BOUNDS, MOST_BYTES, run_serve, serve_desk};
