@@ -7,7 +7,7 @@ use scene_edits::EditFault;
 use solver_paths::PathsFault;
 use thiserror::Error;
 
-/// Why there is no verdict on a text of paths.
+/// Why there is no verdict on a text of paths, or no picture.
 #[derive(Clone, Copy, Debug, PartialEq, Eq, Error)]
 pub enum CheckFault {
     /// The text spells no paths.
@@ -29,7 +29,7 @@ pub enum CheckFault {
         time: usize,
         why: EditFault,
     },
-    /// The verdict could not be written.
+    /// The verdict or the picture could not be written.
     #[error("write failed")]
     WriteFailed,
     #[error("out of memory")]

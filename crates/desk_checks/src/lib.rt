@@ -10,4 +10,5 @@ mod times;
 mod verdicts;
 
 pub use faults::CheckFault;
-pub use verdicts::run_check;
+pub use scenes::planned_scene;
+pub use verdicts::{report_of, run_check};

@@ -77,7 +77,7 @@ fn too_many() -> CheckFault
 ///
 /// The first fault of the text of paths, the map, the scenario, the tasks, the agents and the paths,
 /// or want of memory.
-pub(crate) fn planned_scene(
+pub fn planned_scene(
     alloc: Global,
     map: &[u8],
     scen: Option<&[u8]>,

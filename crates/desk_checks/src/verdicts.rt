@@ -16,8 +16,12 @@ use std::alloc::Global;
 use std::sync::Wait;
 use std::thread::Threads;
 
-// The report of the scene, made from scratch by so many threads.
-fn report_of<T: Threads + Wait>(
+/// The report of the scene, made from scratch by so many threads.
+///
+/// # Errors
+///
+/// Want of memory, or the start of a thread was refused.
+pub fn report_of<T: Threads + Wait>(
     rt: &T,
     alloc: Global,
     scene: &Scene,
