@@ -1,0 +1,4 @@
+pub mod Growth
+pub mod Pieces
+pub mod Spots
+pub mod Marks

@@ -1,0 +1,110 @@
+//! The counts by kind, beside the sign of each, and the totals.
+ghost use Rattle.std.specs.Prelude.{OnOk, ◌≡◌, ◌||◌, is_err};
+ghost use Rattle.desk_pictures.specs.Growth.{Grows};
+
+use crate::pieces::{Piece, put_letters, put_some, put_total};
+use conflict_ledger::Kind;
+use desk_report::{Report, Sink, WriteFailed};
+
+// How many entries of the kind there are.
+fn count_of(report: &Report, kind: Kind) -> u64 {
+    let entries = report.conflicts.items();
+    entries.iter().filter(|entry| entry.kind() == kind).count() as u64
+}
+
+// The class of a row that stands for nothing, or none.
+fn class_of(count: u64) -> &'static [u8] {
+    if count == 0 { b" class='none'" } else { b"" }
+}
+
+// A row of the key: a sign, what it stands for, and how many there are.
+#[tactic(auto, using(crate::proofs::Growth::growths))]
+fn put_row<'a, W: Sink>(
+    sink: &mut W,
+    down: u64,
+    sign: &'a [u8],
+    name: &'a [u8],
+    count: u64,
+) -> Result<(), WriteFailed>
+    ensures ok { OnOk result (Grows (W.held sink.old) (W.held sink.new)) }
+    ensures broken { W.broken sink.new ≡ (W.broken sink.old || is_err result) }
+{
+    let pieces = [
+        Piece::Text(b"<g"),
+        Piece::Text(class_of(count)),
+        Piece::Text(b" transform='translate(0 "),
+        Piece::Number(down),
+        Piece::Text(b")'><use href='#"),
+        Piece::Text(sign),
+        Piece::Text(b"' transform='translate(14 -6) scale(18)'/><text x='40'>"),
+        Piece::Text(name),
+        Piece::Text(b"</text><text class='n' x='300'>"),
+        Piece::Number(count),
+        Piece::Text(b"</text></g>\n"),
+    ];
+    put_some(sink, &pieces)
+}
+
+/// Puts a row for each kind of what a report has.
+#[tactic(auto, using(crate::proofs::Growth::growths))]
+pub fn put_rows<W: Sink>(sink: &mut W, report: &Report) -> Result<(), WriteFailed>
+    ensures ok { OnOk result (Grows (W.held sink.old) (W.held sink.new)) }
+    ensures broken { W.broken sink.new ≡ (W.broken sink.old || is_err result) }
+{
+    put_row(sink, 170, b"v", b"vertex", count_of(report, Kind::Vertex))?;
+    put_row(sink, 200, b"p", b"parked", count_of(report, Kind::Parked))?;
+    put_row(sink, 230, b"e", b"edge", count_of(report, Kind::Edge))?;
+    put_row(
+        sink,
+        260,
+        b"f",
+        b"follow",
+        count_of(report, Kind::Following),
+    )?;
+    put_row(sink, 290, b"s", b"swap", count_of(report, Kind::Swapping))?;
+    put_row(sink, 320, b"c", b"cycle", count_of(report, Kind::Cycle))?;
+    put_row(
+        sink,
+        350,
+        b"x",
+        b"visit to a closed cell",
+        report.visits.items().len() as u64,
+    )
+}
+
+// A total, or `none`.
+#[tactic(auto, using(crate::proofs::Growth::growths))]
+fn put_sum<W: Sink>(
+    sink: &mut W,
+    down: u64,
+    name: &[u8],
+    total: Option<u64>,
+) -> Result<(), WriteFailed>
+    ensures ok { OnOk result (Grows (W.held sink.old) (W.held sink.new)) }
+    ensures broken { W.broken sink.new ≡ (W.broken sink.old || is_err result) }
+{
+    let pieces = [
+        Piece::Text(b"<text x='4' y='"),
+        Piece::Number(down),
+        Piece::Text(b"'>"),
+        Piece::Text(name),
+        Piece::Text(b"</text><text class='n' x='300' y='"),
+        Piece::Number(down),
+        Piece::Text(b"'>"),
+    ];
+    put_some(sink, &pieces)?;
+    put_total(sink, total)?;
+    put_letters(sink, b"</text>\n")
+}
+
+/// Puts the totals.
+#[tactic(auto, using(crate::proofs::Growth::growths))]
+pub fn put_totals<W: Sink>(sink: &mut W, report: &Report) -> Result<(), WriteFailed>
+    ensures ok { OnOk result (Grows (W.held sink.old) (W.held sink.new)) }
+    ensures broken { W.broken sink.new ≡ (W.broken sink.old || is_err result) }
+{
+    put_sum(sink, 395, b"sum of costs", report.sum)?;
+    put_sum(sink, 420, b"makespan", report.makespan.map(u64::from))?;
+    put_sum(sink, 445, b"sum of bounds", report.bounds)?;
+    put_sum(sink, 470, b"gap", report.total_gap)
+}

@@ -1,0 +1,125 @@
+//! The closed cells, each row's runs of them as one stroke a cell wide.
+ghost use Rattle.std.specs.Prelude.{OnOk, ◌≡◌, ◌||◌, is_err};
+ghost use Rattle.desk_pictures.specs.Growth.{Grows};
+
+use crate::pieces::{Piece, put_letters, put_some};
+use desk_report::{Sink, WriteFailed};
+use grid_cells::Grid;
+
+// The most columns or rows of a map whose cells are parted by lines.
+const MOST_PARTED: u32 = 64;
+
+// Whether the cell in that column and row is there and closed.
+fn is_wall(grid: &Grid, x: u32, y: u32) -> bool {
+    match grid.size().cell(x, y) {
+        Some(cell) => !grid.is_open(cell),
+        None => false,
+    }
+}
+
+// The beginning of a run of closed cells, where that is.
+#[tactic(auto, using(crate::proofs::Growth::growths))]
+fn put_left<W: Sink>(sink: &mut W, grid: &Grid, x: u32, y: u32) -> Result<(), WriteFailed>
+    ensures ok { OnOk result (Grows (W.held sink.old) (W.held sink.new)) }
+    ensures broken { W.broken sink.new ≡ (W.broken sink.old || is_err result) }
+{
+    if !is_wall(grid, x, y) || x > 0 && is_wall(grid, x - 1, y) {
+        return Ok(());
+    }
+    let pieces = [
+        Piece::Text(b"M"),
+        Piece::Number(u64::from(x)),
+        Piece::Text(b" "),
+        Piece::Number(u64::from(y)),
+    ];
+    put_some(sink, &pieces)
+}
+
+// The end of a run of closed cells, where that is.
+#[tactic(auto, using(crate::proofs::Growth::growths))]
+fn put_right<W: Sink>(sink: &mut W, grid: &Grid, x: u32, y: u32) -> Result<(), WriteFailed>
+    ensures ok { OnOk result (Grows (W.held sink.old) (W.held sink.new)) }
+    ensures broken { W.broken sink.new ≡ (W.broken sink.old || is_err result) }
+{
+    let next = x.saturating_add(1);
+    if !is_wall(grid, x, y) || is_wall(grid, next, y) {
+        return Ok(());
+    }
+    put_some(sink, &[Piece::Text(b"H"), Piece::Number(u64::from(next))])
+}
+
+// The runs of a row.
+#[tactic(auto, using(crate::proofs::Growth::growths))]
+fn put_row<W: Sink>(sink: &mut W, grid: &Grid, y: u32) -> Result<(), WriteFailed>
+    ensures ok { OnOk result (Grows (W.held sink.old) (W.held sink.new)) }
+    ensures broken { W.broken sink.new ≡ (W.broken sink.old || is_err result) }
+{
+    for x in 0..grid.size().width() {
+        put_left(sink, grid, x, y)?;
+        put_right(sink, grid, x, y)?;
+    }
+    Ok(())
+}
+
+#[tactic(auto, using(crate::proofs::Growth::growths))]
+fn put_rows<W: Sink>(sink: &mut W, grid: &Grid) -> Result<(), WriteFailed>
+    ensures ok { OnOk result (Grows (W.held sink.old) (W.held sink.new)) }
+    ensures broken { W.broken sink.new ≡ (W.broken sink.old || is_err result) }
+{
+    for y in 0..grid.size().height() {
+        put_row(sink, grid, y)?;
+    }
+    Ok(())
+}
+
+// A floor of that class.
+#[tactic(auto, using(crate::proofs::Growth::growths))]
+fn put_floor<W: Sink>(sink: &mut W, grid: &Grid, class: &[u8]) -> Result<(), WriteFailed>
+    ensures ok { OnOk result (Grows (W.held sink.old) (W.held sink.new)) }
+    ensures broken { W.broken sink.new ≡ (W.broken sink.old || is_err result) }
+{
+    let size = grid.size();
+    let pieces = [
+        Piece::Text(b"<rect class='"),
+        Piece::Text(class),
+        Piece::Text(b"' x='-.5' y='-.5' width='"),
+        Piece::Number(u64::from(size.width())),
+        Piece::Text(b"' height='"),
+        Piece::Number(u64::from(size.height())),
+        Piece::Text(b"'/>\n"),
+    ];
+    put_some(sink, &pieces)
+}
+
+// Lines between the cells, where they are large enough.
+#[tactic(auto, using(crate::proofs::Growth::growths))]
+fn put_net<W: Sink>(sink: &mut W, grid: &Grid) -> Result<(), WriteFailed>
+    ensures ok { OnOk result (Grows (W.held sink.old) (W.held sink.new)) }
+    ensures broken { W.broken sink.new ≡ (W.broken sink.old || is_err result) }
+{
+    let size = grid.size();
+    if size.width() > MOST_PARTED || size.height() > MOST_PARTED {
+        return Ok(());
+    }
+    put_letters(
+        sink,
+        b"<pattern id='net' x='-.5' y='-.5' width='1' height='1' patternUnits='userSpaceOnUse'><path class='thread' d='M1 0H0V1'/></pattern>\n",
+    )?;
+    put_floor(sink, grid, b"net")
+}
+
+/// Puts the floor, and over it the closed cells.
+#[tactic(auto, using(crate::proofs::Growth::growths))]
+pub fn put_ground<W: Sink>(sink: &mut W, grid: &Grid) -> Result<(), WriteFailed>
+    ensures ok { OnOk result (Grows (W.held sink.old) (W.held sink.new)) }
+    ensures broken { W.broken sink.new ≡ (W.broken sink.old || is_err result) }
+{
+    put_floor(sink, grid, b"floor")?;
+    put_net(sink, grid)?;
+    put_letters(
+        sink,
+        b"<path class='wall' transform='translate(-.5 0)' d='M0 0",
+    )?;
+    put_rows(sink, grid)?;
+    put_letters(sink, b"'/>\n")
+}
