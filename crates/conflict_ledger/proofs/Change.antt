@@ -1,5 +1,5 @@
 -- The entries of a fleet after one route is put in or taken out.
-use Rattle.std.proofs.Common.{◌≡◌, ◌≢◌, ◌⊎◌, inl, inr, ℕ, ◌+◌, ◌%◌, List, length, Some, None, refl, sym, ap, ◌∙◌, subst, arith}
+use Rattle.std.proofs.Common.{◌≡◌, ◌≢◌, ◌⊎◌, inl, inr, ℕ, ◌+◌, ◌-◌, ◌%◌, List, length, Some, None, refl, sym, ap, ◌∙◌, subst, arith}
 use mathlib.Core.Logic.{◌↔◌}
 use Rattle.std.specs.Prelude.{IsSome, IsTrue, slice_index, false}
 use Rattle.std.specs.Option.{unwrap_or, option_map, option_and_then}
@@ -24,7 +24,7 @@ module _ (old new : Fleet) (agent : ℕ) (same : SameBut old new agent) where
   pub ends : (a : ℕ) → a ≢ agent → last_of old a ≡ last_of new a
   ends a apart = ap (λ r. unwrap_or (option_map (λ (route : Route). last_index route.path) r) 0) (same a apart)
 
-  pub leaving : (a : ℕ) → a ≢ agent → leaves_of old a ≡ leaves_of new a
+  leaving : (a : ℕ) → a ≢ agent → leaves_of old a ≡ leaves_of new a
   leaving a apart = ap (λ r. unwrap_or (option_map (λ (route : Route). route.leaves) r) false) (same a apart)
 
   follows_stays : (time follower leader : ℕ) (cell : Point) → follower ≢ agent → leader ≢ agent → IsFollowing old time follower leader cell → IsFollowing new time follower leader cell

@@ -8,7 +8,7 @@ use Rattle.grid_cells.specs.Cell.{Point}
 use Rattle.plan_table.specs.Route.{Route, Fleet, position_of, last_of, leaves_of, Leaves}
 use Rattle.plan_table.proofs.Fleets.{changes_early, leaver_early, position_rests, position_sooner, true_or_not}
 use Rattle.where_index.specs.Index.{Contents}
-use Rattle.where_index.specs.Asked.{AreStandingAt, Passes, IsShared}
+use Rattle.where_index.specs.Asked.{AreStandingAt, Passes}
 use Rattle.where_index.specs.declared.passings.Passing.{Passing}
 use Rattle.conflict_ledger.specs.Entries.{both_end_by, IsVertex, IsParked, IsFollowing}
 use Rattle.conflict_ledger.specs.ConflictList.{Stands}
@@ -70,26 +70,6 @@ module _ (index : Contents) (agent : ℕ) (route : Option Route) (fleet : Fleet)
               h3 other has entry is.stands of
         ]
       ]
-
-  -- who is near the agent in the step shares a cell with it
-  pub near_shared : (time : ℕ) (here next : Point) → IsWhere fleet agent time here next → (other : ℕ) → other ≢ agent → IsNear fleet agent time other → IsShared shows.base here time (time + 1) agent ⊎ IsShared shows.base next time time agent
-  near_shared time here next place other apart near = elim near.1 [
-    | inl w ↦ inl (record { other = other; apart = apart; time = time; not_before = omega arith; not_after = omega arith; there = base_there other time here apart (w.1 ∙ ap Some (place.now near.0 w.0)) })
-    | inr more ↦ elim more [
-      | inl w ↦ inr (record { other = other; apart = apart; time = time; not_before = omega arith; not_after = omega arith; there = base_there other time next apart (w.1 ∙ ap Some (place.later near.0 w.0)) })
-      | inr w ↦ inl (record { other = other; apart = apart; time = time + 1; not_before = omega arith; not_after = omega arith; there = base_there other (time + 1) here apart (w.1 ∙ ap Some (place.now near.0 w.0)) })
-    ]
-  ]
-
-  -- sharing the cell in which it is throughout is sharing it as the step begins
-  pub shared_still : (time : ℕ) (here : Point) → IsShared shows.base here time time agent → IsShared shows.base here time (time + 1) agent
-  shared_still time here is = record { other = is.other; apart = is.apart; time = is.time; not_before = is.not_before; not_after = omega (arith, is.not_after); there = is.there }
-
-  -- an agent with nobody near has no entries then
-  pub lonely_has : (time : ℕ) (entries : List Conflict) → ((other : ℕ) → other ≢ agent → IsNear fleet agent time other → ⊥) → HasTime fleet agent time entries
-  lonely_has time entries lonely entry is at =
-      let near = near_of fleet agent entry is.pair is.names is.stands in
-      absurd (lonely near.0 near.2 (subst (λ (t : ℕ). IsNear fleet agent t near.0) at near.3))
 
   -- an agent that is nowhere has no entries then
   pub nowhere_has : (time : ℕ) (entries : List Conflict) → position_of fleet agent time ≡ None → HasTime fleet agent time entries

@@ -13,5 +13,4 @@ pub mod Late
 pub mod Walks
 pub mod MoverIn
 pub mod LeftRings
-pub mod Beside
 pub mod Turning

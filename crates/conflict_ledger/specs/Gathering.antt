@@ -5,8 +5,6 @@ use Rattle.plan_table.specs.Route.{Fleet, position_of}
 use Rattle.conflict_ledger.specs.ConflictList.{Stands}
 use Rattle.conflict_ledger.specs.Naming.{IsPair, Names, time_of, IsOfTwo}
 use Rattle.conflict_ledger.specs.Finding.{KeepsAll}
-use Rattle.conflict_ledger.specs.Spans.{IsIn}
-use Rattle.conflict_ledger.specs.declared.spans.Span.{Span}
 use Rattle.conflict_ledger.specs.declared.entries.Conflict.{Conflict}
 use Rattle.conflict_ledger.specs.declared.entries.Conflict.TheVariants.{Vertex, Parked, Edge, Following, Swapping, Cycle}
 use Rattle.conflict_ledger.specs.declared.gather.Crossing.{Crossing}
@@ -23,15 +21,10 @@ pub record IsAgents (fleet : Fleet) (agent : ℕ) (entry : Conflict) : Type 0 wh
   pub pair : IsPair entry
   pub names : Names entry agent
 
--- new has the entries of old, and others of the agent at times of which that is so
-pub record Gathers (fleet : Fleet) (agent : ℕ) (at : ℕ → Type 0) (old new : List Conflict) : Type 0 where
+-- new has the entries of old, and others of the agent
+pub record Gathers (fleet : Fleet) (agent : ℕ) (old new : List Conflict) : Type 0 where
   pub keeps : KeepsAll old new
-  pub only : (entry : Conflict) → Contains new entry → Contains old entry ⊎ (IsAgents fleet agent entry × at (time_of entry))
-
--- the entries are those of the agent at the span's times
-pub record AreAgents (fleet : Fleet) (agent : ℕ) (span : Span) (entries : List Conflict) : Type 0 where
-  pub only : (entry : Conflict) → Contains entries entry → IsAgents fleet agent entry × IsIn span (time_of entry)
-  pub has : (entry : Conflict) → IsAgents fleet agent entry → IsIn span (time_of entry) → Contains entries entry
+  pub only : (entry : Conflict) → Contains new entry → Contains old entry ⊎ IsAgents fleet agent entry
 
 -- the agent is in the cell at the time, if it is anywhere, and in the next one a step later
 pub record IsWhere (fleet : Fleet) (agent time : ℕ) (here next : Point) : Type 0 where

@@ -5,7 +5,6 @@ pub mod Naming
 pub mod Change
 pub mod Kept
 pub mod Sight
-pub mod Spans
 pub mod Gathering
 pub mod Turns
 pub mod Laws

@@ -1,6 +1,5 @@
 ghost use Rattle.std.specs.Prelude.{◌≡◌};
 ghost use Rattle.conflict_ledger.specs.ConflictList.{kind_of};
-ghost use Rattle.conflict_ledger.specs.Naming.{time_of};
 
 use grid_cells::{Agent, Cell, List, Step};
 
@@ -68,20 +67,6 @@ pub enum Conflict {
 }
 
 impl Conflict {
-    /// The time of the entry.
-    pub(crate) fn time(&self) -> Step
-        ensures { result ≡ time_of self.now }
-    {
-        match self {
-            Conflict::Vertex { time, .. } => *time,
-            Conflict::Parked { time, .. } => *time,
-            Conflict::Edge { time, .. } => *time,
-            Conflict::Following { time, .. } => *time,
-            Conflict::Swapping { time, .. } => *time,
-            Conflict::Cycle { time, .. } => *time,
-        }
-    }
-
     /// The kind of the entry.
     pub fn kind(&self) -> Kind
         ensures { result ≡ kind_of self.now }

@@ -8,12 +8,10 @@ ghost use Rattle.conflict_ledger.specs.ConflictList.{Stands};
 ghost use Rattle.conflict_ledger.specs.Naming.{IsOfPair};
 ghost use Rattle.conflict_ledger.specs.Finding.{HasPair};
 ghost use Rattle.conflict_ledger.specs.Sight.{Shows};
-ghost use Rattle.conflict_ledger.specs.Gathering.{Offers, Gathers, AreAgents, IsWhere, IsCrossing, HasTime, HasLate, HasTwo};
-ghost use Rattle.conflict_ledger.specs.Spans.{Fits};
+ghost use Rattle.conflict_ledger.specs.Gathering.{Offers, Gathers, IsWhere, IsAgents, IsCrossing, HasTime, HasLate, HasTwo};
 
 use crate::entries::Conflict;
 use crate::sight::Sight;
-use crate::spans::Span;
 use grid_cells::{Agent, Cell, OutOfMemory, Step};
 use std::alloc::Global;
 
@@ -169,7 +167,7 @@ fn offer_pair(
     cells: &Crossing,
 ) -> Result<(), OutOfMemory>
     requires { time < u32.MAX }
-    ensures gathers { OnOk result ((fleet : Fleet) → Shows sight.now.index.now sight.now.agent (option_map route_of sight.now.shown) fleet → (first ≡ sight.now.agent) ⊎ (second ≡ sight.now.agent) → Gathers fleet sight.now.agent (λ t. t ≡ time) entries.old.items entries.new.items) }
+    ensures gathers { OnOk result ((fleet : Fleet) → Shows sight.now.index.now sight.now.agent (option_map route_of sight.now.shown) fleet → (first ≡ sight.now.agent) ⊎ (second ≡ sight.now.agent) → Gathers fleet sight.now.agent entries.old.items entries.new.items) }
     ensures has { OnOk result ((fleet : Fleet) → Shows sight.now.index.now sight.now.agent (option_map route_of sight.now.shown) fleet → IsCrossing fleet time first second cells.now → HasPair fleet time first second entries.new.items) }
 {
     offer(entries, vertex_of(sight, time, first, second, cells.here))?;
@@ -200,7 +198,7 @@ fn offer_two(
     next: Cell,
 ) -> Result<(), OutOfMemory>
     requires { time < u32.MAX }
-    ensures gathers { OnOk result ((fleet : Fleet) → Shows sight.now.index.now sight.now.agent (option_map route_of sight.now.shown) fleet → Gathers fleet sight.now.agent (λ t. t ≡ time) entries.old.items entries.new.items) }
+    ensures gathers { OnOk result ((fleet : Fleet) → Shows sight.now.index.now sight.now.agent (option_map route_of sight.now.shown) fleet → Gathers fleet sight.now.agent entries.old.items entries.new.items) }
     ensures has { OnOk result ((fleet : Fleet) → Shows sight.now.index.now sight.now.agent (option_map route_of sight.now.shown) fleet → IsWhere fleet sight.now.agent time here next → HasTwo fleet time sight.now.agent other entries.new.items) }
 {
     let (ahead, back) = (next, here);
@@ -244,7 +242,7 @@ fn offer_all(
     next: Cell,
 ) -> Result<(), OutOfMemory>
     requires { time < u32.MAX }
-    ensures gathers { OnOk result ((fleet : Fleet) → Shows sight.now.index.now sight.now.agent (option_map route_of sight.now.shown) fleet → Gathers fleet sight.now.agent (λ t. t ≡ time) entries.old.items entries.new.items) }
+    ensures gathers { OnOk result ((fleet : Fleet) → Shows sight.now.index.now sight.now.agent (option_map route_of sight.now.shown) fleet → Gathers fleet sight.now.agent entries.old.items entries.new.items) }
     ensures has { OnOk result ((fleet : Fleet) → Shows sight.now.index.now sight.now.agent (option_map route_of sight.now.shown) fleet → IsWhere fleet sight.now.agent time here next → (other : ℕ) → Contains others.now other → HasTwo fleet time sight.now.agent other entries.new.items) }
 {
     for other in others {
@@ -262,12 +260,9 @@ fn gather_step(
     next: Cell,
 ) -> Result<(), OutOfMemory>
     requires { time < u32.MAX }
-    ensures gathers { OnOk result ((fleet : Fleet) → Shows sight.now.index.now sight.now.agent (option_map route_of sight.now.shown) fleet → Gathers fleet sight.now.agent (λ t. t ≡ time) entries.old.items entries.new.items) }
+    ensures gathers { OnOk result ((fleet : Fleet) → Shows sight.now.index.now sight.now.agent (option_map route_of sight.now.shown) fleet → Gathers fleet sight.now.agent entries.old.items entries.new.items) }
     ensures has { OnOk result ((fleet : Fleet) → Shows sight.now.index.now sight.now.agent (option_map route_of sight.now.shown) fleet → IsWhere fleet sight.now.agent time here next → HasTime fleet sight.now.agent time entries.new.items) }
 {
-    if !sight.is_near(time, here, next) {
-        return Ok(());
-    }
     let beside = sight.index.standing_at(Step::new(time), here)?;
     offer_all(sight, entries, time, beside.items(), here, next)?;
     let ahead = sight.index.standing_at(Step::new(time), next)?;
@@ -280,7 +275,7 @@ fn gather_step(
 // Adds the entries of the agent in the step that begins at the time.
 fn gather_at(sight: &Sight<'_>, entries: &mut Vec<Conflict>, time: u32) -> Result<(), OutOfMemory>
     requires { time < u32.MAX }
-    ensures gathers { OnOk result ((fleet : Fleet) → Shows sight.now.index.now sight.now.agent (option_map route_of sight.now.shown) fleet → Gathers fleet sight.now.agent (λ t. t ≡ time) entries.old.items entries.new.items) }
+    ensures gathers { OnOk result ((fleet : Fleet) → Shows sight.now.index.now sight.now.agent (option_map route_of sight.now.shown) fleet → Gathers fleet sight.now.agent entries.old.items entries.new.items) }
     ensures has { OnOk result ((fleet : Fleet) → Shows sight.now.index.now sight.now.agent (option_map route_of sight.now.shown) fleet → HasTime fleet sight.now.agent time entries.new.items) }
 {
     let Some(here) = sight.own(time) else {
@@ -290,18 +285,13 @@ fn gather_at(sight: &Sight<'_>, entries: &mut Vec<Conflict>, time: u32) -> Resul
     gather_step(sight, entries, time, here, next)
 }
 
-// Adds the entries of the agent from one time on, up to the last index of its path.
-fn gather_path(
-    sight: &Sight<'_>,
-    entries: &mut Vec<Conflict>,
-    from: u32,
-    last: u32,
-) -> Result<(), OutOfMemory>
+// Adds the entries of the agent up to the last index of its path.
+fn gather_path(sight: &Sight<'_>, entries: &mut Vec<Conflict>, last: u32) -> Result<(), OutOfMemory>
     requires { last < u32.MAX }
-    ensures gathers { OnOk result ((fleet : Fleet) → Shows sight.now.index.now sight.now.agent (option_map route_of sight.now.shown) fleet → from ≤ last → Gathers fleet sight.now.agent (λ t. (from ≤ t) × (t ≤ last)) entries.old.items entries.new.items) }
-    ensures has { OnOk result ((fleet : Fleet) → Shows sight.now.index.now sight.now.agent (option_map route_of sight.now.shown) fleet → (time : ℕ) → from ≤ time → time ≤ last → HasTime fleet sight.now.agent time entries.new.items) }
+    ensures gathers { OnOk result ((fleet : Fleet) → Shows sight.now.index.now sight.now.agent (option_map route_of sight.now.shown) fleet → Gathers fleet sight.now.agent entries.old.items entries.new.items) }
+    ensures has { OnOk result ((fleet : Fleet) → Shows sight.now.index.now sight.now.agent (option_map route_of sight.now.shown) fleet → (time : ℕ) → time ≤ last → HasTime fleet sight.now.agent time entries.new.items) }
 {
-    for time in from..last + 1 {
+    for time in 0..last + 1 {
         gather_at(sight, entries, time)?;
     }
     Ok(())
@@ -315,7 +305,7 @@ fn offer_passing(
     other: Agent,
     rest: Cell,
 ) -> Result<(), OutOfMemory>
-    ensures gathers { OnOk result ((fleet : Fleet) → Shows sight.now.index.now sight.now.agent (option_map route_of sight.now.shown) fleet → Gathers fleet sight.now.agent (λ t. time ≤ t + 1) entries.old.items entries.new.items) }
+    ensures gathers { OnOk result ((fleet : Fleet) → Shows sight.now.index.now sight.now.agent (option_map route_of sight.now.shown) fleet → Gathers fleet sight.now.agent entries.old.items entries.new.items) }
     ensures has { OnOk result ((fleet : Fleet) → Shows sight.now.index.now sight.now.agent (option_map route_of sight.now.shown) fleet → HasLate fleet time sight.now.agent other rest entries.new.items) }
 {
     offer(entries, vertex_of(sight, time, sight.agent, other, rest))?;
@@ -334,7 +324,7 @@ fn offer_passing(
 // Adds the entries of the agent after the last index of its path.
 fn gather_late(sight: &Sight<'_>, entries: &mut Vec<Conflict>, last: u32) -> Result<(), OutOfMemory>
     requires { last < u32.MAX }
-    ensures gathers { OnOk result ((fleet : Fleet) → Shows sight.now.index.now sight.now.agent (option_map route_of sight.now.shown) fleet → Gathers fleet sight.now.agent (λ t. last ≤ t) entries.old.items entries.new.items) }
+    ensures gathers { OnOk result ((fleet : Fleet) → Shows sight.now.index.now sight.now.agent (option_map route_of sight.now.shown) fleet → Gathers fleet sight.now.agent entries.old.items entries.new.items) }
     ensures has { OnOk result ((fleet : Fleet) → Shows sight.now.index.now sight.now.agent (option_map route_of sight.now.shown) fleet → last ≡ last_of fleet sight.now.agent → (time : ℕ) → last < time → HasTime fleet sight.now.agent time entries.new.items) }
 {
     let Some(rest) = sight.own(last + 1) else {
@@ -347,21 +337,13 @@ fn gather_late(sight: &Sight<'_>, entries: &mut Vec<Conflict>, last: u32) -> Res
     Ok(())
 }
 
-/// The entries of two agents that name the agent of the sight, at the span's times. One may come more
-/// than once.
-pub(crate) fn gather(
-    alloc: Global,
-    sight: &Sight<'_>,
-    span: Span,
-) -> Result<Vec<Conflict>, OutOfMemory>
-    ensures { IfOk result (λ entries. (fleet : Fleet) → Shows sight.now.index.now sight.now.agent (option_map route_of sight.now.shown) fleet → Fits span (last_of fleet sight.now.agent) → AreAgents fleet sight.now.agent span entries.items) }
+/// The entries of two agents that name the agent of the sight. One may come more than once.
+pub(crate) fn gather(alloc: Global, sight: &Sight<'_>) -> Result<Vec<Conflict>, OutOfMemory>
+    ensures { IfOk result (λ entries. (fleet : Fleet) → Shows sight.now.index.now sight.now.agent (option_map route_of sight.now.shown) fleet → (entry : Conflict) → Contains entries.items entry ↔ IsAgents fleet sight.now.agent entry) }
 {
     let mut entries = Vec::new(alloc);
     let last = sight.own_last();
-    gather_path(sight, &mut entries, span.from, last)?;
-    if let Some(_until) = span.until {
-        return Ok(entries);
-    }
+    gather_path(sight, &mut entries, last)?;
     gather_late(sight, &mut entries, last)?;
     Ok(entries)
 }

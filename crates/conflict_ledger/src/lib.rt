@@ -13,7 +13,6 @@ mod plain;
 mod rings;
 mod sight;
 mod sorting;
-mod spans;
 mod turns;
 
 pub use entries::{Conflict, Kind, Ring};

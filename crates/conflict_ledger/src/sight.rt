@@ -3,8 +3,6 @@ ghost use Rattle.std.specs.Option.{option_map, option_and_then};
 ghost use Rattle.grid_cells.specs.Cell.{Point};
 ghost use Rattle.plan_table.specs.Route.{Fleet, position, position_of, last_of, leaves_of, Leaves, route_of};
 ghost use Rattle.conflict_ledger.specs.Entries.{both_end_by, IsVertex, IsParked, IsEdge, IsFollowing, IsSwapping};
-ghost use Rattle.conflict_ledger.specs.Change.{IsNear};
-ghost use Rattle.conflict_ledger.specs.Gathering.{IsWhere};
 ghost use Rattle.conflict_ledger.specs.Sight.{Shows, own_place};
 
 use grid_cells::{Agent, Cell, Step};
@@ -86,25 +84,6 @@ impl Sight<'_> {
         } else {
             self.index.has_position(agent, Step::new(time))
         }
-    }
-
-    // Whether the agent, here at the time and then in the next cell, has another agent near in the
-    // step.
-    pub fn is_near(&self, time: u32, here: Cell, next: Cell) -> bool
-        requires { time < u32.MAX }
-        ensures { (fleet : Fleet) → Shows self.now.index.now self.now.agent (option_map route_of self.now.shown) fleet → IsWhere fleet self.now.agent time here next → (other : ℕ) → other ≢ self.now.agent → IsNear fleet self.now.agent time other → IsTrue result }
-    {
-        let now = Step::new(time);
-        if self
-            .index
-            .is_shared(here, now, Step::new(time + 1), self.agent)
-        {
-            return true;
-        }
-        if here == next {
-            return false;
-        }
-        self.index.is_shared(next, now, now, self.agent)
     }
 
     // The last index of the agent's path.

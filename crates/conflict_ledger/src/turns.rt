@@ -1,16 +1,15 @@
-ghost use Rattle.std.specs.Prelude.{◌≡◌, ◌↔◌, ℕ, ◌<◌, Some, List, IfOk, IfSome, IsTrue, Contains};
+ghost use Rattle.std.specs.Prelude.{◌≡◌, ◌↔◌, ℕ, ◌<◌, Some, List, IfOk, IfSome, Contains};
 ghost use Rattle.std.specs.Option.{option_map};
 ghost use Rattle.plan_table.specs.Route.{Fleet, route_of};
 ghost use Rattle.conflict_ledger.specs.declared.entries.Conflict.{Conflict};
 ghost use Rattle.conflict_ledger.specs.Sight.{Shows};
-ghost use Rattle.conflict_ledger.specs.Naming.{time_of};
-ghost use Rattle.conflict_ledger.specs.Turns.{IsLeft, IsLeftAt, MayTurn, IsToldAt};
+ghost use Rattle.conflict_ledger.specs.Turns.{IsLeft, IsLeftAt};
 
 use crate::entries::Conflict;
 use crate::gather::offer;
 use crate::rings::ring_out_of;
 use crate::sight::Sight;
-use grid_cells::{Agent, OutOfMemory, Step};
+use grid_cells::{OutOfMemory, Step};
 use std::alloc::Global;
 
 // The ring that the view shows in that step at the cell that the agent of the other sight moves out
@@ -22,7 +21,7 @@ fn ring_left_at(
     time: u32,
 ) -> Result<Option<Conflict>, OutOfMemory>
     requires { time < u32.MAX }
-    ensures only { IfOk result (λ found. (fleet : Fleet) → Shows view.now.index.now view.now.agent (option_map route_of view.now.shown) fleet → IfSome found (λ entry. IsLeft fleet (option_map route_of with.now.shown) entry × (time_of entry ≡ time))) }
+    ensures only { IfOk result (λ found. (fleet : Fleet) → Shows view.now.index.now view.now.agent (option_map route_of view.now.shown) fleet → IfSome found (IsLeft fleet (option_map route_of with.now.shown))) }
     ensures has { IfOk result (λ found. (fleet : Fleet) (ring : List ℕ) → Shows view.now.index.now view.now.agent (option_map route_of view.now.shown) fleet → IsLeftAt fleet (option_map route_of with.now.shown) time ring → found ≡ Some (Conflict.Cycle time ring)) }
 {
     let Some(cell) = with.own(time) else {
@@ -40,53 +39,17 @@ fn ring_left_at(
     }
 }
 
-// Whether a ring that the agent's moves make or break can stand at the entry's time.
-fn may_turn(entry: &Conflict, agent: Agent) -> bool
-    ensures { IsTrue result ↔ MayTurn entry.now agent }
-{
-    match entry {
-        Conflict::Vertex { .. } => true,
-        Conflict::Following { leader, .. } => *leader == agent,
-        _ => false,
-    }
-}
-
-// The ring that the view shows at the entry's time at the cell that the agent of the other sight
-// moves out of, where the entry lets one stand.
-fn ring_told(
-    alloc: Global,
-    view: &Sight<'_>,
-    with: &Sight<'_>,
-    entry: &Conflict,
-) -> Result<Option<Conflict>, OutOfMemory>
-    ensures only { IfOk result (λ found. (fleet : Fleet) → Shows view.now.index.now view.now.agent (option_map route_of view.now.shown) fleet → IfSome found (λ ring. IsLeft fleet (option_map route_of with.now.shown) ring × (time_of ring ≡ time_of entry.now) × MayTurn entry.now with.now.agent)) }
-    ensures has { IfOk result (λ found. (fleet other : Fleet) (ring : Conflict) → Shows view.now.index.now view.now.agent (option_map route_of view.now.shown) fleet → Shows with.now.index.now with.now.agent (option_map route_of with.now.shown) other → IsLeft fleet (option_map route_of with.now.shown) ring → time_of ring ≡ time_of entry.now → MayTurn entry.now with.now.agent → found ≡ Some ring) }
-{
-    if !may_turn(entry, with.agent) {
-        return Ok(None);
-    }
-    let time = entry.time().number();
-    if time < with.own_last() {
-        ring_left_at(alloc, view, with, time)
-    } else {
-        Ok(None)
-    }
-}
-
-/// The rings that the view shows at the cells that the agent of the other sight moves out of, at the
-/// times at which one of that agent's entries lets one stand.
+/// The rings that the view shows at the cells that the agent of the other sight moves out of.
 pub(crate) fn rings_left(
     alloc: Global,
     view: &Sight<'_>,
     with: &Sight<'_>,
-    entries: &[Conflict],
 ) -> Result<Vec<Conflict>, OutOfMemory>
-    ensures only { IfOk result (λ rings. (fleet : Fleet) → Shows view.now.index.now view.now.agent (option_map route_of view.now.shown) fleet → (entry : Conflict) → Contains rings.items entry → IsLeft fleet (option_map route_of with.now.shown) entry × IsToldAt entries.now with.now.agent (time_of entry)) }
-    ensures has { IfOk result (λ rings. (fleet other : Fleet) → Shows view.now.index.now view.now.agent (option_map route_of view.now.shown) fleet → Shows with.now.index.now with.now.agent (option_map route_of with.now.shown) other → (entry : Conflict) → IsLeft fleet (option_map route_of with.now.shown) entry → IsToldAt entries.now with.now.agent (time_of entry) → Contains rings.items entry) }
+    ensures { IfOk result (λ rings. (fleet other : Fleet) → Shows view.now.index.now view.now.agent (option_map route_of view.now.shown) fleet → Shows with.now.index.now with.now.agent (option_map route_of with.now.shown) other → (entry : Conflict) → Contains rings.items entry ↔ IsLeft fleet (option_map route_of with.now.shown) entry) }
 {
     let mut rings = Vec::new(alloc);
-    for entry in entries {
-        let found = ring_told(alloc, view, with, entry)?;
+    for time in 0..with.own_last() {
+        let found = ring_left_at(alloc, view, with, time)?;
         offer(&mut rings, found)?;
     }
     Ok(rings)

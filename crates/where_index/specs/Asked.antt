@@ -31,15 +31,6 @@ pub record Passes (fleet : Fleet) (cell : Point) (from : ℕ) (passing : Passing
 abbrev pub ArePassing : Fleet → Point → ℕ → List Passing → Type 0
 ArePassing fleet cell from passings = ListsAll (λ passing. passing.time ∷ passing.agent ∷ []) (Passes fleet cell from) passings
 
--- another agent is in the cell at some time from one to another
-pub record IsShared (fleet : Fleet) (cell : Point) (from to agent : ℕ) : Type 0 where
-  pub other : ℕ
-  pub apart : other ≢ agent
-  pub time : ℕ
-  pub not_before : from ≤ time
-  pub not_after : time ≤ to
-  pub there : position_of fleet other time ≡ Some cell
-
 -- so many agents have a route
 pub record CountsAgents (fleet : Fleet) (count : ℕ) : Type 0 where
   pub agents : List ℕ

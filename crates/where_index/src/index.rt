@@ -5,7 +5,7 @@ ghost use Rattle.plan_table.specs.Route.{Fleet, position, position_of, last_of, 
 ghost use Rattle.where_index.specs.Records.{nothing, records_apart};
 ghost use Rattle.where_index.specs.Ends.{EndsAt};
 ghost use Rattle.where_index.specs.Index.{StandsFor, end_in, with_route};
-ghost use Rattle.where_index.specs.Asked.{AreStandingAt, AreMovers, ArePassing, IsShared, CountsAgents};
+ghost use Rattle.where_index.specs.Asked.{AreStandingAt, AreMovers, ArePassing, CountsAgents};
 
 use crate::ends::End;
 use crate::gathering::{agents_of, passings_of};
@@ -136,19 +136,6 @@ impl WhereIndex {
         let stands = self.records.stands.between(self.alloc, cell, time, time)?;
         let tails = self.records.tails.between(self.alloc, cell, 0, time)?;
         agents_of(self.alloc, &stands, &tails)
-    }
-
-    /// Whether another agent is in the cell at some step from one to another, both of them included.
-    pub fn is_shared(&self, cell: Cell, from: Step, to: Step, agent: Agent) -> bool
-        requires { from ≤ to }
-        ensures { (fleet : Fleet) → StandsFor self.now fleet → IsTrue result ↔ IsShared fleet cell from to agent }
-    {
-        let first = from.number();
-        let last = to.number();
-        if self.records.stands.has_other(cell, first, last, agent) {
-            return true;
-        }
-        self.records.tails.has_other(cell, 0, last, agent)
     }
 
     /// Those who move out of the cell in the step, by agent.

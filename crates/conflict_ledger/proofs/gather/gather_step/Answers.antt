@@ -1,11 +1,9 @@
-use Rattle.conflict_ledger.proofs.Gathers.{gathers_nothing, gathers_on}
-use Rattle.std.proofs.Common.{sym, ◌∙◌}
-use mathlib.Core.Bool.{false≢true}
-use Rattle.conflict_ledger.proofs.Late.{step_has, lonely_has}
+use Rattle.conflict_ledger.proofs.Gathers.{gathers_on}
+use Rattle.conflict_ledger.proofs.Late.{step_has}
 use Rattle.conflict_ledger.proofs.gather.gather_step.Goals as goal
 
 pub returns-clause-gathers : goal.returns-clause-gathers
-returns-clause-gathers c fleet shows = gathers_on fleet _ _ _ _ _ (gathers_on fleet _ _ _ _ _ (c.in_ok-offer_all.ensures.gathers fleet shows) (c.in_ok-offer_all-2.ensures.gathers fleet shows)) (c.in_ok-offer_all-3.ensures.gathers fleet shows)
+returns-clause-gathers c fleet shows = gathers_on fleet _ _ _ _ (gathers_on fleet _ _ _ _ (c.in_ok-offer_all.ensures.gathers fleet shows) (c.in_ok-offer_all-2.ensures.gathers fleet shows)) (c.in_ok-offer_all-3.ensures.gathers fleet shows)
 
 pub returns-clause-has : goal.returns-clause-has
 returns-clause-has c fleet shows place =
@@ -18,10 +16,3 @@ returns-clause-has c fleet shows place =
     (c.in_ok-offer_all-3.ensures.has fleet shows place)
     (c.in_ok-offer_all-2.ensures.gathers fleet shows).keeps
     (c.in_ok-offer_all-3.ensures.gathers fleet shows).keeps
-
-pub returns-then-not-is_near-clause-gathers : goal.returns-then-not-is_near-clause-gathers
-returns-then-not-is_near-clause-gathers c fleet shows = gathers_nothing fleet _ _ _
-
-pub returns-then-not-is_near-clause-has : goal.returns-then-not-is_near-clause-has
-returns-then-not-is_near-clause-has c fleet shows place =
-    lonely_has _ _ _ fleet shows c.args.time _ (λ other apart near. false≢true (sym c.if-not-is_near.true ∙ c.is_near.ensures fleet shows place other apart near))

@@ -8,7 +8,7 @@ use Rattle.conflict_ledger.proofs.gather.offer_all.Goals as goal
 
 pub loop-other-preserved : goal.loop-other-preserved
 loop-other-preserved c = record {
-  gathers = λ fleet shows. gathers_on fleet _ _ _ _ _ (c.loop-other.invariant.gathers fleet shows) (c.in_ok-offer_two.ensures.gathers fleet shows);
+  gathers = λ fleet shows. gathers_on fleet _ _ _ _ (c.loop-other.invariant.gathers fleet shows) (c.in_ok-offer_two.ensures.gathers fleet shows);
   has = λ fleet shows place k d lt.
       elim (cases_lt k c.loop-other.other-index) [
         | inl lower ↦ λ entry stands of. (c.in_ok-offer_two.ensures.gathers fleet shows).keeps entry (c.loop-other.invariant.has fleet shows place k d lower entry stands of)

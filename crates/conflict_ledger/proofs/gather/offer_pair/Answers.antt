@@ -5,7 +5,7 @@ use Rattle.conflict_ledger.proofs.gather.offer_pair.Goals as goal
 
 pub returns-clause-gathers : goal.returns-clause-gathers
 returns-clause-gathers c fleet shows who =
-    gathers_on fleet _ _ _ _ _ (gathers_on fleet _ _ _ _ _ (gathers_on fleet _ _ _ _ _ (gathers_on fleet _ _ _ _ _
+    gathers_on fleet _ _ _ _ (gathers_on fleet _ _ _ _ (gathers_on fleet _ _ _ _ (gathers_on fleet _ _ _ _
     (gathers_offer fleet _ c.args.time c.args.first c.args.second _ _ _ who (c.vertex_of.ensures.stands fleet shows) c.vertex_of.ensures.pair c.in_ok-offer.ensures)
     (gathers_offer fleet _ c.args.time c.args.first c.args.second _ _ _ who (c.parked_of.ensures.stands fleet shows) c.parked_of.ensures.pair c.in_ok-offer-2.ensures))
     (gathers_offer fleet _ c.args.time c.args.first c.args.second _ _ _ who (c.edge_of.ensures.stands fleet shows) c.edge_of.ensures.pair c.in_ok-offer-3.ensures))

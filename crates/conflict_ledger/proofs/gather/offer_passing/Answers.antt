@@ -1,25 +1,25 @@
 use Rattle.std.proofs.Common.{◌≡◌, ◌-◌, ℕ, None, inl, inr, refl, subst, arith}
 use Rattle.conflict_ledger.specs.Entries.{IsFollowing}
-use Rattle.conflict_ledger.proofs.Gathers.{gathers_on, gathers_offer, gathers_at}
+use Rattle.conflict_ledger.proofs.Gathers.{gathers_on, gathers_offer}
 use Rattle.conflict_ledger.proofs.Late.{one_of_late}
 use Rattle.conflict_ledger.proofs.gather.offer_passing.Goals as goal
 
 pub returns-in_ok-offer-5-clause-gathers : goal.returns-in_ok-offer-5-clause-gathers
 returns-in_ok-offer-5-clause-gathers c fleet shows =
-    gathers_on fleet _ _ _ _ _ (gathers_on fleet _ _ _ _ _ (gathers_on fleet _ _ _ _ _ (gathers_on fleet _ _ _ _ _
-    (gathers_at fleet _ _ _ _ _ (λ t w. omega (arith, w)) (gathers_offer fleet _ c.args.time c.args.sight.now.agent c.args.other _ _ _ (inl refl) (c.vertex_of.ensures.stands fleet shows) c.vertex_of.ensures.pair c.in_ok-offer.ensures))
-    (gathers_at fleet _ _ _ _ _ (λ t w. omega (arith, w)) (gathers_offer fleet _ c.args.time c.args.other c.args.sight.now.agent _ _ _ (inr refl) (c.vertex_of-2.ensures.stands fleet shows) c.vertex_of-2.ensures.pair c.in_ok-offer-2.ensures)))
-    (gathers_at fleet _ _ _ _ _ (λ t w. omega (arith, w)) (gathers_offer fleet _ c.args.time c.args.sight.now.agent c.args.other _ _ _ (inl refl) (c.parked_of.ensures.stands fleet shows) c.parked_of.ensures.pair c.in_ok-offer-3.ensures)))
-    (gathers_at fleet _ _ _ _ _ (λ t w. omega (arith, w)) (gathers_offer fleet _ c.args.time c.args.other c.args.sight.now.agent _ _ _ (inr refl) (c.parked_of-2.ensures.stands fleet shows) c.parked_of-2.ensures.pair c.in_ok-offer-4.ensures)))
-    (gathers_at fleet _ _ _ _ _ (λ t w. omega (arith, w)) (gathers_offer fleet _ _ c.args.other c.args.sight.now.agent _ _ _ (inr refl) (c.following_of.ensures.stands fleet shows) c.following_of.ensures.pair c.in_ok-offer-5.ensures))
+    gathers_on fleet _ _ _ _ (gathers_on fleet _ _ _ _ (gathers_on fleet _ _ _ _ (gathers_on fleet _ _ _ _
+    (gathers_offer fleet _ c.args.time c.args.sight.now.agent c.args.other _ _ _ (inl refl) (c.vertex_of.ensures.stands fleet shows) c.vertex_of.ensures.pair c.in_ok-offer.ensures)
+    (gathers_offer fleet _ c.args.time c.args.other c.args.sight.now.agent _ _ _ (inr refl) (c.vertex_of-2.ensures.stands fleet shows) c.vertex_of-2.ensures.pair c.in_ok-offer-2.ensures))
+    (gathers_offer fleet _ c.args.time c.args.sight.now.agent c.args.other _ _ _ (inl refl) (c.parked_of.ensures.stands fleet shows) c.parked_of.ensures.pair c.in_ok-offer-3.ensures))
+    (gathers_offer fleet _ c.args.time c.args.other c.args.sight.now.agent _ _ _ (inr refl) (c.parked_of-2.ensures.stands fleet shows) c.parked_of-2.ensures.pair c.in_ok-offer-4.ensures))
+    (gathers_offer fleet _ _ c.args.other c.args.sight.now.agent _ _ _ (inr refl) (c.following_of.ensures.stands fleet shows) c.following_of.ensures.pair c.in_ok-offer-5.ensures)
 
 pub returns-else-time-gt0-clause-gathers : goal.returns-else-time-gt0-clause-gathers
 returns-else-time-gt0-clause-gathers c fleet shows =
-    gathers_on fleet _ _ _ _ _ (gathers_on fleet _ _ _ _ _ (gathers_on fleet _ _ _ _ _
-    (gathers_at fleet _ _ _ _ _ (λ t w. omega (arith, w)) (gathers_offer fleet _ c.args.time c.args.sight.now.agent c.args.other _ _ _ (inl refl) (c.vertex_of.ensures.stands fleet shows) c.vertex_of.ensures.pair c.in_ok-offer.ensures))
-    (gathers_at fleet _ _ _ _ _ (λ t w. omega (arith, w)) (gathers_offer fleet _ c.args.time c.args.other c.args.sight.now.agent _ _ _ (inr refl) (c.vertex_of-2.ensures.stands fleet shows) c.vertex_of-2.ensures.pair c.in_ok-offer-2.ensures)))
-    (gathers_at fleet _ _ _ _ _ (λ t w. omega (arith, w)) (gathers_offer fleet _ c.args.time c.args.sight.now.agent c.args.other _ _ _ (inl refl) (c.parked_of.ensures.stands fleet shows) c.parked_of.ensures.pair c.in_ok-offer-3.ensures)))
-    (gathers_at fleet _ _ _ _ _ (λ t w. omega (arith, w)) (gathers_offer fleet _ c.args.time c.args.other c.args.sight.now.agent _ _ _ (inr refl) (c.parked_of-2.ensures.stands fleet shows) c.parked_of-2.ensures.pair c.in_ok-offer-4.ensures))
+    gathers_on fleet _ _ _ _ (gathers_on fleet _ _ _ _ (gathers_on fleet _ _ _ _
+    (gathers_offer fleet _ c.args.time c.args.sight.now.agent c.args.other _ _ _ (inl refl) (c.vertex_of.ensures.stands fleet shows) c.vertex_of.ensures.pair c.in_ok-offer.ensures)
+    (gathers_offer fleet _ c.args.time c.args.other c.args.sight.now.agent _ _ _ (inr refl) (c.vertex_of-2.ensures.stands fleet shows) c.vertex_of-2.ensures.pair c.in_ok-offer-2.ensures))
+    (gathers_offer fleet _ c.args.time c.args.sight.now.agent c.args.other _ _ _ (inl refl) (c.parked_of.ensures.stands fleet shows) c.parked_of.ensures.pair c.in_ok-offer-3.ensures))
+    (gathers_offer fleet _ c.args.time c.args.other c.args.sight.now.agent _ _ _ (inr refl) (c.parked_of-2.ensures.stands fleet shows) c.parked_of-2.ensures.pair c.in_ok-offer-4.ensures)
 
 pub returns-in_ok-offer-5-clause-has : goal.returns-in_ok-offer-5-clause-has
 returns-in_ok-offer-5-clause-has c fleet shows entry stands of =

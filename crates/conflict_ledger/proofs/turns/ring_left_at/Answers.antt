@@ -16,7 +16,7 @@ pub returns-in-Some-2-clause-only : goal.returns-in-Some-2-clause-only
 returns-in-Some-2-clause-only c fleet shows =
     let goes = (c.own_move.ensures c.in-Some-own_move._to).0 c.in-Some-own_move.is in
     let round = MatchOption-at_some _ (IsRingAt fleet c.args.time c.in-Some.cell) c.in-Some-2.ring c.in-Some-2.is (c.in_ok-ring.ensures.ring fleet shows) in
-    rw c.new.ensures (record { cell = c.in-Some.cell; to = c.in-Some-own_move._to; from = goes.0; arrives = goes.1; moves = goes.2; round = round }, refl)
+    rw c.new.ensures (record { cell = c.in-Some.cell; to = c.in-Some-own_move._to; from = goes.0; arrives = goes.1; moves = goes.2; round = round })
 
 pub returns-in-Some-2-clause-has : goal.returns-in-Some-2-clause-has
 returns-in-Some-2-clause-has c fleet ring shows left =
