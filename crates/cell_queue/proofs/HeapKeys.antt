@@ -6,7 +6,7 @@ use Rattle.std.proofs.lemmas.List.Sums.{sum_by-set}
 use Rattle.std.proofs.lemmas.Bool.{cases_eq, cases_lt}
 use Rattle.grid_cells.specs.Cell.{Point}
 use Rattle.grid_cells.specs.Size.{Extent, Holds}
-use Rattle.cell_queue.specs.Heap.{nowhere, absent, IsSynced, IsOrdered, number_in, key_by_place, keys_of}
+use Rattle.cell_queue.specs.Heap.{nowhere, absent, IsLaid, IsSynced, IsOrdered, number_in, key_by_place, keys_of}
 use Rattle.cell_queue.specs.Queue.{area}
 use Rattle.grid_cells.specs.Grid.{flag_index}
 use Rattle.cell_queue.proofs.Indexes.{index_below}
@@ -61,22 +61,22 @@ room_left size cells keys places len n s h out =
     omega (arith, s.counted)
 
 -- one more cell at the end of the heap
-pub IsSynced-grow : (size : Extent) (cells : List Point) (keys places : List ℕ) (len n key : ℕ) (c : Point) → IsSynced size cells keys places len → Holds size c → n ≡ flag_index size c → len ≤ slice_index places n →
-    IsSynced size (set cells len c) (set keys len key) (set places n len) (len + 1)
-IsSynced-grow size cells keys places len n key c s held is out =
+pub IsSynced-grow : (size : Extent) (cells cells' : List Point) (keys keys' places : List ℕ) (len n key : ℕ) (c : Point) → IsSynced size cells keys places len → Holds size c → n ≡ flag_index size c → len ≤ slice_index places n →
+    IsLaid Point cells cells' len c → IsLaid ℕ keys keys' len key → IsSynced size cells' keys' (set places n len) (len + 1)
+IsSynced-grow size cells cells' keys keys' places len n key c s held is out laid laid_key =
     let limit : area size ≤ 1048576 = s.sized.cells_most in
     let n_in : n < area size = omega (arith, index_below size c held) in
     let room : len < area size = room_left size cells keys places len n s n_in out in
     let n_in' : n < length places = omega (arith, s.one_place_each) in
     let at_n : slice_index (set places n len) n ≡ len = get_or-set_same places n len 0 n_in' in
-    let at_len : cell_in (set cells len c) len ≡ c = get_or-set_same cells len c (record { x = 0; y = 0 }) (omega (arith, s.one_cell_each)) in
+    let at_len : cell_in cells' len ≡ c = laid.here (record { x = 0; y = 0 }) in
     let sums : sum_by absent (set places n len) + absent (slice_index places n) ≡ sum_by absent places + absent len = sum_by-set absent places n len 0 n_in' in
     let one : absent (slice_index places n) ≡ 1 = rw (s.gone n n_in out) refl in
     let none : absent len ≡ 0 = blank_no len (omega arith) in
     record {
       sized = s.sized;
-      one_cell_each = length-set cells len c ∙ s.one_cell_each;
-      one_key_each = length-set keys len key ∙ s.one_key_each;
+      cells_far = omega (arith, laid.long);
+      keys_far = omega (arith, laid_key.long);
       one_place_each = length-set places n len ∙ s.one_place_each;
       within = omega arith;
       held = λ i h. held_in at_len i h (cases_eq i len);
@@ -89,24 +89,24 @@ IsSynced-grow size cells keys places len n key c s held is out =
     blank_no : (m : ℕ) → m < nowhere → absent m ≡ 0
     blank_no m h = grind arith
 
-    same_cell : (i : ℕ) → (i ≡ len → ⊥) → cell_in (set cells len c) i ≡ cell_in cells i
-    same_cell i ne = get_or-set_other cells len i c (record { x = 0; y = 0 }) ne
+    same_cell : (i : ℕ) → i < len → cell_in cells' i ≡ cell_in cells i
+    same_cell i lt = laid.below i (record { x = 0; y = 0 }) lt
 
     same_place_at : (m : ℕ) → (m ≡ n → ⊥) → slice_index (set places n len) m ≡ slice_index places m
     same_place_at m ne = get_or-set_other places n m len 0 ne
 
-    held_in : cell_in (set cells len c) len ≡ c → (i : ℕ) → i < len + 1 → ((i ≡ len) ⊎ (i ≡ len → ⊥)) → Holds size (cell_in (set cells len c) i)
+    held_in : cell_in cells' len ≡ c → (i : ℕ) → i < len + 1 → ((i ≡ len) ⊎ (i ≡ len → ⊥)) → Holds size (cell_in cells' i)
     held_in at i h (inl e) = rw (e, at) held
-    held_in at i h (inr ne) = rw (same_cell i ne) (s.held i (omega arith))
+    held_in at i h (inr ne) = (let lt : i < len = omega arith in rw (same_cell i lt) (s.held i lt))
 
-    back_in : slice_index (set places n len) n ≡ len → cell_in (set cells len c) len ≡ c → (i : ℕ) → i < len + 1 → ((i ≡ len) ⊎ (i ≡ len → ⊥)) → slice_index (set places n len) (number_in size (set cells len c) i) ≡ i
+    back_in : slice_index (set places n len) n ≡ len → cell_in cells' len ≡ c → (i : ℕ) → i < len + 1 → ((i ≡ len) ⊎ (i ≡ len → ⊥)) → slice_index (set places n len) (number_in size cells' i) ≡ i
     back_in at_n at i h (inl e) = rw (e, at, ← is) at_n
     back_in at_n at i h (inr ne) =
         let lt : i < len = omega arith in
         let not_n : number_in size cells i ≢ n = (λ e. absurd (omega (arith, s.back i lt, ap (λ (v : ℕ). slice_index places v) e))) in
-        rw (same_cell i ne) (same_place_at (number_in size cells i) not_n ∙ s.back i lt)
+        rw (same_cell i lt) (same_place_at (number_in size cells i) not_n ∙ s.back i lt)
 
-    forth_in : slice_index (set places n len) n ≡ len → cell_in (set cells len c) len ≡ c → (m : ℕ) → m < area size → slice_index (set places n len) m < len + 1 → ((m ≡ n) ⊎ (m ≡ n → ⊥)) → number_in size (set cells len c) (slice_index (set places n len) m) ≡ m
+    forth_in : slice_index (set places n len) n ≡ len → cell_in cells' len ≡ c → (m : ℕ) → m < area size → slice_index (set places n len) m < len + 1 → ((m ≡ n) ⊎ (m ≡ n → ⊥)) → number_in size cells' (slice_index (set places n len) m) ≡ m
     forth_in at_n at m h below (inl e) = rw (e, at_n, at) (sym is)
     forth_in at_n at m h below (inr ne) =
         let same : slice_index (set places n len) m ≡ slice_index places m = same_place_at m ne in
@@ -115,8 +115,8 @@ IsSynced-grow size cells keys places len n key c s held is out =
         limit : area size ≤ 1048576
         limit = s.sized.cells_most
 
-        lower : slice_index (set places n len) m ≡ slice_index places m → ((slice_index places m < len) ⊎ (len ≤ slice_index places m)) → number_in size (set cells len c) (slice_index (set places n len) m) ≡ m
-        lower same (inl lt) = rw (same, same_cell (slice_index places m) (λ e. absurd (omega arith))) (s.forth m h lt)
+        lower : slice_index (set places n len) m ≡ slice_index places m → ((slice_index places m < len) ⊎ (len ≤ slice_index places m)) → number_in size cells' (slice_index (set places n len) m) ≡ m
+        lower same (inl lt) = rw (same, same_cell (slice_index places m) lt) (s.forth m h lt)
         lower same (inr over) = absurd (omega (arith, s.gone m h over, limit, s.within))
 
     gone_in : slice_index (set places n len) n ≡ len → (m : ℕ) → m < area size → len + 1 ≤ slice_index (set places n len) m → ((m ≡ n) ⊎ (m ≡ n → ⊥)) → slice_index (set places n len) m ≡ nowhere
@@ -124,27 +124,27 @@ IsSynced-grow size cells keys places len n key c s held is out =
     gone_in at_n m h over (inr ne) = (let same : slice_index (set places n len) m ≡ slice_index places m = same_place_at m ne in same ∙ s.gone m h (omega arith))
 
 -- its keys
-pub keys_of-grow : (size : Extent) (cells : List Point) (keys places : List ℕ) (len n key : ℕ) → IsSynced size cells keys places len → n < area size → len ≤ slice_index places n →
-    keys_of (set places n len) (set keys len key) (len + 1) ≡ set (keys_of places keys len) n (Some key)
-keys_of-grow size cells keys places len n key s h out =
+pub keys_of-grow : (size : Extent) (cells : List Point) (keys keys' places : List ℕ) (len n key : ℕ) → IsSynced size cells keys places len → n < area size → len ≤ slice_index places n →
+    IsLaid ℕ keys keys' len key → keys_of (set places n len) keys' (len + 1) ≡ set (keys_of places keys len) n (Some key)
+keys_of-grow size cells keys keys' places len n key s h out laid =
     let room : len < area size = room_left size cells keys places len n s h out in
     let n_in : n < length places = omega (arith, s.one_place_each) in
     let at_n : slice_index (set places n len) n ≡ len = get_or-set_same places n len 0 n_in in
-    let at_len : slice_index (set keys len key) len ≡ key = get_or-set_same keys len key 0 (omega (arith, s.one_key_each)) in
-    keys_of-set places (set places n len) keys (set keys len key) len (len + 1) n (Some key) (length-set places n len) n_in
-    (rw at_n (in_heap (set keys len key) (len + 1) len (omega arith) ∙ ap (λ (v : ℕ). Some v) at_len))
+    let at_len : slice_index keys' len ≡ key = laid.here 0 in
+    keys_of-set places (set places n len) keys keys' len (len + 1) n (Some key) (length-set places n len) n_in
+    (rw at_n (in_heap keys' (len + 1) len (omega arith) ∙ ap (λ (v : ℕ). Some v) at_len))
     (λ m hm ne. rw (get_or-set_other places n m len 0 ne) (other m (omega (arith, s.one_place_each)) (cases_lt (slice_index places m) len)))
   where
-    other : (m : ℕ) → m < area size → ((slice_index places m < len) ⊎ (len ≤ slice_index places m)) → key_by_place (set keys len key) (len + 1) (slice_index places m) ≡ key_by_place keys len (slice_index places m)
-    other m hm (inl lt) = in_heap (set keys len key) (len + 1) (slice_index places m) (omega arith) ∙ ap (λ (v : ℕ). Some v) (get_or-set_other keys len (slice_index places m) key 0 (λ e. absurd (omega arith))) ∙ sym (in_heap keys len (slice_index places m) lt)
-    other m hm (inr over) = (let limit : area size ≤ 1048576 = s.sized.cells_most in out_of_heap (set keys len key) (len + 1) (slice_index places m) (omega (arith, s.gone m hm over, s.within)) ∙ sym (out_of_heap keys len (slice_index places m) over))
+    other : (m : ℕ) → m < area size → ((slice_index places m < len) ⊎ (len ≤ slice_index places m)) → key_by_place keys' (len + 1) (slice_index places m) ≡ key_by_place keys len (slice_index places m)
+    other m hm (inl lt) = in_heap keys' (len + 1) (slice_index places m) (omega arith) ∙ ap (λ (v : ℕ). Some v) (laid.below (slice_index places m) 0 lt) ∙ sym (in_heap keys len (slice_index places m) lt)
+    other m hm (inr over) = (let limit : area size ≤ 1048576 = s.sized.cells_most in out_of_heap keys' (len + 1) (slice_index places m) (omega (arith, s.gone m hm over, s.within)) ∙ sym (out_of_heap keys len (slice_index places m) over))
 
 -- another key for a cell that is in the heap
 pub keys_of-change : (size : Extent) (cells : List Point) (keys places : List ℕ) (len n key : ℕ) → IsSynced size cells keys places len → n < area size → slice_index places n < len →
     keys_of places (set keys (slice_index places n) key) len ≡ set (keys_of places keys len) n (Some key)
 keys_of-change size cells keys places len n key s h lt =
     let n_in : n < length places = omega (arith, s.one_place_each) in
-    let at : slice_index (set keys (slice_index places n) key) (slice_index places n) ≡ key = get_or-set_same keys (slice_index places n) key 0 (omega (arith, s.one_key_each, s.within)) in
+    let at : slice_index (set keys (slice_index places n) key) (slice_index places n) ≡ key = get_or-set_same keys (slice_index places n) key 0 (omega (arith, s.keys_far, s.within)) in
     keys_of-set places places keys (set keys (slice_index places n) key) len len n (Some key) refl n_in
     (in_heap (set keys (slice_index places n) key) len (slice_index places n) lt ∙ ap (λ (v : ℕ). Some v) at)
     (λ m hm ne. other m (omega (arith, s.one_place_each)) ne (cases_lt (slice_index places m) len))
@@ -169,8 +169,8 @@ IsSynced-shrink size cells keys places len last n s one is =
     let full : absent nowhere ≡ 1 = refl in
     record {
       sized = s.sized;
-      one_cell_each = s.one_cell_each;
-      one_key_each = s.one_key_each;
+      cells_far = omega (arith, s.cells_far);
+      keys_far = omega (arith, s.keys_far);
       one_place_each = length-set places n nowhere ∙ s.one_place_each;
       within = omega (arith, s.within);
       held = λ i h. s.held i (omega arith);

@@ -29,8 +29,8 @@ pub moved : (size : Extent) (cells : List Point) (keys places : List ℕ) (len i
     IsMoved size cells (set (set cells i (cell_in cells j)) j (cell_in cells i)) (λ x. slice_index places x)
     (λ x. slice_index (set (set places (number_in size cells j) i) (number_in size cells i) j) x) len i j
 moved size cells keys places len i j s li lj =
-    let within_i : i < length cells = omega (arith, s.one_cell_each, s.within) in
-    let within_j : j < length (set cells i (cell_in cells j)) = rw length-set (omega (arith, s.one_cell_each, s.within)) in
+    let within_i : i < length cells = omega (arith, s.cells_far, s.within) in
+    let within_j : j < length (set cells i (cell_in cells j)) = rw length-set (omega (arith, s.cells_far, s.within)) in
     let at_j : cell_in (set (set cells i (cell_in cells j)) j (cell_in cells i)) j ≡ cell_in cells i = get_or-set_same (set cells i (cell_in cells j)) j (cell_in cells i) (record { x = 0; y = 0 }) within_j in
     let n_i : number_in size cells i < length places = omega (arith, index_below size (cell_in cells i) (s.held i li), s.one_place_each) in
     let n_i' : number_in size cells i < length (set places (number_in size cells j) i) = rw length-set n_i in
@@ -62,8 +62,8 @@ pub IsSynced-swap : (size : Extent) (cells cells' : List Point) (keys keys' plac
 IsSynced-swap size cells cells' keys keys' places places' len i j s li lj lc lk lp same_count m =
     record {
       sized = s.sized;
-      one_cell_each = lc ∙ s.one_cell_each;
-      one_key_each = lk ∙ s.one_key_each;
+      cells_far = omega (arith, lc, s.cells_far);
+      keys_far = omega (arith, lk, s.keys_far);
       one_place_each = lp ∙ s.one_place_each;
       within = s.within;
       held = λ k h. held_in k h (cases_eq k i) (cases_eq k j);

@@ -1,4 +1,4 @@
-use Rattle.std.specs.Prelude.{◌≡◌, ℕ, ◌+◌, ◌*◌, ◌≤◌, ◌<◌, ◌≢◌, ◌==◌, nat_lt, if◌then◌else◌, Option, Some, None, List, length, map, sum_by, slice_index, slice_index_or}
+use Rattle.std.specs.Prelude.{◌≡◌, ℕ, ◌+◌, ◌*◌, ◌≤◌, ◌<◌, ◌≢◌, ◌==◌, nat_lt, if◌then◌else◌, Option, Some, None, List, length, map, sum_by, slice_index, slice_index_or, vec_capacity}
 use Rattle.grid_cells.specs.Cell.{Point}
 use Rattle.grid_cells.specs.Size.{Extent, IsSize, Holds}
 use Rattle.cell_queue.specs.declared.heaps.Heap.{Heap}
@@ -28,8 +28,8 @@ number_in size cells i = flag_index size (slice_index_or cells i (record { x = 0
 -- each cell of the heap knows its place, and each place below `len` has its cell
 pub record IsSynced (size : Extent) (cells : List Point) (keys places : List ℕ) (len : ℕ) : Type 0 where
   pub sized : IsSize size.width size.height
-  pub one_cell_each : length cells ≡ area size
-  pub one_key_each : length keys ≡ area size
+  pub cells_far : len ≤ length cells
+  pub keys_far : len ≤ length keys
   pub one_place_each : length places ≡ area size
   pub within : len ≤ area size
   pub held : (i : ℕ) → i < len → Holds size (slice_index_or cells i (record { x = 0; y = 0 }))
@@ -37,6 +37,12 @@ pub record IsSynced (size : Extent) (cells : List Point) (keys places : List ℕ
   pub forth : (n : ℕ) → n < area size → slice_index places n < len → number_in size cells (slice_index places n) ≡ n
   pub gone : (n : ℕ) → n < area size → len ≤ slice_index places n → slice_index places n ≡ nowhere
   pub counted : len + sum_by absent places ≡ area size
+
+-- a list after a write at a place, at most one past its end; what stands below stays
+pub record IsLaid (T : Type 0) (old new : List T) (at : ℕ) (value : T) : Type 0 where
+  pub long : at < length new
+  pub here : (d : T) → slice_index_or new at d ≡ value
+  pub below : (k : ℕ) (d : T) → k < at → slice_index_or new k d ≡ slice_index_or old k d
 
 -- the second place is that of a child of the first
 abbrev pub IsChild : ℕ → ℕ → Type 0
@@ -68,10 +74,16 @@ IsSyncedHeap h = IsSynced h.size h.cells.items h.keys.items h.places.items h.len
 abbrev pub keys_in : Heap → List (Option ℕ)
 keys_in h = keys_of h.places.items h.keys.items h.len
 
--- synced and in order
+-- the lists of cells and keys can grow to one for each cell of the map without more memory
+pub record HasRoom (h : Heap) : Type 0 where
+  pub cells : area h.size ≤ vec_capacity h.cells
+  pub keys : area h.size ≤ vec_capacity h.keys
+
+-- synced and in order, with room for each cell
 pub record IsHeap (h : Heap) : Type 0 where
   pub synced : IsSyncedHeap h
   pub ordered : IsOrdered h.keys.items h.len
+  pub room : HasRoom h
 
 -- the same cells with the same keys, in other places
 pub record IsShuffled (old new : Heap) : Type 0 where

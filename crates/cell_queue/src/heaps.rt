@@ -1,8 +1,8 @@
-ghost use Rattle.std.specs.Prelude.{◌≡◌, ℕ, ◌+◌, ◌*◌, ◌<◌, ◌≤◌, Some, None, IfOk, IfSome, IfNone, is_some, slice_index, slice_set, replicate};
+ghost use Rattle.std.specs.Prelude.{◌≡◌, ℕ, ◌+◌, ◌*◌, ◌<◌, ◌≤◌, Some, None, IfOk, IfSome, IfNone, is_some, slice_index, slice_set, replicate, vec_len, vec_capacity};
 ghost use Rattle.grid_cells.specs.Size.{Holds};
 ghost use Rattle.grid_cells.specs.Grid.{flag_index};
 ghost use Rattle.cell_queue.specs.Queue.{area, key_at, IsLeastKey, IsEmpty};
-ghost use Rattle.cell_queue.specs.Heap.{IsSyncedHeap, IsHeap, IsShuffled, IsLoose, IsLooseUp, IsLooseDown, IsChild, keys_in, number_in, queue_of};
+ghost use Rattle.cell_queue.specs.Heap.{IsSyncedHeap, IsHeap, IsLaid, HasRoom, IsShuffled, IsLoose, IsLooseUp, IsLooseDown, IsChild, keys_in, number_in, queue_of};
 
 use grid_cells::{Cell, OutOfMemory, Size};
 use std::alloc::Global;
@@ -11,7 +11,7 @@ use std::alloc::Global;
 const NOWHERE: u32 = u32::MAX;
 
 // A binary heap of cells, the least key on top, that knows the place of each cell. `cells` and
-// `keys` count up to `len`.
+// `keys` count up to `len`; they have room for each cell, and grow as the heap does.
 #[derive(Drop)]
 pub struct Heap {
     pub size: Size,
@@ -29,6 +29,7 @@ impl Heap {
         requires second { j < self.old.len }
         ensures synced { IsSyncedHeap self.new }
         ensures shuffled { IsShuffled self.old self.new }
+        ensures room { HasRoom self.old → HasRoom self.new }
         ensures moved { number_in self.new.size self.new.cells.items j ≡
             number_in self.old.size self.old.cells.items i }
         ensures keys { self.new.keys.items ≡
@@ -50,6 +51,7 @@ impl Heap {
         requires synced { IsSyncedHeap self.old }
         requires at { at < self.old.len }
         requires loose { IsLooseUp self.old.keys.items self.old.len at }
+        requires room { HasRoom self.old }
         ensures heap { IsHeap self.new }
         ensures shuffled { IsShuffled self.old self.new }
     {
@@ -86,6 +88,7 @@ impl Heap {
         requires synced { IsSyncedHeap self.old }
         requires at { at < self.old.len }
         requires loose { IsLooseDown self.old.keys.items self.old.len at }
+        requires room { HasRoom self.old }
         ensures heap { IsHeap self.new }
         ensures shuffled { IsShuffled self.old self.new }
     {
@@ -105,6 +108,7 @@ impl Heap {
         requires synced { IsSyncedHeap self.old }
         requires at { at < self.old.len }
         requires loose { IsLoose self.old.keys.items self.old.len at }
+        requires room { HasRoom self.old }
         ensures heap { IsHeap self.new }
         ensures shuffled { IsShuffled self.old self.new }
     {
@@ -124,11 +128,10 @@ impl Heap {
         ensures empty { IfOk result (λ h. keys_in h ≡ replicate (area size) None) }
     {
         let room = size.width() as usize * size.height() as usize;
-        let filler = Cell::new(0, 0).unwrap();
         Ok(Heap {
             size,
-            cells: vec![in alloc; filler; room]?,
-            keys: vec![in alloc; 0; room]?,
+            cells: Vec::with_capacity(alloc, room)?,
+            keys: Vec::with_capacity(alloc, room)?,
             places: vec![in alloc; NOWHERE; room]?,
             len: 0,
         })
@@ -149,8 +152,8 @@ impl Heap {
             self.settle(place);
         } else {
             let last = self.len;
-            self.cells[last] = cell;
-            self.keys[last] = key;
+            lay(&mut self.cells, last, cell);
+            lay(&mut self.keys, last, key);
             self.places[index] = last as u32;
             self.len += 1;
             self.rise(last);
@@ -223,5 +226,19 @@ impl Heap {
         let least = (self.cells[0], self.keys[0]);
         self.remove_at(0);
         Some(least)
+    }
+}
+
+// Writes the value at a place of the list, at most one past its end. The list has room for it.
+fn lay<T: Copy>(list: &mut Vec<T>, at: usize, value: T)
+    requires near { at ≤ vec_len list.old }
+    requires room { at < vec_capacity list.old }
+    ensures laid { IsLaid T list.old.items list.new.items at value }
+    ensures capacity { vec_capacity list.old ≤ vec_capacity list.new }
+{
+    if at < list.len() {
+        list[at] = value;
+    } else {
+        list.push(value).unwrap();
     }
 }

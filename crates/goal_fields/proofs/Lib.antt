@@ -11,3 +11,4 @@ pub mod CountLemmas
 pub mod HeldLemmas
 pub mod CoverLemmas
 pub mod RoomLemmas
+pub mod Reaching

@@ -1,17 +1,16 @@
 use Rattle.std.specs.Prelude.{true, false, ◌==◌, slice_index, sum_by}
-use Rattle.std.proofs.Common.{◌≡◌, ◌≢◌, ℕ, zero, suc, ◌+◌, ◌<◌, ◌≤◌, ◌⊎◌, List, [], ◌∷◌, length, Option, Some, refl, sym, ap, subst, ◌∙◌, inl, inr, arith, get_or-set_same, get_or-set_other, add-one}
+use Rattle.std.proofs.Common.{◌≡◌, ◌≢◌, ℕ, zero, suc, ◌+◌, ◌-◌, ◌*◌, ◌<◌, ◌≤◌, ◌⊎◌, List, [], ◌∷◌, length, refl, sym, ap, subst, ◌∙◌, inl, inr, arith, get_or-set_same, get_or-set_other, add-one}
 use borrow.Author.Count.{below_more}
 use Rattle.std.proofs.Math.ListN.{set, length-set}
 use Rattle.std.proofs.lemmas.List.Sums.{sum_by-set, sum_by-cons}
 use Rattle.std.proofs.lemmas.Bool.{cases_eq, cases_lt}
-use Rattle.grid_cells.specs.Cell.{Point, IsAdjacent}
+use Rattle.grid_cells.specs.Cell.{Point, point, IsAdjacent}
 use Rattle.grid_cells.specs.Size.{Extent, IsSize, Holds}
 use Rattle.cell_queue.specs.Queue.{area}
 use Rattle.grid_cells.specs.Grid.{flag_index, Chart, IsOpen}
 use Rattle.grid_cells.specs.Walks.{Walk, IsDistance}
-use Rattle.std.specs.Prelude.{IfSome}
 use Rattle.goal_fields.specs.declared.search.Search.{Search}
-use Rattle.goal_fields.specs.Search.{IsSearch, slot, IsSearching, GoesOn, front_of, mark_of}
+use Rattle.goal_fields.specs.Search.{IsSearch, slot, IsSearching, IsMarking, IsReached, GoesOn, front_of, mark_of}
 use Rattle.goal_fields.specs.Marks.{mark_at, distance_of, far, blank}
 use Rattle.cell_queue.proofs.Indexes.{index_below, same_place}
 use Rattle.goal_fields.proofs.Neighbours.{IsAdjacent-sym}
@@ -228,15 +227,6 @@ IsSearch-next grid goal marks queue head tail s lt near_front =
       bounded = s.bounded;
     }
 
--- a search that goes on from another, with the same cell at the front
-pub record IsAt (start now : Search) (number : ℕ) : Type 0 where
-  pub goes_on : GoesOn start now
-  pub searching : IsSearching now
-  pub at_work : now.head < now.tail
-  pub front : front_of now ≡ front_of start
-  pub next : number ≡ mark_of now (front_of now) + 1
-  pub small : number < far
-
 pub mark_of-front : (s : Search) → IsSearching s → s.head < s.tail → mark_of s (front_of s) + 1 < far
 mark_of-front s searching lt =
     let size_small : area s.grid.size ≤ 1048576 = searching.sized.cells_most in
@@ -261,39 +251,55 @@ GoesOn-trans a b c p q =
           q.marks v held_then below_then ∙ first;
     }
 
-pub IsAt-start : (s : Search) → IsSearching s → s.head < s.tail → IsAt s s (mark_of s (front_of s) + 1)
-IsAt-start s searching lt = record { goes_on = GoesOn-refl s; searching = searching; at_work = lt; front = refl; next = refl; small = mark_of-front s searching lt }
-
-pub IsAt-more : (start now later : Search) (number : ℕ) → IsAt start now number → IsSearching later → GoesOn now later → IsAt start later number
-IsAt-more start now later number at searching goes =
-    let front_stays : front_of later ≡ front_of now = (rw goes.head (goes.slots now.head at.at_work)) in
-    let below : mark_of now (front_of now) < far = omega (arith, mark_of-front now at.searching at.at_work) in
-    let held : Holds now.grid.size (front_of now) = (at.searching.inside now.head at.at_work).0 in
-    let mark_stays : mark_of later (front_of now) ≡ mark_of now (front_of now) = goes.marks (front_of now) held below in
+-- a search that goes on still marks the neighbours of that cell
+pub IsMarking-later : (s t : Search) (front : Point) (at number : ℕ) → IsMarking s front at number → IsSearching t → GoesOn s t → IsMarking t front at number
+IsMarking-later s t front at number m searching goes =
+    let turn : front_of t ≡ front = rw goes.head (goes.slots s.head m.at_work) ∙ m.turn in
+    let held : Holds s.grid.size front = rw (← m.turn) (m.searching.inside s.head m.at_work).0 in
+    let same : mark_of s (front_of s) ≡ mark_of s front = ap (λ (v : Point). mark_of s v) m.turn in
+    let below : mark_of s front < far = omega (arith, mark_of-front s m.searching m.at_work) in
     record {
-      goes_on = GoesOn-trans start now later at.goes_on goes;
       searching = searching;
-      at_work = omega (arith, at.at_work, goes.head, goes.tail);
-      front = front_stays ∙ at.front;
-      next = rw front_stays (omega (arith, at.next, mark_stays));
-      small = at.small;
+      at_work = omega (arith, m.at_work, goes.head, goes.tail);
+      turn = turn;
+      place = rw goes.grid m.place;
+      small = m.small;
+      next = omega (arith, m.next, goes.marks front held below);
     }
 
--- what the call of mark needs, at a search that goes on
-pub IsAt-next : (start now : Search) (number n : ℕ) → IsAt start now number → n ≡ number → n ≡ mark_of now (front_of now) + 1
-IsAt-next start now number n at e = omega (arith, at.next)
-
--- a neighbour that was reached earlier is still reached
-pub reached_later : (s t : Search) (number : ℕ) (o : Option Point) (c : Point) → GoesOn s t → number < far → o ≡ Some c → IsOpen t.grid c →
-    IfSome o (λ v. IsOpen s.grid v → mark_of s v ≤ number) → mark_of t c ≤ number
-reached_later s t number o c goes small e open_c reached =
-    let here : IsOpen s.grid c → mark_of s c ≤ number = (rw e at reached) in
-    let same_ground : t.grid ≡ s.grid = goes.grid in
-    let open_then : IsOpen s.grid c = subst (λ (g : Chart). IsOpen g c) same_ground open_c in
-    let le : mark_of s c ≤ number = here open_then in
+-- what was reached stays so
+pub IsReached-later : (s t : Search) (number : ℕ) (c : Point) → GoesOn s t → number < far → IsReached s number c → IsReached t number c
+IsReached-later s t number c goes small reached open_c =
+    let open_then : IsOpen s.grid c = subst (λ (g : Chart). IsOpen g c) goes.grid open_c in
+    let le : mark_of s c ≤ number = reached open_then in
     let below : mark_of s c < far = omega arith in
-    let stays : mark_of t c ≡ mark_of s c = goes.marks c open_then.0 below in
-    omega arith
+    omega (arith, goes.marks c open_then.0 below)
+
+-- a cell that has a mark is reached
+pub IsReached-marked : (s : Search) (number : ℕ) (c : Point) → IsSearching s → s.head < s.tail → number ≡ mark_of s (front_of s) + 1 → mark_of s c ≢ far → IsReached s number c
+IsReached-marked s number c searching lt next marked open_c =
+    let b : mark_of s c ≤ far = searching.bounded c open_c.0 in
+    let below : mark_of s c < far = omega arith in
+    omega (arith, next, mark_at-le s.grid s.goal s.marks.items s.queue.items s.head s.tail c searching lt open_c.0 below)
+
+-- a neighbour stands above, at the left, at the right or below
+pub beside_cases : (a b : Point) → IsAdjacent a b →
+    ((b.x ≡ a.x) × (b.y + 1 ≡ a.y)) ⊎ (((b.x + 1 ≡ a.x) × (b.y ≡ a.y)) ⊎ (((b.x ≡ a.x + 1) × (b.y ≡ a.y)) ⊎ ((b.x ≡ a.x) × (b.y ≡ a.y + 1))))
+beside_cases a b near = go (cases_lt a.x b.x) (cases_lt b.x a.x) (cases_lt a.y b.y)
+  where
+    go : ((a.x < b.x) ⊎ (b.x ≤ a.x)) → ((b.x < a.x) ⊎ (a.x ≤ b.x)) → ((a.y < b.y) ⊎ (b.y ≤ a.y)) →
+        ((b.x ≡ a.x) × (b.y + 1 ≡ a.y)) ⊎ (((b.x + 1 ≡ a.x) × (b.y ≡ a.y)) ⊎ (((b.x ≡ a.x + 1) × (b.y ≡ a.y)) ⊎ ((b.x ≡ a.x) × (b.y ≡ a.y + 1))))
+    go (inl more) _ _ = inr (inr (inl (omega arith, omega arith)))
+    go (inr le) (inl less) _ = inr (inl (omega arith, omega arith))
+    go (inr le) (inr ge) (inl more) = inr (inr (inr (omega arith, omega arith)))
+    go (inr le) (inr ge) (inr less) = inl (omega arith, omega arith)
+
+-- the place of the cell above
+pub place_above : (size : Extent) (c : Point) → 0 < c.y → flag_index size (point c.x (c.y - 1)) + size.width ≡ flag_index size c
+place_above size c h = (let one : c.y - 1 + 1 ≡ c.y = omega arith in row_more (c.y - 1) size.width c.x ∙ ap (λ (y : ℕ). y * size.width + c.x) one)
+  where
+    row_more : (y w x : ℕ) → y * w + x + w ≡ (y + 1) * w + x
+    row_more y w x = omega arith
 
 -- in a list of cells without marks, each counts
 pub sum_by-blank : (marks : List ℕ) → ((k : ℕ) → k < length marks → slice_index marks k ≡ far) → sum_by blank marks ≡ length marks

@@ -1,7 +1,9 @@
 -- The fields of the goals that are held.
-use Rattle.std.specs.Prelude.{◌≡◌, ◌≢◌, ℕ, ◌+◌, ◌*◌, ◌<◌, ◌↔◌, List, All, AllPairs, Contains}
+use Rattle.std.specs.Prelude.{◌≡◌, ◌≢◌, ℕ, ◌+◌, ◌*◌, ◌<◌, ◌↔◌, Option, List, All, AllPairs, Contains}
 use Rattle.grid_cells.specs.Cell.{Point}
+use Rattle.grid_cells.specs.Size.{Holds}
 use Rattle.grid_cells.specs.Grid.{Chart}
+use Rattle.grid_cells.specs.Walks.{IsDistance}
 use Rattle.grid_cells.specs.declared.sizes.TheConstants.{MOST_SIDE}
 use Rattle.goal_fields.specs.Target.{Standing}
 
@@ -17,6 +19,10 @@ HasGoal fields goal = (field : Standing) × Contains fields field × (field.goal
 -- all stand for this grid
 abbrev pub StandFor : Chart → List Standing → Type 0
 StandFor grid fields = All (λ field. field.grid ≡ grid) fields
+
+-- each cell of a field's map has a distance to its goal, which may be that there is none
+abbrev pub HaveDistances : List Standing → Type 0
+HaveDistances fields = All (λ field. (cell : Point) → Holds field.grid.size cell → (distance : Option ℕ) × IsDistance field.grid cell field.goal distance) fields
 
 -- a cell's rank in the order by row, then by column
 abbrev pub rank_of : Point → ℕ

@@ -2,7 +2,8 @@
 use Rattle.std.specs.Prelude.{◌≡◌, ℕ, ◌+◌, ◌≤◌, ◌<◌, List, length, sum_by, slice_index, slice_index_or}
 use Rattle.grid_cells.specs.Cell.{Point, IsAdjacent}
 use Rattle.grid_cells.specs.Size.{IsSize, Holds}
-use Rattle.grid_cells.specs.Grid.{Chart, IsOpen}
+use Rattle.grid_cells.specs.Grid.{Chart, IsOpen, flag_index}
+use Rattle.grid_cells.specs.declared.sizes.TheConstants.{MOST_CELLS}
 use Rattle.grid_cells.specs.Walks.{Walk, IsDistance}
 use Rattle.cell_queue.specs.Queue.{area}
 use Rattle.goal_fields.specs.declared.search.Search.{Search}
@@ -42,6 +43,19 @@ front_of s = slot s.queue.items s.goal s.head
 -- the mark of a cell in a search
 abbrev pub mark_of : Search → Point → ℕ
 mark_of s cell = mark_at s.grid.size s.marks.items cell
+
+-- the cell has at most that mark, if it is open
+abbrev pub IsReached : Search → ℕ → Point → Type 0
+IsReached s number cell = IsOpen s.grid cell → mark_of s cell ≤ number
+
+-- the neighbours of the cell whose turn it is are being marked with `number`; that cell stands at `at` in a list of all cells
+pub record IsMarking (s : Search) (front : Point) (at number : ℕ) : Type 0 where
+  pub searching : IsSearching s
+  pub at_work : s.head < s.tail
+  pub turn : front_of s ≡ front
+  pub place : at ≡ flag_index s.grid.size front
+  pub small : at < MOST_CELLS
+  pub next : number ≡ mark_of s front + 1
 
 -- the search goes on over the same map, and what it has marked stays
 pub record GoesOn (old new : Search) : Type 0 where

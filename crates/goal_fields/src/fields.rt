@@ -6,7 +6,7 @@ ghost use Rattle.goal_fields.specs.Target.{Covers, IsSound, HaveCounted};
 ghost use Rattle.goal_fields.specs.Changes.{IsRepaired};
 ghost use Rattle.goal_fields.specs.Rest.{IsRoomOn};
 ghost use Rattle.goal_fields.specs.Standings.{AreAtRest, AreRepaired};
-ghost use Rattle.goal_fields.specs.Held.{HasGoal, StandFor, RiseByGoal, SameButGoal, rank_of, IsRising};
+ghost use Rattle.goal_fields.specs.Held.{HasGoal, StandFor, HaveDistances, RiseByGoal, SameButGoal, rank_of, IsRising};
 
 use crate::distances::Distances;
 use crate::held::Held;
@@ -127,6 +127,7 @@ impl Fields {
     pub fn count(&self) -> usize
         ensures is { result ≡ length self.now.fields }
         ensures sound { All IsSound self.now.fields }
+        ensures distances { HaveDistances self.now.fields }
         ensures one_each { RiseByGoal self.now.fields }
     {
         self.fields.len()

@@ -1,11 +1,10 @@
-ghost use Rattle.std.specs.Prelude.{◌≡◌, ◌+◌, ◌≤◌, ◌<◌, IfOk, IfSome};
-ghost use Rattle.std.specs.Option.{ForSome};
-ghost use Rattle.grid_cells.specs.Cell.{IsAdjacent};
+ghost use Rattle.std.specs.Prelude.{◌≡◌, ◌+◌, ◌<◌, IfOk};
+ghost use Rattle.grid_cells.specs.Cell.{Point, point, IsAdjacent};
 ghost use Rattle.grid_cells.specs.Size.{Holds};
-ghost use Rattle.grid_cells.specs.Grid.{IsOpen};
-ghost use Rattle.goal_fields.specs.Search.{IsSearching, GoesOn, KeepsMap, HasRoom, IsBlank, IsFound, front_of, mark_of};
+ghost use Rattle.grid_cells.specs.Grid.{flag_index};
+ghost use Rattle.goal_fields.specs.Search.{IsSearching, IsMarking, IsReached, GoesOn, KeepsMap, HasRoom, IsBlank, IsFound, front_of, mark_of};
 
-use crate::places::{around, place_of};
+use crate::places::place_of;
 use grid_cells::{Cell, Grid, OutOfMemory};
 use std::alloc::Global;
 
@@ -61,24 +60,78 @@ impl Search {
         }
     }
 
-    // Marks the cell, where there is one, it is open and it has no mark yet.
-    fn mark(&mut self, cell: Option<Cell>, number: u32)
+    // Marks the cell in that column and row, which stands at that index in a list of all cells, where it
+    // is open and has no mark yet.
+    fn mark(&mut self, x: u32, y: u32, index: usize, number: u32)
         requires searching { IsSearching self.old }
         requires at_work { self.old.head < self.old.tail }
-        requires held { ForSome cell (Holds self.old.grid.size) }
-        requires adjacent { ForSome cell (IsAdjacent (front_of self.old)) }
+        requires held { Holds self.old.grid.size (point x y) }
+        requires index { index ≡ flag_index self.old.grid.size (point x y) }
+        requires adjacent { IsAdjacent (front_of self.old) (point x y) }
         requires next { number ≡ mark_of self.old (front_of self.old) + 1 }
         ensures searching { IsSearching self.new }
         ensures goes_on { GoesOn self.old self.new }
-        ensures reached { IfSome cell (λ c. IsOpen self.new.grid c → mark_of self.new c ≤ number) }
+        ensures reached { IsReached self.new number (point x y) }
     {
-        if let Some(cell) = cell {
-            let index = place_of(&self.grid, cell);
-            if self.marks[index] == FAR && self.grid.is_open(cell) {
+        if self.marks[index] != FAR {
+            return;
+        }
+        if let Some(cell) = self.grid.size().cell(x, y) {
+            if self.grid.is_open(cell) {
                 self.marks[index] = number;
                 self.queue[self.tail] = cell;
                 self.tail += 1;
             }
+        }
+    }
+
+    // Marks the cell above, if there is one.
+    fn mark_up(&mut self, front: Cell, at: usize, number: u32)
+        requires { IsMarking self.old front at number }
+        ensures marking { IsMarking self.new front at number }
+        ensures goes_on { GoesOn self.old self.new }
+        ensures reached { (c : Point) → c.x ≡ front.x → c.y + 1 ≡ front.y → IsReached self.new number c }
+    {
+        let row = self.grid.size().width() as usize;
+        if front.y() > 0 {
+            self.mark(front.x(), front.y() - 1, at - row, number);
+        }
+    }
+
+    // Marks the cell at the left, if there is one.
+    fn mark_left(&mut self, front: Cell, at: usize, number: u32)
+        requires { IsMarking self.old front at number }
+        ensures marking { IsMarking self.new front at number }
+        ensures goes_on { GoesOn self.old self.new }
+        ensures reached { (c : Point) → c.x + 1 ≡ front.x → c.y ≡ front.y → IsReached self.new number c }
+    {
+        if front.x() > 0 {
+            self.mark(front.x() - 1, front.y(), at - 1, number);
+        }
+    }
+
+    // Marks the cell at the right, if there is one.
+    fn mark_right(&mut self, front: Cell, at: usize, number: u32)
+        requires { IsMarking self.old front at number }
+        ensures marking { IsMarking self.new front at number }
+        ensures goes_on { GoesOn self.old self.new }
+        ensures reached { (c : Point) → c.x ≡ front.x + 1 → c.y ≡ front.y → IsReached self.new number c }
+    {
+        if front.x() + 1 < self.grid.size().width() {
+            self.mark(front.x() + 1, front.y(), at + 1, number);
+        }
+    }
+
+    // Marks the cell below, if there is one.
+    fn mark_down(&mut self, front: Cell, at: usize, number: u32)
+        requires { IsMarking self.old front at number }
+        ensures marking { IsMarking self.new front at number }
+        ensures goes_on { GoesOn self.old self.new }
+        ensures reached { (c : Point) → c.x ≡ front.x → c.y ≡ front.y + 1 → IsReached self.new number c }
+    {
+        let size = self.grid.size();
+        if front.y() + 1 < size.height() {
+            self.mark(front.x(), front.y() + 1, at + size.width() as usize, number);
         }
     }
 
@@ -91,12 +144,12 @@ impl Search {
         ensures done { self.new.head ≡ self.old.head + 1 }
     {
         let front = self.queue[self.head];
-        let number = self.marks[place_of(&self.grid, front)] + 1;
-        let [up, left, right, down] = around(&self.grid, front);
-        self.mark(up, number);
-        self.mark(left, number);
-        self.mark(right, number);
-        self.mark(down, number);
+        let at = place_of(&self.grid, front);
+        let number = self.marks[at] + 1;
+        self.mark_up(front, at, number);
+        self.mark_left(front, at, number);
+        self.mark_right(front, at, number);
+        self.mark_down(front, at, number);
         self.head += 1;
     }
 

@@ -7,5 +7,5 @@ use Rattle.cell_queue.proofs.heaps.Heap.new.Goals as goal
 
 pub returns-clause-empty : goal.returns-clause-empty
 returns-clause-empty c =
-    let places : c.in_ok-vec-3.field-0.items ≡ replicate (area c.args.size) nowhere = rw (← c.width.ensures.is, ← c.height.ensures.is) (c.in_ok-vec-3.ensures.items_if_clones_equal (λ y e. e)) in
-    rw places (keys_of-empty c.in_ok-vec-2.field-0.items (area c.args.size))
+    let places : c.in_ok-vec.field-0.items ≡ replicate (area c.args.size) nowhere = rw (← c.width.ensures.is, ← c.height.ensures.is) (c.in_ok-vec.ensures.items_if_clones_equal (λ y e. e)) in
+    rw places (keys_of-empty _ (area c.args.size))

@@ -7,26 +7,26 @@ use Rattle.cell_queue.specs.Heap.{keys_of}
 use Rattle.cell_queue.proofs.HeapKeys.{room_left, IsSynced-grow, keys_of-grow, keys_of-change}
 use Rattle.cell_queue.proofs.heaps.Heap.put.Goals as goal
 
-pub index_mut-requires-else-place-self : goal.index_mut-requires-else-place-self
-index_mut-requires-else-place-self c =
+pub lay-requires-clause-room : goal.lay-requires-clause-room
+lay-requires-clause-room c =
     let n_in : c.index-index.result < length c.args.self.now.places.items = omega (arith, c.requires.heap.synced.one_place_each, c.index-index.ensures.bound) in
     let place : c.index.result.now ≡ slice_index c.args.self.now.places.items c.index-index.result = get_or_read c.args.self.now.places.items c.index-index.result c.index.result.now n_in c.index.ensures 0 in
     let out : c.args.self.now.len ≤ slice_index c.args.self.now.places.items c.index-index.result = omega (arith, place, c.if-place-self.false) in
-    omega (arith, room_left c.args.self.now.size c.args.self.now.cells.items c.args.self.now.keys.items c.args.self.now.places.items c.args.self.now.len c.index-index.result c.requires.heap.synced c.index-index.ensures.bound out, c.requires.heap.synced.one_cell_each)
+    omega (arith, room_left c.args.self.now.size c.args.self.now.cells.items c.args.self.now.keys.items c.args.self.now.places.items c.args.self.now.len c.index-index.result c.requires.heap.synced c.index-index.ensures.bound out, c.requires.heap.room.cells)
 
-pub index_mut-requires-else-place-self-2 : goal.index_mut-requires-else-place-self-2
-index_mut-requires-else-place-self-2 c =
+pub lay-requires-else-place-self-clause-room : goal.lay-requires-else-place-self-clause-room
+lay-requires-else-place-self-clause-room c =
     let n_in : c.index-index.result < length c.args.self.now.places.items = omega (arith, c.requires.heap.synced.one_place_each, c.index-index.ensures.bound) in
     let place : c.index.result.now ≡ slice_index c.args.self.now.places.items c.index-index.result = get_or_read c.args.self.now.places.items c.index-index.result c.index.result.now n_in c.index.ensures 0 in
     let out : c.args.self.now.len ≤ slice_index c.args.self.now.places.items c.index-index.result = omega (arith, place, c.if-place-self.false) in
-    omega (arith, room_left c.args.self.now.size c.args.self.now.cells.items c.args.self.now.keys.items c.args.self.now.places.items c.args.self.now.len c.index-index.result c.requires.heap.synced c.index-index.ensures.bound out, c.requires.heap.synced.one_key_each)
+    omega (arith, room_left c.args.self.now.size c.args.self.now.cells.items c.args.self.now.keys.items c.args.self.now.places.items c.args.self.now.len c.index-index.result c.requires.heap.synced c.index-index.ensures.bound out, c.requires.heap.room.keys)
 
 pub rise-requires-clause-synced : goal.rise-requires-clause-synced
 rise-requires-clause-synced c =
     let n_in : c.index-index.result < length c.args.self.now.places.items = omega (arith, c.requires.heap.synced.one_place_each, c.index-index.ensures.bound) in
     let place : c.index.result.now ≡ slice_index c.args.self.now.places.items c.index-index.result = get_or_read c.args.self.now.places.items c.index-index.result c.index.result.now n_in c.index.ensures 0 in
     let out : c.args.self.now.len ≤ slice_index c.args.self.now.places.items c.index-index.result = omega (arith, place, c.if-place-self.false) in
-    IsSynced-grow c.args.self.now.size c.args.self.now.cells.items c.args.self.now.keys.items c.args.self.now.places.items c.args.self.now.len c.index-index.result c.args.key c.args.cell c.requires.heap.synced c.requires.held c.index-index.ensures.is out
+    IsSynced-grow c.args.self.now.size c.args.self.now.cells.items c.lay.new.list.items c.args.self.now.keys.items c.lay-else-place-self.new.list.items c.args.self.now.places.items c.args.self.now.len c.index-index.result c.args.key c.args.cell c.requires.heap.synced c.requires.held c.index-index.ensures.is out c.lay.ensures.laid c.lay-else-place-self.ensures.laid
 
 pub returns-then-place-self-clause-keys : goal.returns-then-place-self-clause-keys
 returns-then-place-self-clause-keys c =
@@ -42,6 +42,6 @@ returns-else-place-self-clause-keys c =
     let n_in : c.index-index.result < length c.args.self.now.places.items = omega (arith, c.requires.heap.synced.one_place_each, c.index-index.ensures.bound) in
     let place : c.index.result.now ≡ slice_index c.args.self.now.places.items c.index-index.result = get_or_read c.args.self.now.places.items c.index-index.result c.index.result.now n_in c.index.ensures 0 in
     let out : c.args.self.now.len ≤ slice_index c.args.self.now.places.items c.index-index.result = omega (arith, place, c.if-place-self.false) in
-    let changed : keys_of (set c.args.self.now.places.items c.index-index.result c.args.self.now.len) (set c.args.self.now.keys.items c.args.self.now.len c.args.key) (c.args.self.now.len + 1) ≡ set (keys_of c.args.self.now.places.items c.args.self.now.keys.items c.args.self.now.len) (flag_index c.args.self.now.size c.args.cell) (Some c.args.key) =
-    rw (← c.index-index.ensures.is) (keys_of-grow c.args.self.now.size c.args.self.now.cells.items c.args.self.now.keys.items c.args.self.now.places.items c.args.self.now.len c.index-index.result c.args.key c.requires.heap.synced c.index-index.ensures.bound out) in
+    let changed : keys_of (set c.args.self.now.places.items c.index-index.result c.args.self.now.len) c.lay-else-place-self.new.list.items (c.args.self.now.len + 1) ≡ set (keys_of c.args.self.now.places.items c.args.self.now.keys.items c.args.self.now.len) (flag_index c.args.self.now.size c.args.cell) (Some c.args.key) =
+    rw (← c.index-index.ensures.is) (keys_of-grow c.args.self.now.size c.args.self.now.cells.items c.args.self.now.keys.items c.lay-else-place-self.new.list.items c.args.self.now.places.items c.args.self.now.len c.index-index.result c.args.key c.requires.heap.synced c.index-index.ensures.bound out c.lay-else-place-self.ensures.laid) in
     c.rise.ensures.shuffled.keys ∙ changed

@@ -14,7 +14,7 @@ use Rattle.cell_queue.proofs.heaps.Heap.remove_at.Goals as goal
 pub returns-then-place-last-clause-keys : goal.returns-then-place-last-clause-keys
 returns-then-place-last-clause-keys c =
     let one : c.swap.new.self.len ≡ (c.args.self.now.len - 1) + 1 = omega (arith, c.swap.ensures.shuffled.len, c.requires.place) in
-    let last_in : c.args.self.now.len - 1 < length c.swap.new.self.cells.items = omega (arith, c.swap.ensures.synced.one_cell_each, c.swap.ensures.synced.within) in
+    let last_in : c.args.self.now.len - 1 < length c.swap.new.self.cells.items = omega (arith, c.swap.ensures.synced.cells_far, c.swap.ensures.synced.within) in
     let cell : c.index.result.now ≡ cell_in c.swap.new.self.cells.items (c.args.self.now.len - 1) = get_or_read c.swap.new.self.cells.items (c.args.self.now.len - 1) c.index.result.now last_in c.index.ensures (record { x = 0; y = 0 }) in
     let n : c.index-index.result ≡ number_in c.swap.new.self.size c.swap.new.self.cells.items (c.args.self.now.len - 1) = c.index-index.ensures.is ∙ ap (λ (v : Point). flag_index c.swap.new.self.size v) cell in
     let synced : IsSynced c.swap.new.self.size c.swap.new.self.cells.items c.swap.new.self.keys.items (set c.swap.new.self.places.items c.index-index.result nowhere) (c.args.self.now.len - 1) = IsSynced-shrink c.swap.new.self.size c.swap.new.self.cells.items c.swap.new.self.keys.items c.swap.new.self.places.items c.swap.new.self.len (c.args.self.now.len - 1) c.index-index.result c.swap.ensures.synced one n in
@@ -27,7 +27,7 @@ returns-then-place-last-clause-keys c =
 pub returns-else-place-last-clause-heap : goal.returns-else-place-last-clause-heap
 returns-else-place-last-clause-heap c =
     let one : c.swap.new.self.len ≡ (c.args.self.now.len - 1) + 1 = omega (arith, c.swap.ensures.shuffled.len, c.requires.place) in
-    let last_in : c.args.self.now.len - 1 < length c.swap.new.self.cells.items = omega (arith, c.swap.ensures.synced.one_cell_each, c.swap.ensures.synced.within) in
+    let last_in : c.args.self.now.len - 1 < length c.swap.new.self.cells.items = omega (arith, c.swap.ensures.synced.cells_far, c.swap.ensures.synced.within) in
     let cell : c.index.result.now ≡ cell_in c.swap.new.self.cells.items (c.args.self.now.len - 1) = get_or_read c.swap.new.self.cells.items (c.args.self.now.len - 1) c.index.result.now last_in c.index.ensures (record { x = 0; y = 0 }) in
     let n : c.index-index.result ≡ number_in c.swap.new.self.size c.swap.new.self.cells.items (c.args.self.now.len - 1) = c.index-index.ensures.is ∙ ap (λ (v : Point). flag_index c.swap.new.self.size v) cell in
     let synced : IsSynced c.swap.new.self.size c.swap.new.self.cells.items c.swap.new.self.keys.items (set c.swap.new.self.places.items c.index-index.result nowhere) (c.args.self.now.len - 1) = IsSynced-shrink c.swap.new.self.size c.swap.new.self.cells.items c.swap.new.self.keys.items c.swap.new.self.places.items c.swap.new.self.len (c.args.self.now.len - 1) c.index-index.result c.swap.ensures.synced one n in
@@ -37,9 +37,10 @@ returns-else-place-last-clause-heap c =
     rw (← c.swap.ensures.moved, ← n, ← c.swap.ensures.shuffled.keys) shrunk in
     record {
       synced = synced;
+      room = (let kept = c.swap.ensures.room c.requires.heap.room in record { cells = kept.cells; keys = kept.keys });
       ordered = λ p ch child lt.
           (let x : IsExchange (λ v. slice_index c.args.self.now.keys.items v) (λ v. slice_index (set (set c.args.self.now.keys.items c.args.place (slice_index c.args.self.now.keys.items (c.args.self.now.len - 1))) (c.args.self.now.len - 1) (slice_index c.args.self.now.keys.items c.args.place)) v) c.args.place (c.args.self.now.len - 1) =
-          exchanged c.args.self.now.keys.items c.args.place (c.args.self.now.len - 1) (omega (arith, c.requires.heap.synced.one_key_each, c.requires.heap.synced.within, c.requires.place)) (omega (arith, c.requires.heap.synced.one_key_each, c.requires.heap.synced.within, c.requires.place)) in
+          exchanged c.args.self.now.keys.items c.args.place (c.args.self.now.len - 1) (omega (arith, c.requires.heap.synced.keys_far, c.requires.heap.synced.within, c.requires.place)) (omega (arith, c.requires.heap.synced.keys_far, c.requires.heap.synced.within, c.requires.place)) in
           let lc : ch < c.args.self.now.len - 1 = lt in
           let lp : p < ch = omega (arith, child.0) in
           let p1 : p ≢ c.args.place = omega (arith, c.if-place-last.false) in
@@ -53,7 +54,7 @@ returns-else-place-last-clause-heap c =
 pub returns-else-place-last-clause-keys : goal.returns-else-place-last-clause-keys
 returns-else-place-last-clause-keys c =
     let one : c.swap.new.self.len ≡ (c.args.self.now.len - 1) + 1 = omega (arith, c.swap.ensures.shuffled.len, c.requires.place) in
-    let last_in : c.args.self.now.len - 1 < length c.swap.new.self.cells.items = omega (arith, c.swap.ensures.synced.one_cell_each, c.swap.ensures.synced.within) in
+    let last_in : c.args.self.now.len - 1 < length c.swap.new.self.cells.items = omega (arith, c.swap.ensures.synced.cells_far, c.swap.ensures.synced.within) in
     let cell : c.index.result.now ≡ cell_in c.swap.new.self.cells.items (c.args.self.now.len - 1) = get_or_read c.swap.new.self.cells.items (c.args.self.now.len - 1) c.index.result.now last_in c.index.ensures (record { x = 0; y = 0 }) in
     let n : c.index-index.result ≡ number_in c.swap.new.self.size c.swap.new.self.cells.items (c.args.self.now.len - 1) = c.index-index.ensures.is ∙ ap (λ (v : Point). flag_index c.swap.new.self.size v) cell in
     let synced : IsSynced c.swap.new.self.size c.swap.new.self.cells.items c.swap.new.self.keys.items (set c.swap.new.self.places.items c.index-index.result nowhere) (c.args.self.now.len - 1) = IsSynced-shrink c.swap.new.self.size c.swap.new.self.cells.items c.swap.new.self.keys.items c.swap.new.self.places.items c.swap.new.self.len (c.args.self.now.len - 1) c.index-index.result c.swap.ensures.synced one n in

@@ -1,5 +1,5 @@
 use Rattle.std.proofs.Common.{◌<◌}
-use Rattle.cell_queue.specs.Heap.{IsSyncedHeap, IsShuffled, IsLooseUp}
+use Rattle.cell_queue.specs.Heap.{IsSyncedHeap, HasRoom, IsShuffled, IsLooseUp}
 use Rattle.cell_queue.proofs.heaps.Heap.rise.Given as goal
 
 abbrev pub invariant-loop-at : goal.invariant-loop-at
@@ -7,6 +7,7 @@ invariant-loop-at l =
     record {
       synced : IsSyncedHeap l.self;
       shuffled : IsShuffled l.fn.self l.self;
+      room : HasRoom l.self;
       at : l.at < l.self.len;
       loose : IsLooseUp l.self.keys.items l.self.len l.at;
     }

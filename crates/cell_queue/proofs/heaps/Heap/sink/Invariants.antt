@@ -1,5 +1,5 @@
 use Rattle.std.proofs.Common.{◌<◌, ◌-◌}
-use Rattle.cell_queue.specs.Heap.{IsSyncedHeap, IsShuffled, IsLooseDown}
+use Rattle.cell_queue.specs.Heap.{IsSyncedHeap, HasRoom, IsShuffled, IsLooseDown}
 use Rattle.cell_queue.proofs.heaps.Heap.sink.Given as goal
 
 abbrev pub invariant-loop-at : goal.invariant-loop-at
@@ -7,6 +7,7 @@ invariant-loop-at l =
     record {
       synced : IsSyncedHeap l.self;
       shuffled : IsShuffled l.fn.self l.self;
+      room : HasRoom l.self;
       at : l.at < l.self.len;
       loose : IsLooseDown l.self.keys.items l.self.len l.at;
     }

@@ -13,10 +13,10 @@ use Rattle.cell_queue.proofs.heaps.Heap.swap.Goals as goal
 pub returns-clause-synced : goal.returns-clause-synced
 returns-clause-synced c =
     let n : c.args.self.now.len ≤ area c.args.self.now.size = c.requires.synced.within in
-    let ci_in : c.args.i < length c.args.self.now.cells.items = omega (arith, c.requires.synced.one_cell_each, c.requires.synced.within, c.requires.first) in
-    let cj_in : c.args.j < length c.args.self.now.cells.items = omega (arith, c.requires.synced.one_cell_each, c.requires.synced.within, c.requires.second) in
-    let ki_in : c.args.i < length c.args.self.now.keys.items = omega (arith, c.requires.synced.one_key_each, c.requires.synced.within, c.requires.first) in
-    let kj_in : c.args.j < length c.args.self.now.keys.items = omega (arith, c.requires.synced.one_key_each, c.requires.synced.within, c.requires.second) in
+    let ci_in : c.args.i < length c.args.self.now.cells.items = omega (arith, c.requires.synced.cells_far, c.requires.synced.within, c.requires.first) in
+    let cj_in : c.args.j < length c.args.self.now.cells.items = omega (arith, c.requires.synced.cells_far, c.requires.synced.within, c.requires.second) in
+    let ki_in : c.args.i < length c.args.self.now.keys.items = omega (arith, c.requires.synced.keys_far, c.requires.synced.within, c.requires.first) in
+    let kj_in : c.args.j < length c.args.self.now.keys.items = omega (arith, c.requires.synced.keys_far, c.requires.synced.within, c.requires.second) in
     let e1 : c.index.result.now ≡ cell_in c.args.self.now.cells.items c.args.i = get_or_read c.args.self.now.cells.items c.args.i c.index.result.now ci_in c.index.ensures (record { x = 0; y = 0 }) in
     let e2 : c.index-2.result.now ≡ cell_in c.args.self.now.cells.items c.args.j = get_or_read c.args.self.now.cells.items c.args.j c.index-2.result.now cj_in c.index-2.ensures (record { x = 0; y = 0 }) in
     let e3 : c.index-3.result.now ≡ slice_index c.args.self.now.keys.items c.args.i = get_or_read c.args.self.now.keys.items c.args.i c.index-3.result.now ki_in c.index-3.ensures 0 in
@@ -33,10 +33,10 @@ returns-clause-synced c =
 pub returns-clause-shuffled : goal.returns-clause-shuffled
 returns-clause-shuffled c =
     let n : c.args.self.now.len ≤ area c.args.self.now.size = c.requires.synced.within in
-    let ci_in : c.args.i < length c.args.self.now.cells.items = omega (arith, c.requires.synced.one_cell_each, c.requires.synced.within, c.requires.first) in
-    let cj_in : c.args.j < length c.args.self.now.cells.items = omega (arith, c.requires.synced.one_cell_each, c.requires.synced.within, c.requires.second) in
-    let ki_in : c.args.i < length c.args.self.now.keys.items = omega (arith, c.requires.synced.one_key_each, c.requires.synced.within, c.requires.first) in
-    let kj_in : c.args.j < length c.args.self.now.keys.items = omega (arith, c.requires.synced.one_key_each, c.requires.synced.within, c.requires.second) in
+    let ci_in : c.args.i < length c.args.self.now.cells.items = omega (arith, c.requires.synced.cells_far, c.requires.synced.within, c.requires.first) in
+    let cj_in : c.args.j < length c.args.self.now.cells.items = omega (arith, c.requires.synced.cells_far, c.requires.synced.within, c.requires.second) in
+    let ki_in : c.args.i < length c.args.self.now.keys.items = omega (arith, c.requires.synced.keys_far, c.requires.synced.within, c.requires.first) in
+    let kj_in : c.args.j < length c.args.self.now.keys.items = omega (arith, c.requires.synced.keys_far, c.requires.synced.within, c.requires.second) in
     let e1 : c.index.result.now ≡ cell_in c.args.self.now.cells.items c.args.i = get_or_read c.args.self.now.cells.items c.args.i c.index.result.now ci_in c.index.ensures (record { x = 0; y = 0 }) in
     let e2 : c.index-2.result.now ≡ cell_in c.args.self.now.cells.items c.args.j = get_or_read c.args.self.now.cells.items c.args.j c.index-2.result.now cj_in c.index-2.ensures (record { x = 0; y = 0 }) in
     let e3 : c.index-3.result.now ≡ slice_index c.args.self.now.keys.items c.args.i = get_or_read c.args.self.now.keys.items c.args.i c.index-3.result.now ki_in c.index-3.ensures 0 in

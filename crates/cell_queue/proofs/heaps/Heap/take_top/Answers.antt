@@ -15,12 +15,12 @@ returns-then-self-eq0-clause-none c cell held =
 pub returns-clause-found : goal.returns-clause-found
 returns-clause-found c =
     let some : 0 < c.args.self.now.len = omega (arith, c.if-self-eq0.false) in
-    let cell : c.index.result.now ≡ cell_in c.args.self.now.cells.items 0 = get_or_read c.args.self.now.cells.items 0 c.index.result.now (omega (arith, c.requires.synced.one_cell_each, c.requires.synced.within)) c.index.ensures (record { x = 0; y = 0 }) in
-    let key : c.index-2.result.now ≡ slice_index c.args.self.now.keys.items 0 = get_or_read c.args.self.now.keys.items 0 c.index-2.result.now (omega (arith, c.requires.synced.one_key_each, c.requires.synced.within)) c.index-2.ensures 0 in
+    let cell : c.index.result.now ≡ cell_in c.args.self.now.cells.items 0 = get_or_read c.args.self.now.cells.items 0 c.index.result.now (omega (arith, c.requires.synced.cells_far, c.requires.synced.within)) c.index.ensures (record { x = 0; y = 0 }) in
+    let key : c.index-2.result.now ≡ slice_index c.args.self.now.keys.items 0 = get_or_read c.args.self.now.keys.items 0 c.index-2.result.now (omega (arith, c.requires.synced.keys_far, c.requires.synced.within)) c.index-2.ensures 0 in
     rw (cell, key) (top_found c.args.self.now.size c.args.self.now.cells.items c.args.self.now.keys.items c.args.self.now.places.items c.args.self.now.len c.requires.synced some)
 
 pub returns-clause-least : goal.returns-clause-least
 returns-clause-least c cell other held e =
     let some : 0 < c.args.self.now.len = omega (arith, c.if-self-eq0.false) in
-    let key : c.index-2.result.now ≡ slice_index c.args.self.now.keys.items 0 = get_or_read c.args.self.now.keys.items 0 c.index-2.result.now (omega (arith, c.requires.synced.one_key_each, c.requires.synced.within)) c.index-2.ensures 0 in
+    let key : c.index-2.result.now ≡ slice_index c.args.self.now.keys.items 0 = get_or_read c.args.self.now.keys.items 0 c.index-2.result.now (omega (arith, c.requires.synced.keys_far, c.requires.synced.within)) c.index-2.ensures 0 in
     omega (arith, key, top_least c.args.self.now.size c.args.self.now.cells.items c.args.self.now.keys.items c.args.self.now.places.items c.args.self.now.len (flag_index c.args.self.now.size cell) other c.requires.synced c.requires.ordered (index_below c.args.self.now.size cell held) e)
