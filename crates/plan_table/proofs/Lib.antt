@@ -3,3 +3,4 @@ pub mod Rows
 pub mod Order
 pub mod Fleets
 pub mod OneTable
+pub mod Fronts

@@ -1,5 +1,5 @@
-ghost use Rattle.std.specs.Prelude.{◌≡◌, ◌<◌, ◌≤◌, ◌-◌, ◌↔◌, Some, IfOk, IfErr, IfSome, OnOk, IfNone, IsTrue};
-ghost use Rattle.plan_table.specs.Path.{place, last_index, IsWalkable, IsPath, IsPathOf, EndsInWait};
+ghost use Rattle.std.specs.Prelude.{◌≡◌, ◌<◌, ◌≤◌, ◌-◌, ◌↔◌, Some, IfOk, IfErr, IfSome, OnOk, IfNone, IsTrue, length};
+ghost use Rattle.plan_table.specs.Path.{place, last_index, AllStepsBelow, IsWalkable, IsPath, IsPathOf, IsSameFront, EndsInWait};
 ghost use Rattle.plan_table.specs.PlanFault.{Explains};
 
 use grid_cells::{Cell, OutOfMemory, Step};
@@ -47,7 +47,22 @@ impl Plan {
         ensures fault { IfErr result (λ e. Explains cells.items e.0) }
         ensures handed_back { IfErr result (λ e. e.1.items ≡ cells.items) }
     {
-        match fault_in(&cells) {
+        Plan::with_known_steps(cells, 0)
+    }
+
+    /// The path of the cells, as `new` makes it, without a look at the steps to the first `known` cells.
+    ///
+    /// # Errors
+    ///
+    /// The first fault of the cells, and the cells as they were handed in.
+    pub fn with_known_steps(cells: Vec<Cell>, known: u32) -> Result<Plan, (PlanFault, Vec<Cell>)>
+        requires { AllStepsBelow cells.items known }
+        ensures walkable { OnOk result (IsWalkable cells.items) }
+        ensures path { IfOk result (λ plan. IsPathOf cells.items plan) }
+        ensures fault { IfErr result (λ e. Explains cells.items e.0) }
+        ensures handed_back { IfErr result (λ e. e.1.items ≡ cells.items) }
+    {
+        match fault_in(&cells, known) {
             Some(fault) => Err((fault, cells)),
             None => Ok(Plan {
                 cells: without_waits(cells),
@@ -81,6 +96,13 @@ impl Plan {
         &self.cells
     }
 
+    /// How many cells the two paths begin with alike.
+    pub fn same_front(&self, other: &Plan) -> u32
+        ensures { IsSameFront self.now other.now result }
+    {
+        same_front(&self.cells, &other.cells) as u32
+    }
+
     /// An equal plan.
     pub fn copy(&self) -> Result<Plan, OutOfMemory>
         ensures { IfOk result (λ plan. plan ≡ self.now) }
@@ -91,8 +113,9 @@ impl Plan {
     }
 }
 
-// The first fault of the cells, if they have one.
-fn fault_in(cells: &[Cell]) -> Option<PlanFault>
+// The first fault of the cells, if they have one, where the steps to the first `known` are known.
+fn fault_in(cells: &[Cell], known: u32) -> Option<PlanFault>
+    requires { AllStepsBelow cells.now known }
     ensures fault { IfSome result (Explains cells.now) }
     ensures none { IfNone result (IsWalkable cells.now) }
 {
@@ -102,7 +125,7 @@ fn fault_in(cells: &[Cell]) -> Option<PlanFault>
     if cells.len() - 1 > MOST_LAST_INDEX as usize {
         return Some(PlanFault::TooLong);
     }
-    for at in 1..cells.len() {
+    for at in (known as usize).max(1)..cells.len() {
         if !cells[at - 1].is_step_to(cells[at]) {
             return Some(PlanFault::NotAStep { at: at as u32 });
         }
@@ -129,4 +152,32 @@ fn ends_in_wait(cells: &[Cell]) -> bool
         [.., before, last] => before == last,
         _ => false,
     }
+}
+
+// How many cells the two lists begin with alike. Thirty-two are compared at once.
+fn same_front(one: &[Cell], other: &[Cell]) -> usize
+    ensures { IsSameFront one.now other.now result }
+{
+    let end = one.len().min(other.len());
+    let mut front = 0;
+    while front + 32 <= end && are_same(&one[front..front + 32], &other[front..front + 32]) {
+        front += 32;
+    }
+    while front < end && one[front] == other[front] {
+        front += 1;
+    }
+    front
+}
+
+// Whether the two lists are the same. Each cell is read, so that the compiler may compare many at once.
+fn are_same(one: &[Cell], other: &[Cell]) -> bool
+    requires { length one.now ≡ length other.now }
+    ensures { IsTrue result ↔ (one.now ≡ other.now) }
+{
+    let mut same = true;
+    for at in 0..one.len() {
+        let (left, right) = (one[at], other[at]);
+        same &= left == right;
+    }
+    same
 }

@@ -1,0 +1,30 @@
+use Rattle.std.proofs.Common.{◌≡◌, ◌+◌, ◌-◌, Some, refl, arith}
+use Rattle.std.proofs.Math.Seq.{take-add}
+use Rattle.std.proofs.lemmas.Option.{slice_get_read}
+use Rattle.std.proofs.lemmas.Bool.Decides.{nat_tests}
+use Rattle.std.specs.List.{slice_get, slice_range}
+use Rattle.plan_table.proofs.paths.same_front.Goals as goal
+
+pub loop-front-preserved : goal.loop-front-preserved
+loop-front-preserved c =
+    let front = c.loop-front.front in
+    let block : front + 32 - front ≡ 32 = omega arith in
+    let alike : slice_range c.args.one.now front (front + 32) ≡ slice_range c.args.other.now front (front + 32) = c.if-are_same.ensures.0 refl in
+    record {
+      within = omega arith;
+      same = rw (take-add front 32 c.args.one.now, take-add front 32 c.args.other.now, c.loop-front.invariant.same, rw block at alike);
+    }
+
+pub returns-else-eq : goal.returns-else-eq
+returns-else-eq c = record {
+  one_within = omega arith;
+  other_within = omega arith;
+  same = c.loop-front-2.invariant.same;
+  apart = λ in_one in_other alike.
+      let left : slice_get c.args.one.now c.loop-front-2.front ≡ Some c.index-one-front.result = slice_get_read _ _ _ _ refl in_one c.index-one-front.is in
+      let right : slice_get c.args.other.now c.loop-front-2.front ≡ Some c.index-other-front.result = slice_get_read _ _ _ _ refl in_other c.index-other-front.is in
+      let same : c.index-one-front.result ≡ c.index-other-front.result = cc in
+      let columns : c.index-one-front.result.x ≡ c.index-other-front.result.x = cc in
+      let rows : c.index-one-front.result.y ≡ c.index-other-front.result.y = cc in
+      grind (arith, nat_tests);
+}
