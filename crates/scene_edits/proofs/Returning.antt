@@ -1,9 +1,8 @@
 -- Edits in order: what they keep, and that their changes, taken back, give the scene before them.
-use Rattle.std.proofs.Common.{◌≡◌, Ok, List, [], ◌∷◌, refl, sym, ap, subst, ◌∙◌}
+use Rattle.std.proofs.Common.{◌≡◌, List, [], ◌∷◌, refl, sym, ap, subst, ◌∙◌}
 use Rattle.scene_edits.specs.Scene.{SceneState, IsScene}
 use Rattle.scene_edits.specs.Edited.{edited}
 use Rattle.scene_edits.specs.Undone.{undone, undone_all, IsUndoable, AreUndoable}
-use Rattle.scene_edits.specs.Answers.{AllApplied}
 use Rattle.scene_edits.specs.Laws.{AllEditsKeepScenes, EditsKeepSize, ChangesGoBack}
 use Rattle.scene_edits.specs.declared.edits.Edit.{Edit}
 use Rattle.scene_edits.specs.declared.edits.Edit.TheVariants.{Add, Drop, Goal, Path, Tail, Open, Close}
@@ -40,9 +39,3 @@ changes_go_back_holds scene (edit ∷ later) (change ∷ changes) is_scene allow
     let (ready, same) = changes_go_back_holds (edited scene edit) later changes kept allowed.1 are.1 in
     let back = goes_back scene edit change is_scene allowed.0 are.0 in
     ((ready, subst (λ s. IsUndoable s change) (sym same) back.ready), ap (λ s. undone s change) same ∙ back.back)
-
--- edits that were applied can be taken back
-pub applied_goes_back : (old new : SceneState) (edits : List Edit) (changes : List Change) → IsScene old → AllApplied old edits (Ok changes) new → AreUndoable new changes × (undone_all new changes ≡ old)
-applied_goes_back old new edits changes is_scene (allowed, are, is) =
-    let (ready, same) = changes_go_back_holds old edits changes is_scene allowed are in
-    (subst (λ s. AreUndoable s changes) (sym is) ready, ap (λ s. undone_all s changes) is ∙ same)

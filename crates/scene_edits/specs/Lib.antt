@@ -10,4 +10,3 @@ pub mod Board
 pub mod Undone
 pub mod Tasks
 pub mod Laws
-pub mod Following

@@ -12,7 +12,7 @@ pub fn first_difference(before: Track, after: Track) -> Option<u32>
 {
     // Both rest, or are gone, one step after the later of their last indices.
     let end = before.plan.last().max(after.plan.last()) + 2;
-    for time in 0..end {
+    for time in before.plan.same_front(after.plan)..end {
         if position_at(before, time) != position_at(after, time) {
             return Some(time);
         }

@@ -7,7 +7,6 @@ mod cell_edits;
 mod changes;
 mod differences;
 mod edits;
-mod followers;
 mod in_order;
 mod laws;
 mod path_edits;
@@ -19,7 +18,6 @@ mod undoing;
 pub use changes::{Change, Thing};
 pub use differences::first_difference;
 pub use edits::{ApplyFault, Edit, EditFault, EditsFault};
-pub use followers::Follower;
 pub use laws::{
     all_edits_keep_scenes, changes_go_back, edits_keep_scenes, edits_keep_size, one_answer,
     one_answer_to_all, one_change, one_fault_or_none, one_path,

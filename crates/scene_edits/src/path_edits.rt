@@ -1,4 +1,5 @@
 ghost use Rattle.std.specs.Prelude.{◌≡◌, ◌<◌, ◌++◌, IfOk, IfErr, OnErr, IsTrue, ◌↔◌, length, slice_get};
+ghost use Rattle.plan_table.specs.Path.{AllStepsBelow};
 ghost use Rattle.scene_edits.specs.Scene.{IsLive};
 ghost use Rattle.scene_edits.specs.Edited.{with_changed};
 ghost use Rattle.scene_edits.specs.Faults.{◌otherwise◌, too_long, jump};
@@ -32,7 +33,7 @@ impl Board {
             return Err(ApplyFault::Fault(EditFault::NotFromStart));
         }
         let cells = joined(self.alloc, &[], cells)?;
-        match self.follow(agent, cells) {
+        match self.follow(agent, cells, 0) {
             Ok(change) => Ok(change),
             Err(fault) => Err(ApplyFault::Fault(fault)),
         }
@@ -58,22 +59,23 @@ impl Board {
         }
         let front = &row.plan.cells()[..from.number() as usize + 1];
         let cells = joined(self.alloc, front, cells)?;
-        match self.follow(agent, cells) {
+        match self.follow(agent, cells, from.number() + 1) {
             Ok(change) => Ok(change),
             Err(fault) => Err(ApplyFault::Fault(fault)),
         }
     }
 
-    // Gives a live agent the path of the cells.
-    fn follow(&mut self, agent: Agent, cells: Vec<Cell>) -> Result<Change, EditFault>
+    // Gives a live agent the path of the cells, of which the steps to the first `known` are known.
+    fn follow(&mut self, agent: Agent, cells: Vec<Cell>, known: u32) -> Result<Change, EditFault>
         requires live { IsLive (scene_of self.old) agent }
         requires some { 0 < length cells.items }
+        requires steps { AllStepsBelow cells.items known }
         ensures follows { IfOk result (λ change. Follows (scene_of self.old) agent cells.items change (scene_of self.new)) }
         ensures fault { IfErr result (too_long cells.items otherwise jump cells.items) }
         ensures unchanged { OnErr result (scene_of self.new ≡ scene_of self.old) }
         ensures room { self.new.plans.room ≡ self.old.plans.room }
     {
-        match Plan::new(cells) {
+        match Plan::with_known_steps(cells, known) {
             Ok(plan) => Ok(self.replan(agent, plan)),
             Err((PlanFault::EmptyPath, _)) => unreachable!(),
             Err((PlanFault::TooLong, _)) => Err(EditFault::TooLong),
