@@ -1,0 +1,11 @@
+pub mod Orders
+pub mod Copies
+pub mod Live
+pub mod PairEntries
+pub mod LawsHold
+pub mod RoundTrips
+pub mod Sets
+pub mod Walks
+pub mod Settling
+pub mod Visiting
+pub mod Adding

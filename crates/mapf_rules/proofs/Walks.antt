@@ -1,0 +1,139 @@
+-- Walks from each agent to the next, round to the first.
+use Rattle.std.proofs.Common.{◌≡◌, ◌≢◌, ◌⊎◌, inl, inr, ℕ, ◌+◌, ◌≤◌, List, [], length, get_or, Contains, refl, sym, ap, subst, ◌∙◌, arith}
+use mathlib.Core.Logic.{◌↔◌}
+use Rattle.std.specs.Prelude.{slice_index}
+use Rattle.std.specs.List.{AllPairs}
+use Rattle.std.specs.List.Sorted.{IsStrictlySortedBy}
+use Rattle.std.specs.Ordering.{nat_cmp}
+use Rattle.std.specs.BTreeSet.{insert_key}
+use Rattle.std.specs.declared.cmp.Ordering.TheVariants.{Less, Equal}
+use Rattle.std.proofs.lemmas.Cmp.{nat_cmp_total, tied_itself}
+use Rattle.grid_cells.specs.Cell.{Point}
+use Rattle.plan_table.specs.Route.{Fleet}
+use Rattle.mapf_rules.specs.Cycles.{IsRing}
+use Rattle.mapf_rules.specs.RingWalk.{IsSoleMover, MovesTo, IsNext, IsWalked}
+use Rattle.mapf_rules.proofs.Orders.{pairs_ascend}
+use Rattle.mapf_rules.proofs.RoundTrips.{IsNext-unique, next_of_sole, sole_of_next, round_to_least, next_in_ring, one_before, has_next}
+
+pub same_or_not : (a b : ℕ) → (a ≡ b) ⊎ (a ≢ b)
+same_or_not a b = grind arith
+
+-- keys in order are distinct
+pub distinct_keys : (keys : List ℕ) → IsStrictlySortedBy nat_cmp keys → AllPairs (λ a b. a ≢ b) keys
+distinct_keys keys sorted i j d lt within same =
+    let less : nat_cmp (get_or keys i d) (get_or keys j d) ≡ Less = pairs_ascend nat_cmp keys sorted i j d lt within in
+    let tied : nat_cmp (get_or keys i d) (get_or keys i d) ≡ Equal = tied_itself nat_cmp_total (get_or keys i d) in
+    let again : nat_cmp (get_or keys i d) (get_or keys i d) ≡ Less = subst (λ v. nat_cmp (get_or keys i d) v ≡ Less) (sym same) less in
+    let wrong : Less ≡ Equal = sym again ∙ tied in
+    cc
+
+-- the walk begins at the first agent
+pub walked_first : (fleet : Fleet) (time first : ℕ) (seen none : List ℕ) (to : Point) → none ≡ [] → ((q : ℕ) → Contains seen q ↔ (Contains none q ⊎ (q ≡ first))) → MovesTo fleet time first to → IsWalked fleet time first seen first to to
+walked_first fleet time first seen none to empty gains moves =
+    let one : (q : ℕ) → Contains seen q → q ≡ first = λ q h. elim ((gains q).0 h) [ inl old ↦ absurd (nothing q (subst (λ (l : List ℕ). Contains l q) empty old)) | inr is ↦ is ] in
+    let has : Contains seen first = (gains first).1 (inr refl) in
+    record {
+      last = first;
+      last_seen = has;
+      goes = moves;
+      first_seen = has;
+      closed = λ a next h apart follows. absurd (apart (one a h));
+      reached = λ b h apart. absurd (apart (one b h));
+      least_seen = has;
+      least_goes = moves;
+      lower = λ a h. let same : a ≡ first = one a h in omega arith;
+      inside = λ ring round in_ring a h. subst (Contains ring) (sym (one a h)) in_ring;
+    }
+  where
+    nothing : (q : ℕ) → Contains [] q → ⊥
+    nothing q (k, within, at) = omega arith
+
+module _ (fleet : Fleet) (time first : ℕ) (seen : List ℕ) (least : ℕ) (to ahead : Point) (walked : IsWalked fleet time first seen least to ahead) where
+  follows_last : (next : ℕ) → IsSoleMover fleet time ahead next → IsNext fleet time walked.last next
+  follows_last next sole = next_of_sole fleet time walked.last next ahead walked.goes sole
+
+  -- a ring of the first agent has someone who moves out of the cell ahead
+  pub goes_on : (ring : List ℕ) → IsRing fleet time ring → Contains ring first → (next : ℕ) × IsSoleMover fleet time ahead next
+  goes_on ring round in_ring =
+      let its = has_next fleet time ring round walked.last (walked.inside ring round in_ring walked.last walked.last_seen) in
+      (its.0, sole_of_next fleet time walked.last its.0 ahead walked.goes its.1)
+
+  module _ (next : ℕ) (sole : IsSoleMover fleet time ahead next) where
+    in_ring_too : (ring : List ℕ) → IsRing fleet time ring → Contains ring first → Contains ring next
+    in_ring_too ring round in_ring = next_in_ring fleet time ring round walked.last next (walked.inside ring round in_ring walked.last walked.last_seen) (follows_last next sole)
+
+    -- a walk that comes to an agent seen before, but for the first, is not round a ring of the first
+    pub no_ring_seen : Contains seen next → next ≢ first → (ring : List ℕ) → IsRing fleet time ring → Contains ring first → ⊥
+    no_ring_seen again apart ring round in_ring =
+        let before = walked.reached next again apart in
+        before.2 (one_before fleet time ring round before.0 walked.last next (walked.inside ring round in_ring before.0 before.1) (walked.inside ring round in_ring walked.last walked.last_seen) before.3 (follows_last next sole))
+
+    -- a walk that comes back to the first agent has seen the least of its ring
+    pub least_found : next ≡ first → (ring : List ℕ) → IsRing fleet time ring → Contains ring first → slice_index ring 0 ≡ least
+    least_found back ring round in_ring =
+        let seen_least : Contains seen (slice_index ring 0) = round_to_least fleet time ring (λ a. Contains seen a) closed_all round first in_ring walked.first_seen in
+        let low : least ≤ slice_index ring 0 = walked.lower (slice_index ring 0) seen_least in
+        let has = walked.inside ring round in_ring least walked.least_seen in
+        let high : slice_index ring 0 ≤ least = subst (λ v. slice_index ring 0 ≤ v) has.2 (round.least_first has.0 least has.1) in
+        omega arith
+      where
+        closed_all : (a n : ℕ) → IsNext fleet time a n → Contains seen a → Contains seen n
+        closed_all a n follows has = elim (same_or_not a walked.last) [
+          | inl at_last ↦
+              let same : n ≡ next = IsNext-unique fleet time walked.last n next (subst (λ q. IsNext fleet time q n) at_last follows) (follows_last next sole) in
+              subst (Contains seen) (sym (same ∙ back)) walked.first_seen
+          | inr apart ↦ walked.closed a n has apart follows
+        ]
+
+    -- one agent more
+    module _ (more : List ℕ) (gains : (q : ℕ) → Contains more q ↔ (Contains seen q ⊎ (q ≡ next))) (fresh : Contains seen next → ⊥) (apart : next ≢ first) (goal : Point) (goes : MovesTo fleet time next goal)
+        (lesser : ℕ × Point) (one : (lesser ≡ (least, to)) ⊎ (lesser ≡ (next, goal))) (low_old : lesser.0 ≤ least) (low_new : lesser.0 ≤ next) where
+      keeps : (a : ℕ) → Contains seen a → Contains more a
+      keeps a h = (gains a).1 (inl h)
+
+      has_next_too : Contains more next
+      has_next_too = (gains next).1 (inr refl)
+
+      not_next : (a : ℕ) → Contains seen a → a ≢ next
+      not_next a h same = fresh (subst (Contains seen) same h)
+
+      pub walked_on : IsWalked fleet time first more lesser.0 lesser.1 goal
+      walked_on = record {
+        last = next;
+        last_seen = has_next_too;
+        goes = goes;
+        first_seen = keeps first walked.first_seen;
+        closed = λ a n h differs follows. elim ((gains a).0 h) [
+          | inr is ↦ absurd (differs is)
+          | inl old ↦ elim (same_or_not a walked.last) [
+            | inl at_last ↦
+                let same : n ≡ next = IsNext-unique fleet time walked.last n next (subst (λ q. IsNext fleet time q n) at_last follows) (follows_last next sole) in
+                subst (Contains more) (sym same) has_next_too
+            | inr not_last ↦ keeps n (walked.closed a n old not_last follows)
+          ]
+        ];
+        reached = λ b h differs. elim ((gains b).0 h) [
+          | inl old ↦ let before = walked.reached b old differs in (before.0, keeps before.0 before.1, not_next before.0 before.1, before.3)
+          | inr is ↦ (walked.last, keeps walked.last walked.last_seen, not_next walked.last walked.last_seen, subst (IsNext fleet time walked.last) (sym is) (follows_last next sole))
+        ];
+        least_seen = elim one [
+          | inl old ↦ subst (Contains more) (sym (ap (λ (p : ℕ × Point). p.0) old)) (keeps least walked.least_seen)
+          | inr new ↦ subst (Contains more) (sym (ap (λ (p : ℕ × Point). p.0) new)) has_next_too
+        ];
+        least_goes = elim one [
+          | inl old ↦ subst (λ (p : ℕ × Point). MovesTo fleet time p.0 p.1) (sym old) walked.least_goes
+          | inr new ↦ subst (λ (p : ℕ × Point). MovesTo fleet time p.0 p.1) (sym new) goes
+        ];
+        lower = λ a h. elim ((gains a).0 h) [
+          | inl old ↦ let low : least ≤ a = walked.lower a old in omega arith
+          | inr is ↦ omega arith
+        ];
+        inside = λ ring round in_ring a h. elim ((gains a).0 h) [
+          | inl old ↦ walked.inside ring round in_ring a old
+          | inr is ↦ subst (Contains ring) (sym is) (in_ring_too ring round in_ring)
+        ];
+      }
+
+-- one key put among none
+pub grows_first : (none one : List ℕ) (key : ℕ) → none ≡ [] → one ≡ insert_key nat_cmp none key → length one ≡ 0 + 1
+grows_first none one key empty is = rw (is, empty) refl

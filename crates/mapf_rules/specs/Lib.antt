@@ -1,0 +1,10 @@
+pub mod Entries
+pub mod Cycles
+pub mod ConflictList
+pub mod Naming
+pub mod RingWalk
+pub mod Finding
+pub mod Costs
+pub mod Visits
+pub mod VisitSearch
+pub mod Laws

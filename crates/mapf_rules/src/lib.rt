@@ -1,0 +1,29 @@
+//! The rules of the field: the conflict entries of a fleet's plans, their costs, and their visits to
+//! closed cells, with plain programs that find them.
+#![tactic(auto)]
+
+mod cycles;
+mod entries;
+mod laws;
+mod offers;
+mod pairs;
+mod plain;
+mod rings;
+mod search;
+mod sorting;
+mod totals;
+mod visits;
+
+pub use entries::{Conflict, Kind, Ring};
+pub use laws::{
+    entries_compare_as_listed, meetings_are_told, named_agents_are_there, one_conflict_list,
+    one_sum_and_makespan, one_visit_list, settles_at_last, swap_is_two_followings,
+};
+pub use offers::offer;
+pub use pairs::{last, position};
+pub use plain::{conflicts, entries_of_pair, entries_of_two};
+pub use rings::{Movers, destination, moves_out, ring_from, ring_out_of, ring_through};
+pub use search::{add_visits, blocked_visits, is_closed, is_unblocked};
+pub use sorting::sorted;
+pub use totals::{costs, greatest_of, is_finished, makespan, settle_time, sum_of, sum_of_costs};
+pub use visits::Visit;
