@@ -4,8 +4,11 @@ pub mod MoveSearch
 pub mod Rising
 pub mod HopOrder
 pub mod Changes
+pub mod Counts
+pub mod Flowing
 pub mod Standing
 pub mod Positions
+pub mod Going
 pub mod Gathered
 pub mod FixedFleet
 pub mod Counting

@@ -8,7 +8,7 @@ use Rattle.grid_cells.specs.Cell.{Point}
 use Rattle.plan_table.specs.Path.{last_index, place}
 use Rattle.plan_table.specs.Route.{Route, Fleet, position, position_of, last_of}
 use Rattle.where_index.specs.declared.spots.Spot.{Spot}
-use Rattle.where_index.specs.Spot.{AreBetween, spot, HasAgent, HasPassing}
+use Rattle.where_index.specs.Spot.{AreBetween, spot, HasAgent, HasPassing, HasOther}
 use Rattle.where_index.specs.Records.{route, stand_at, tail_at, hop_at, hop_between, same_point}
 use Rattle.where_index.specs.Changes.{HasSpots, HasHops}
 use Rattle.where_index.specs.declared.trails.Hop.{Hop}
@@ -18,7 +18,7 @@ use Rattle.where_index.specs.declared.passings.Passing.{Passing}
 use Rattle.where_index.specs.declared.ends.End.{End}
 use Rattle.where_index.specs.Hops.{movers_in}
 use Rattle.where_index.specs.Ends.{IsEndOfRoute, IsEndOf}
-use Rattle.where_index.specs.Asked.{MovesFrom, Passes}
+use Rattle.where_index.specs.Asked.{MovesFrom, Passes, IsShared}
 use Rattle.where_index.specs.Index.{all_of}
 
 guarded : (b : Bool) (o : Option Point) (cell : Point) → cond b o None ≡ Some cell → (b ≡ true) × (o ≡ Some cell)
@@ -102,6 +102,18 @@ standing_exact stands tails s1 s2 fleet cell time has_s has_r b1 b2 a = (
   (λ h. elim (either_is time cell (fleet a) h) [
     | inl stood ↦ inl (spot cell time a, (b1 (spot cell time a)).1 ((has_s (spot cell time a)).1 stood, refl, omega arith, omega arith), refl)
     | inr w ↦ inr (spot cell w.0 a, (b2 (spot cell w.0 a)).1 ((has_r (spot cell w.0 a)).1 w.2, refl, omega arith, w.1), refl)
+  ]),
+)
+
+pub shared_exact : (stands tails : List Spot) (fleet : Fleet) (cell : Point) (from to agent : ℕ) → from ≤ to → HasSpots stands (all_of stand_at fleet) → HasSpots tails (all_of tail_at fleet) → (HasOther stands cell from to agent ⊎ HasOther tails cell 0 to agent) ↔ IsShared fleet cell from to agent
+shared_exact stands tails fleet cell from to agent order has_s has_r = (
+  (λ h. elim h [
+    | inl w ↦ record { other = w.0.agent; apart = w.5; time = w.0.time; not_before = w.3; not_after = w.4; there = stands_is w.0.time cell (fleet w.0.agent) (same_record (all_of stand_at fleet) w.0 w.0.agent w.0.time cell refl refl w.2 ((has_s w.0).0 w.1)) }
+    | inr w ↦ record { other = w.0.agent; apart = w.5; time = to; not_before = order; not_after = omega arith; there = rests_is to cell w.0.time w.4 (fleet w.0.agent) (same_record (all_of tail_at fleet) w.0 w.0.agent w.0.time cell refl refl w.2 ((has_r w.0).0 w.1)) }
+  ]),
+  (λ is. elim (either_is is.time cell (fleet is.other) is.there) [
+    | inl stood ↦ inl (spot cell is.time is.other, (has_s (spot cell is.time is.other)).1 stood, refl, is.not_before, is.not_after, is.apart)
+    | inr w ↦ inr (spot cell w.0 is.other, (has_r (spot cell w.0 is.other)).1 w.2, refl, omega arith, omega (arith, w.1, is.not_after), is.apart)
   ]),
 )
 
@@ -283,11 +295,11 @@ moves_hop path leaves t from to starts arrives apart = elim (two_or_one path t) 
       apart (cc)
 
 -- ---- the moves of a fleet
-hop_of : (o : Option Route) (t : ℕ) (h : Hop) → option_and_then (λ r. hop_at r.path t) o ≡ Some h → (option_and_then (λ r. position r t) o ≡ Some h.from) × (option_and_then (λ r. position r (t + 1)) o ≡ Some h.to) × (h.from ≢ h.to)
+pub hop_of : (o : Option Route) (t : ℕ) (h : Hop) → option_and_then (λ r. hop_at r.path t) o ≡ Some h → (option_and_then (λ r. position r t) o ≡ Some h.from) × (option_and_then (λ r. position r (t + 1)) o ≡ Some h.to) × (h.from ≢ h.to)
 hop_of None t h is = absurd (cc)
 hop_of (Some r) t h is = hop_moves r.path r.leaves t h is
 
-of_hop : (o : Option Route) (t : ℕ) (from to : Point) → option_and_then (λ r. position r t) o ≡ Some from → option_and_then (λ r. position r (t + 1)) o ≡ Some to → from ≢ to → option_and_then (λ r. hop_at r.path t) o ≡ Some (record { from = from; to = to })
+pub of_hop : (o : Option Route) (t : ℕ) (from to : Point) → option_and_then (λ r. position r t) o ≡ Some from → option_and_then (λ r. position r (t + 1)) o ≡ Some to → from ≢ to → option_and_then (λ r. hop_at r.path t) o ≡ Some (record { from = from; to = to })
 of_hop None t from to starts arrives apart = absurd (cc)
 of_hop (Some r) t from to starts arrives apart = moves_hop r.path r.leaves t from to starts arrives apart
 

@@ -10,13 +10,16 @@ use Rattle.plan_table.specs.Path.{last_index, place}
 use Rattle.plan_table.specs.Route.{Route, Fleet, last_of, position}
 use Rattle.where_index.specs.declared.trails.Hop.{Hop}
 use Rattle.where_index.specs.declared.ends.End.{End}
+use Rattle.where_index.specs.declared.traffic.Traffic.{Traffic}
 use Rattle.where_index.specs.Records.{stand_at, tail_at, hop_at, hop_between}
-use Rattle.where_index.specs.Changes.{HasSpots, HasHops, HaveSameAt, set_row}
+use Rattle.where_index.specs.Changes.{HasSpots, HaveSameAt, set_row}
+use Rattle.where_index.specs.Traffic.{HasTraffic}
 use Rattle.where_index.specs.Index.{Contents, end_in, all_of, StandsFor, with_route}
 use Rattle.where_index.specs.Ends.{IsEndOf}
 use Rattle.where_index.specs.Records.{nothing}
 use Rattle.where_index.proofs.Sets.{tied_or_not}
-use Rattle.where_index.proofs.Changes.{HasSpots-ext, HasHops-ext, row_cases}
+use Rattle.where_index.proofs.Changes.{HasSpots-ext, row_cases}
+use Rattle.where_index.proofs.Flowing.{HasTraffic-ext}
 
 -- ---- no records after the end
 pub past : (path : List Point) (t : ℕ) → length path ≤ t → slice_get path t ≡ None
@@ -98,21 +101,27 @@ module _ (fleet : Fleet) (agent : ℕ) (before next : Option Route) (was : fleet
     last_le None h = omega arith
     last_le (Some r) h = h
 
+  abbrev traffic_in : Contents → Traffic
+  traffic_in index = record { hops = index.hops; flows = index.flows }
+
   -- the index after the records, the end and the horizon are changed
   pub stands_next : (index new : Contents) (end : Option End) → StandsFor index fleet
       → (((f : ℕ → ℕ → Option Point) → HasSpots index.stands f → ((t : ℕ) → f agent t ≡ stand_at (unwrap_or before nothing) t) → HasSpots new.stands (set_row f agent (stand_at (unwrap_or next nothing)))))
       → (((f : ℕ → ℕ → Option Point) → HasSpots index.tails f → ((t : ℕ) → f agent t ≡ tail_at (unwrap_or before nothing) t) → HasSpots new.tails (set_row f agent (tail_at (unwrap_or next nothing)))))
-      → (((f : ℕ → ℕ → Option Hop) → HasHops index.hops f → ((t : ℕ) → f agent t ≡ hop_at (unwrap_or before nothing).path t) → HasHops new.hops (set_row f agent (hop_at (unwrap_or next nothing).path))))
+      → (((f : ℕ → ℕ → Option Hop) → HasTraffic (traffic_in index) f → ((t : ℕ) → f agent t ≡ hop_at (unwrap_or before nothing).path t) → HasTraffic (traffic_in new) (set_row f agent (hop_at (unwrap_or next nothing).path))))
       → ((q : ℕ) → end_in new.ends q ≡ cond (is_eq (nat_cmp agent q)) end (end_in index.ends q)) → IsEndOf end next
       → index.horizon ≤ new.horizon → last_index (unwrap_or next nothing).path ≤ new.horizon
       → StandsFor new (with_route fleet agent next)
-  stands_next index new end has stands tails hops puts is more last = record {
-    stands = HasSpots-ext new.stands _ _ (row_next stand_at no_stand) (stands (all_of stand_at fleet) has.stands (agrees stand_at no_stand));
-    tails = HasSpots-ext new.tails _ _ (row_next tail_at no_rest) (tails (all_of tail_at fleet) has.tails (agrees tail_at no_rest));
-    hops = HasHops-ext new.hops _ _ (row_next (λ r. hop_at r.path) no_hop) (hops (all_of (λ r. hop_at r.path) fleet) has.hops (agrees (λ r. hop_at r.path) no_hop));
-    ends = ends_next index.ends new.ends end puts has.ends is;
-    horizon = horizon_next index.horizon new.horizon has.horizon more last;
-  }
+  stands_next index new end has stands tails moves puts is more last =
+      let moves_next = HasTraffic-ext (traffic_in new) _ _ (row_next (λ r. hop_at r.path) no_hop) (moves (all_of (λ r. hop_at r.path) fleet) (record { hops = has.hops; flows = has.flows }) (agrees (λ r. hop_at r.path) no_hop)) in
+      record {
+        stands = HasSpots-ext new.stands _ _ (row_next stand_at no_stand) (stands (all_of stand_at fleet) has.stands (agrees stand_at no_stand));
+        tails = HasSpots-ext new.tails _ _ (row_next tail_at no_rest) (tails (all_of tail_at fleet) has.tails (agrees tail_at no_rest));
+        hops = moves_next.hops;
+        flows = moves_next.flows;
+        ends = ends_next index.ends new.ends end puts has.ends is;
+        horizon = horizon_next index.horizon new.horizon has.horizon more last;
+      }
 
 -- the end of a path
 pub end_place : (path : List Point) (t : ℕ) (cell : Point) → t ≡ last_index path → place path t ≡ Some cell → slice_get path (last_index path) ≡ Some cell

@@ -1,11 +1,13 @@
 -- What an index is asked about the fleet that it stands for (Stern et al. 2019 for positions and moves; the questions are
 -- this project's choice).
-use Rattle.std.specs.Prelude.{◌≡◌, ◌≢◌, ◌↔◌, ℕ, ◌+◌, ◌<◌, ◌≤◌, Some, IsSome, List, [], ◌∷◌, length, Contains, AllPairs}
+use Rattle.std.specs.Prelude.{◌≡◌, ◌≢◌, ◌↔◌, ℕ, ◌+◌, ◌<◌, ◌≤◌, Some, IsSome, IsTrue, List, [], ◌∷◌, length, Contains, AllPairs}
 use Rattle.grid_cells.specs.Cell.{Point}
 use Rattle.plan_table.specs.Order.{ListsAll}
 use Rattle.plan_table.specs.Route.{Fleet, position_of, last_of}
 use Rattle.where_index.specs.declared.moves.Move.{Move}
 use Rattle.where_index.specs.declared.passings.Passing.{Passing}
+use Rattle.where_index.specs.declared.ways.Way.{Way}
+use Rattle.where_index.specs.Flows.{leads}
 
 -- the agents whose position at that time is the cell, ascending
 abbrev pub AreStandingAt : Fleet → ℕ → Point → List ℕ → Type 0
@@ -21,6 +23,15 @@ pub record MovesFrom (fleet : Fleet) (time : ℕ) (from : Point) (move : Move) :
 abbrev pub AreMovers : Fleet → ℕ → Point → List Move → Type 0
 AreMovers fleet time from moves = ListsAll (λ move. move.agent ∷ []) (MovesFrom fleet time from) moves
 
+-- some agent moves that way in the step that begins at that time
+pub record Goes (fleet : Fleet) (time : ℕ) (way : Way) : Type 0 where
+  pub agent : ℕ
+  pub from : Point
+  pub to : Point
+  pub starts : position_of fleet agent time ≡ Some from
+  pub arrives : position_of fleet agent (time + 1) ≡ Some to
+  pub turns : IsTrue (leads way from to)
+
 -- from that time on, and no later than its last index, the agent is in the cell
 pub record Passes (fleet : Fleet) (cell : Point) (from : ℕ) (passing : Passing) : Type 0 where
   pub not_before : from ≤ passing.time
@@ -30,6 +41,15 @@ pub record Passes (fleet : Fleet) (cell : Point) (from : ℕ) (passing : Passing
 -- those who pass through the cell from that time on, by time, then agent
 abbrev pub ArePassing : Fleet → Point → ℕ → List Passing → Type 0
 ArePassing fleet cell from passings = ListsAll (λ passing. passing.time ∷ passing.agent ∷ []) (Passes fleet cell from) passings
+
+-- another agent is in the cell at some time from one to another
+pub record IsShared (fleet : Fleet) (cell : Point) (from to agent : ℕ) : Type 0 where
+  pub other : ℕ
+  pub apart : other ≢ agent
+  pub time : ℕ
+  pub not_before : from ≤ time
+  pub not_after : time ≤ to
+  pub there : position_of fleet other time ≡ Some cell
 
 -- so many agents have a route
 pub record CountsAgents (fleet : Fleet) (count : ℕ) : Type 0 where

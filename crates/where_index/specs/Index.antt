@@ -7,16 +7,19 @@ use Rattle.plan_table.specs.Route.{Route, Fleet, last_of}
 use Rattle.where_index.specs.declared.spots.Spot.{Spot}
 use Rattle.where_index.specs.declared.moves.Move.{Move}
 use Rattle.where_index.specs.declared.hops.Place.{Place}
+use Rattle.where_index.specs.declared.flows.Flows.{Flows}
 use Rattle.where_index.specs.declared.ends.End.{End}
 use Rattle.where_index.specs.Ends.{IsEndOf}
 use Rattle.where_index.specs.Records.{stand_at, tail_at, hop_at}
 use Rattle.where_index.specs.Changes.{HasSpots, HasHops}
+use Rattle.where_index.specs.Flows.{HasFlows}
 
 -- what an index keeps
 pub record Contents : Type 0 where
   pub stands : List Spot
   pub tails : List Spot
   pub hops : List (Place × List Move)
+  pub flows : Flows
   pub ends : List (ℕ × End)
   pub horizon : ℕ
   pub touched : ℕ
@@ -34,6 +37,7 @@ pub record StandsFor (index : Contents) (fleet : Fleet) : Type 0 where
   pub stands : HasSpots index.stands (all_of stand_at fleet)
   pub tails : HasSpots index.tails (all_of tail_at fleet)
   pub hops : HasHops index.hops (all_of (λ r. hop_at r.path) fleet)
+  pub flows : HasFlows index.flows (all_of (λ r. hop_at r.path) fleet)
   pub ends : (agent : ℕ) → IsEndOf (end_in index.ends agent) (fleet agent)
   pub horizon : (agent : ℕ) → last_of fleet agent ≤ index.horizon
 

@@ -4,6 +4,8 @@ pub mod Moves
 pub mod Hops
 pub mod Records
 pub mod Changes
+pub mod Flows
+pub mod Traffic
 pub mod Ends
 pub mod Index
 pub mod Asked

@@ -1,5 +1,5 @@
 -- Sets of spots, an agent at a cell at a time: words for the program's own steps (this project's choice).
-use Rattle.std.specs.Prelude.{◌≡◌, ◌⊎◌, ◌↔◌, ℕ, ◌≤◌, List, Contains}
+use Rattle.std.specs.Prelude.{◌≡◌, ◌≢◌, ◌⊎◌, ◌↔◌, ℕ, ◌≤◌, List, Contains}
 use Rattle.std.specs.Ordering.{nat_cmp, ordering_then}
 use Rattle.std.specs.declared.cmp.Ordering.{Ordering}
 use Rattle.grid_cells.specs.Cell.{Point}
@@ -21,6 +21,14 @@ Loses old new lost = (s : Spot) → Contains new s ↔ (Contains old s × (s ≡
 -- the spots at the cell from one time to another
 abbrev pub AreBetween : List Spot → Point → ℕ → ℕ → List Spot → Type 0
 AreBetween all cell from to found = (s : Spot) → Contains found s ↔ (Contains all s × (s.cell ≡ cell) × (from ≤ s.time) × (s.time ≤ to))
+
+-- one of the spots is of another agent
+abbrev pub HasOtherIn : List Spot → ℕ → Type 0
+HasOtherIn spots agent = (s : Spot) × Contains spots s × (s.agent ≢ agent)
+
+-- one of the spots at the cell from one time to another is of another agent
+abbrev pub HasOther : List Spot → Point → ℕ → ℕ → ℕ → Type 0
+HasOther all cell from to agent = (s : Spot) × Contains all s × (s.cell ≡ cell) × (from ≤ s.time) × (s.time ≤ to) × (s.agent ≢ agent)
 
 -- spots compare by the cell's row and column, then time, then agent
 abbrev pub spot_cmp : Spot → Spot → Ordering

@@ -5,7 +5,7 @@ ghost use Rattle.plan_table.specs.Route.{Fleet, position, position_of, last_of, 
 ghost use Rattle.where_index.specs.Records.{nothing, records_apart};
 ghost use Rattle.where_index.specs.Ends.{EndsAt};
 ghost use Rattle.where_index.specs.Index.{StandsFor, end_in, with_route};
-ghost use Rattle.where_index.specs.Asked.{AreStandingAt, AreMovers, ArePassing, CountsAgents};
+ghost use Rattle.where_index.specs.Asked.{AreStandingAt, AreMovers, Goes, ArePassing, IsShared, CountsAgents};
 
 use crate::ends::End;
 use crate::gathering::{agents_of, passings_of};
@@ -13,6 +13,7 @@ use crate::moves::Move;
 use crate::passings::Passing;
 use crate::records::Records;
 use crate::trails::Trail;
+use crate::ways::Way;
 use grid_cells::{Agent, Cell, List, OutOfMemory, Step};
 use plan_table::Track;
 use std::alloc::Global;
@@ -34,7 +35,7 @@ impl Model for WhereIndex {
 
     ghost Value = { Contents };
 
-    ghost view = { λ i. record { stands = i.records.stands; tails = i.records.tails; hops = i.records.hops; ends = i.ends.entries; horizon = i.horizon; touched = i.touched } };
+    ghost view = { λ i. record { stands = i.records.stands; tails = i.records.tails; hops = i.records.traffic.hops; flows = i.records.traffic.flows; ends = i.ends.entries; horizon = i.horizon; touched = i.touched } };
 }
 
 impl WhereIndex {
@@ -138,11 +139,32 @@ impl WhereIndex {
         agents_of(self.alloc, &stands, &tails)
     }
 
+    /// Whether another agent is in the cell at some step from one to another, both of them included.
+    pub fn is_shared(&self, cell: Cell, from: Step, to: Step, agent: Agent) -> bool
+        requires { from ≤ to }
+        ensures { (fleet : Fleet) → StandsFor self.now fleet → IsTrue result ↔ IsShared fleet cell from to agent }
+    {
+        let first = from.number();
+        let last = to.number();
+        if self.records.stands.has_other(cell, first, last, agent) {
+            return true;
+        }
+        self.records.tails.has_other(cell, 0, last, agent)
+    }
+
     /// Those who move out of the cell in the step, by agent.
     pub fn movers(&self, step: Step, cell: Cell) -> &[Move]
         ensures { (fleet : Fleet) → StandsFor self.now fleet → AreMovers fleet step cell result.now }
     {
-        self.records.hops.at(cell, step.number())
+        self.records.traffic.hops.at(cell, step.number())
+    }
+
+    /// Whether some agent moves that way in the step.
+    pub fn goes(&self, step: Step, way: Way) -> bool
+        ensures { (fleet : Fleet) → StandsFor self.now fleet → IsTrue result ↔ Goes fleet step way }
+    {
+        self.records.stands.are_numbered();
+        self.records.traffic.flows.at(way, step.number()) > 0
     }
 
     /// Those who are in the cell at the step or later, up to the last index of their paths, by time,

@@ -2,6 +2,7 @@
 #![tactic(auto)]
 
 mod ends;
+mod flows;
 mod gathering;
 mod hops;
 mod index;
@@ -10,9 +11,13 @@ mod moves;
 mod passings;
 mod records;
 mod spots;
+mod tallies;
+mod traffic;
 mod trails;
+mod ways;
 
 pub use index::WhereIndex;
 pub use laws::{one_fleet, records_are_counted};
 pub use moves::Move;
 pub use passings::Passing;
+pub use ways::Way;

@@ -4,11 +4,11 @@ ghost use Rattle.plan_table.specs.declared.paths.TheConstants.{MOST_LAST_INDEX};
 ghost use Rattle.where_index.specs.declared.trails.Hop.{Hop};
 ghost use Rattle.where_index.specs.declared.trails.Layer.TheVariants.{Stands, Tails};
 ghost use Rattle.where_index.specs.Records.{stand_at, tail_at, spot_at, hop_at, changed, changed_hop, changes_below, apart_below};
-ghost use Rattle.where_index.specs.Changes.{HasSpots, HasHops, set_at, set_row, HaveSameAt};
+ghost use Rattle.where_index.specs.Changes.{HasSpots, set_at, set_row, HaveSameAt};
+ghost use Rattle.where_index.specs.Traffic.{HasTraffic};
 
-use crate::hops::Hops;
-use crate::moves::Move;
 use crate::spots::Spots;
+use crate::traffic::Traffic;
 use crate::trails::{Hop, Layer, Trail};
 use grid_cells::{Agent, Cell, OutOfMemory};
 use std::alloc::Global;
@@ -18,7 +18,7 @@ use std::alloc::Global;
 pub struct Records {
     pub stands: Spots,
     pub tails: Spots,
-    pub hops: Hops,
+    pub traffic: Traffic,
 }
 
 impl Records {
@@ -26,12 +26,12 @@ impl Records {
     pub fn new(alloc: Global) -> Records
         ensures stands { result.stands ≡ [] }
         ensures tails { result.tails ≡ [] }
-        ensures hops { result.hops ≡ [] }
+        ensures traffic { HasTraffic result.traffic (λ _ _. None) }
     {
         Records {
             stands: Spots::new(alloc),
             tails: Spots::new(alloc),
-            hops: Hops::new(alloc),
+            traffic: Traffic::new(alloc),
         }
     }
 
@@ -51,13 +51,13 @@ impl Records {
         requires same_after { (t : ℕ) → to ≤ t → HaveSameAt old.now new.now t }
         ensures stands { (f : ℕ → ℕ → Option Point) → HasSpots self.old.stands f → ((t : ℕ) → f agent t ≡ stand_at old.now t) → OnOk result (HasSpots self.new.stands (set_row f agent (stand_at new.now))) }
         ensures tails { (f : ℕ → ℕ → Option Point) → HasSpots self.old.tails f → ((t : ℕ) → f agent t ≡ tail_at old.now t) → OnOk result (HasSpots self.new.tails (set_row f agent (tail_at new.now))) }
-        ensures hops { (f : ℕ → ℕ → Option Hop) → HasHops self.old.hops f → ((t : ℕ) → f agent t ≡ hop_at old.now.path t) → OnOk result (HasHops self.new.hops (set_row f agent (hop_at new.now.path))) }
+        ensures traffic { (f : ℕ → ℕ → Option Hop) → HasTraffic self.old.traffic f → ((t : ℕ) → f agent t ≡ hop_at old.now.path t) → OnOk result (HasTraffic self.new.traffic (set_row f agent (hop_at new.now.path))) }
         ensures free { length new.now.path ≡ 0 → IsOk result }
         ensures count { IfOk result (λ n. n ≡ apart_below old.now new.now to) }
     {
         let stood = change_spots(&mut self.stands, Layer::Stands, agent, old, new, from, to)?;
         let rested = change_spots(&mut self.tails, Layer::Tails, agent, old, new, from, to)?;
-        let hopped = change_hops(&mut self.hops, agent, old, new, from, to)?;
+        let hopped = change_hops(&mut self.traffic, agent, old, new, from, to)?;
         Ok(stood + rested + hopped)
     }
 }
@@ -90,7 +90,7 @@ fn change_spots(
 
 // Puts the trail's moves in the place of the old one's, and counts those that only one of them has.
 fn change_hops(
-    hops: &mut Hops,
+    traffic: &mut Traffic,
     agent: Agent,
     old: &Trail<'_>,
     new: &Trail<'_>,
@@ -101,14 +101,14 @@ fn change_hops(
     requires end { to ≤ MOST_LAST_INDEX + 1 }
     requires same_before { (t : ℕ) → t < from → hop_at old.now.path t ≡ hop_at new.now.path t }
     requires same_after { (t : ℕ) → to ≤ t → hop_at old.now.path t ≡ hop_at new.now.path t }
-    ensures set { (f : ℕ → ℕ → Option Hop) → HasHops hops.old f → ((t : ℕ) → f agent t ≡ hop_at old.now.path t) → OnOk result (HasHops hops.new (set_row f agent (hop_at new.now.path))) }
+    ensures set { (f : ℕ → ℕ → Option Hop) → HasTraffic traffic.old f → ((t : ℕ) → f agent t ≡ hop_at old.now.path t) → OnOk result (HasTraffic traffic.new (set_row f agent (hop_at new.now.path))) }
     ensures free { length new.now.path ≡ 0 → IsOk result }
     ensures few { IfOk result (λ n. n ≤ 2 * to) }
     ensures count { IfOk result (λ n. n ≡ changes_below changed_hop (hop_at old.now.path) (hop_at new.now.path) to) }
 {
     let mut count = 0;
     for time in from..to {
-        count += replace_hop(hops, agent, old, new, time)?;
+        count += replace_hop(traffic, agent, old, new, time)?;
     }
     Ok(count)
 }
@@ -143,13 +143,13 @@ fn replace_spot(
 
 // Puts the new trail's move at the time in the place of the old one's where they differ.
 fn replace_hop(
-    hops: &mut Hops,
+    traffic: &mut Traffic,
     agent: Agent,
     old: &Trail<'_>,
     new: &Trail<'_>,
     time: u32,
 ) -> Result<u32, OutOfMemory>
-    ensures set { (f : ℕ → ℕ → Option Hop) → HasHops hops.old f → f agent time ≡ hop_at old.now.path time → OnOk result (HasHops hops.new (set_at f agent time (hop_at new.now.path time))) }
+    ensures set { (f : ℕ → ℕ → Option Hop) → HasTraffic traffic.old f → f agent time ≡ hop_at old.now.path time → OnOk result (HasTraffic traffic.new (set_at f agent time (hop_at new.now.path time))) }
     ensures free { length new.now.path ≡ 0 → IsOk result }
     ensures count { IfOk result (λ n. n ≡ changed_hop (hop_at old.now.path time) (hop_at new.now.path time)) }
     ensures few { IfOk result (λ n. n ≤ 2) }
@@ -158,7 +158,7 @@ fn replace_hop(
     if count == 0 {
         return Ok(0);
     }
-    set_hop(hops, agent, time, old.hop(time), new.hop(time))?;
+    set_hop(traffic, agent, time, old.hop(time), new.hop(time))?;
     Ok(count)
 }
 
@@ -235,34 +235,39 @@ fn fill_spot(
 
 // Puts the new move in the place of the old one.
 fn set_hop(
-    hops: &mut Hops,
+    traffic: &mut Traffic,
     agent: Agent,
     time: u32,
     old: Option<Hop>,
     new: Option<Hop>,
 ) -> Result<(), OutOfMemory>
-    ensures set { (f : ℕ → ℕ → Option Hop) → HasHops hops.old f → f agent time ≡ old → OnOk result (HasHops hops.new (set_at f agent time new)) }
+    ensures set { (f : ℕ → ℕ → Option Hop) → HasTraffic traffic.old f → f agent time ≡ old → OnOk result (HasTraffic traffic.new (set_at f agent time new)) }
     ensures free { new ≡ None → IsOk result }
 {
-    clear_hop(hops, agent, time, old);
-    fill_hop(hops, agent, time, new)
+    clear_hop(traffic, agent, time, old);
+    fill_hop(traffic, agent, time, new)
 }
 
-fn clear_hop(hops: &mut Hops, agent: Agent, time: u32, old: Option<Hop>)
-    ensures { (f : ℕ → ℕ → Option Hop) → HasHops hops.old f → f agent time ≡ old → HasHops hops.new (set_at f agent time None) }
+fn clear_hop(traffic: &mut Traffic, agent: Agent, time: u32, old: Option<Hop>)
+    ensures { (f : ℕ → ℕ → Option Hop) → HasTraffic traffic.old f → f agent time ≡ old → HasTraffic traffic.new (set_at f agent time None) }
 {
     match old {
-        Some(hop) => hops.lose(hop.from, time, agent),
+        Some(hop) => traffic.lose(agent, time, hop),
         None => {}
     }
 }
 
-fn fill_hop(hops: &mut Hops, agent: Agent, time: u32, new: Option<Hop>) -> Result<(), OutOfMemory>
-    ensures set { (f : ℕ → ℕ → Option Hop) → HasHops hops.old f → f agent time ≡ None → OnOk result (HasHops hops.new (set_at f agent time new)) }
+fn fill_hop(
+    traffic: &mut Traffic,
+    agent: Agent,
+    time: u32,
+    new: Option<Hop>,
+) -> Result<(), OutOfMemory>
+    ensures set { (f : ℕ → ℕ → Option Hop) → HasTraffic traffic.old f → f agent time ≡ None → OnOk result (HasTraffic traffic.new (set_at f agent time new)) }
     ensures free { new ≡ None → IsOk result }
 {
     match new {
-        Some(hop) => hops.add(hop.from, time, Move { agent, to: hop.to }),
+        Some(hop) => traffic.add(agent, time, hop),
         None => Ok(()),
     }
 }

@@ -2,7 +2,8 @@ ghost use Rattle.std.specs.Prelude.{◌≡◌, ◌↔◌, ℕ, ◌≤◌, [], On
 ghost use Rattle.std.specs.List.{filter};
 ghost use Rattle.std.specs.BTreeMap.Range.{range_contains, IsLeBy};
 ghost use Rattle.std.specs.declared.ops.Bound.TheVariants.{Included};
-ghost use Rattle.where_index.specs.Spot.{spot, spot_cmp, Gains, Loses, AreBetween};
+ghost use Rattle.where_index.specs.Agents.{HaveAgents};
+ghost use Rattle.where_index.specs.Spot.{spot, spot_cmp, Gains, Loses, AreBetween, HasOther, HasOtherIn};
 
 use grid_cells::{Agent, Cell, OutOfMemory};
 use std::alloc::Global;
@@ -65,6 +66,13 @@ impl Spots {
         self.spots.remove(&Spot { cell, time, agent });
     }
 
+    /// The spots are of agents that have a number.
+    pub fn are_numbered(&self)
+        ensures { HaveAgents self.now }
+    {
+        let _spots = &self.spots;
+    }
+
     /// The spots at the cell from one time to another, in order.
     pub fn between(
         &self,
@@ -88,6 +96,37 @@ impl Spots {
             agent: Agent::GREATEST,
         };
         self.listed(alloc, low, high)
+    }
+
+    /// Whether one of the spots at the cell from one time to another is another agent's.
+    pub fn has_other(&self, cell: Cell, from: u32, to: u32, agent: Agent) -> bool
+        requires { from ≤ to }
+        ensures { IsTrue result ↔ HasOther self.now cell from to agent }
+    {
+        let _spots = &self.spots;
+        let low = Spot {
+            cell,
+            time: from,
+            agent: Agent::LEAST,
+        };
+        let high = Spot {
+            cell,
+            time: to,
+            agent: Agent::GREATEST,
+        };
+        self.other_in(low, high, agent)
+    }
+
+    fn other_in(&self, low: Spot, high: Spot, agent: Agent) -> bool
+        requires { IsLeBy spot_cmp low high }
+        ensures { IsTrue result ↔ HasOtherIn (filter (range_contains spot_cmp (Included low) (Included high)) self.now) agent }
+    {
+        for spot in self.spots.range(low..=high) {
+            if spot.agent != agent {
+                return true;
+            }
+        }
+        false
     }
 
     fn listed(&self, alloc: Global, low: Spot, high: Spot) -> Result<Vec<Spot>, OutOfMemory>

@@ -1,7 +1,8 @@
 use Rattle.std.proofs.Common.{◌≡◌, ◌+◌, sym, arith}
 use Rattle.where_index.specs.Records.{hop_at, changed_hop}
 use Rattle.where_index.specs.Changes.{set_at, set_row, mixed}
-use Rattle.where_index.proofs.Changes.{HasHops-ext, mixed_start, mixed_here, mixed_more, mixed_end, none_below, one_more, changed_hop_itself}
+use Rattle.where_index.proofs.Flowing.{HasTraffic-ext}
+use Rattle.where_index.proofs.Changes.{mixed_start, mixed_here, mixed_more, mixed_end, none_below, one_more, changed_hop_itself}
 use Rattle.where_index.proofs.records.change_hops.Goals as goal
 
 pub loop-time-init : goal.loop-time-init
@@ -9,7 +10,7 @@ loop-time-init c =
     let o = hop_at c.args.old.now.path in
     let n = hop_at c.args.new.now.path in
     record {
-      set = λ f has agree. HasHops-ext c.args.hops.now f (set_row f c.args.agent (mixed o n c.args.from)) (mixed_start f c.args.agent o n c.args.from c.requires.same_before agree) has;
+      set = λ f has agree. HasTraffic-ext c.args.traffic.now f (set_row f c.args.agent (mixed o n c.args.from)) (mixed_start f c.args.agent o n c.args.from c.requires.same_before agree) has;
       count = sym (none_below changed_hop o n changed_hop_itself c.args.from c.requires.same_before);
       few = omega arith;
     }
@@ -22,7 +23,7 @@ loop-time-preserved c =
     let g = c.in_ok-count.ensures in
     record {
       set = λ f has agree.
-          HasHops-ext c.replace_hop.new.hops (set_at (set_row f c.args.agent (mixed o n x)) c.args.agent x (n x)) (set_row f c.args.agent (mixed o n (x + 1))) (mixed_more f c.args.agent o n x)
+          HasTraffic-ext c.replace_hop.new.traffic (set_at (set_row f c.args.agent (mixed o n x)) c.args.agent x (n x)) (set_row f c.args.agent (mixed o n (x + 1))) (mixed_more f c.args.agent o n x)
           (g.set (set_row f c.args.agent (mixed o n x)) (c.loop-time.invariant.set f has agree) (mixed_here f c.args.agent o n x));
       count = one_more changed_hop o n x c.loop-time.count c.in_ok-count.field-0 c.loop-time.invariant.count g.count;
       few = omega (arith, g.few);
@@ -34,5 +35,5 @@ returns-clause-set c = λ f has agree.
     let n = hop_at c.args.new.now.path in
     let x = c.loop-time.time in
     let at_end : x ≡ c.args.to = omega arith in
-    HasHops-ext c.loop-time.hops (set_row f c.args.agent (mixed o n x)) (set_row f c.args.agent n) (mixed_end f c.args.agent o n x (λ t h. c.requires.same_after t (omega arith)))
+    HasTraffic-ext c.loop-time.traffic (set_row f c.args.agent (mixed o n x)) (set_row f c.args.agent n) (mixed_end f c.args.agent o n x (λ t h. c.requires.same_after t (omega arith)))
     (c.loop-time.invariant.set f has agree)

@@ -1,10 +1,11 @@
 use Rattle.std.proofs.Common.{None, ◌∙◌}
 use Rattle.where_index.specs.Changes.{set_at}
-use Rattle.where_index.proofs.Changes.{HasHops-ext, set_same, clears_hop}
+use Rattle.where_index.proofs.Changes.{set_same}
+use Rattle.where_index.proofs.Flowing.{HasTraffic-ext}
 use Rattle.where_index.proofs.records.clear_hop.Goals as goal
 
 pub returns-in-Some : goal.returns-in-Some
-returns-in-Some c = λ f has is. clears_hop c.args.hops.now _ c.args.agent c.args.time c.in-Some.hop f c.lose.ensures has (is ∙ c.in-Some.is)
+returns-in-Some c = λ f has is. c.lose.ensures f has (is ∙ c.in-Some.is)
 
 pub returns-in-None : goal.returns-in-None
-returns-in-None c = λ f has is. HasHops-ext c.args.hops.now f (set_at f c.args.agent c.args.time None) (set_same f c.args.agent c.args.time None (is ∙ c.in-None.is)) has
+returns-in-None c = λ f has is. HasTraffic-ext c.args.traffic.now f (set_at f c.args.agent c.args.time None) (set_same f c.args.agent c.args.time None (is ∙ c.in-None.is)) has

@@ -23,5 +23,5 @@ returns c = λ fleet has.
     let is = rw c.number.ensures at c.at.ensures.is in
     record {
       ascending = movers_ascend c.at.result.now c.at.ensures.by_agent;
-      exact = λ m. subst (λ (l : List Move). Contains l m ↔ MovesFrom fleet c.args.step c.args.cell m) (sym is) (movers_exact c.self.inside.records.hops fleet c.args.cell c.args.step records.hops m);
+      exact = λ m. subst (λ (l : List Move). Contains l m ↔ MovesFrom fleet c.args.step c.args.cell m) (sym is) (movers_exact c.self.inside.records.traffic.hops fleet c.args.cell c.args.step records.hops m);
     }

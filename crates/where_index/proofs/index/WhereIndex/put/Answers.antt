@@ -12,5 +12,5 @@ replace-requires-clause-same_after c = λ t h.
 pub returns-clause-stands : goal.returns-clause-stands
 returns-clause-stands c = λ fleet has was.
     let g = rw (c.none.ensures, c.of-trail.ensures.is) at c.in_ok-count.ensures in
-    stands_next fleet c.args.agent None (Some (route_of c.args.track)) was _ _ _ (rw (← c.self.view_is) at has) g.stands g.tails g.hops c.in_ok-insert.ensures.updates.0 c.of.ensures
+    stands_next fleet c.args.agent None (Some (route_of c.args.track)) was _ _ _ (rw (← c.self.view_is) at has) g.stands g.tails g.traffic c.in_ok-insert.ensures.updates.0 c.of.ensures
     (omega (arith, c.max.ensures)) (omega (arith, c.max.ensures, c.last-last.ensures.is))

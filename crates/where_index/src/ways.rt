@@ -1,0 +1,39 @@
+ghost use Rattle.std.specs.Prelude.{◌≡◌};
+ghost use Rattle.where_index.specs.Flows.{leads, opposite};
+
+use grid_cells::Cell;
+
+/// A way to move on a map.
+#[derive(Clone, Copy, Debug, PartialEq, Eq)]
+pub enum Way {
+    Up,
+    Left,
+    Right,
+    Down,
+}
+
+impl Way {
+    /// Whether it leads from the one cell to the other.
+    pub fn leads(self, from: Cell, to: Cell) -> bool
+        ensures { result ≡ leads self from to }
+    {
+        match self {
+            Way::Up => to.y() < from.y(),
+            Way::Left => to.x() < from.x(),
+            Way::Right => from.x() < to.x(),
+            Way::Down => from.y() < to.y(),
+        }
+    }
+
+    /// The opposite way.
+    pub fn opposite(self) -> Way
+        ensures { result ≡ opposite self }
+    {
+        match self {
+            Way::Up => Way::Down,
+            Way::Left => Way::Right,
+            Way::Right => Way::Left,
+            Way::Down => Way::Up,
+        }
+    }
+}
