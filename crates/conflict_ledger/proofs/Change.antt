@@ -1,5 +1,5 @@
 -- The entries of a fleet after one route is put in or taken out.
-use Rattle.std.proofs.Common.{◌≡◌, ◌≢◌, ◌⊎◌, inl, inr, ℕ, ◌+◌, ◌-◌, ◌%◌, List, length, Some, None, refl, sym, ap, ◌∙◌, subst, arith}
+use Rattle.std.proofs.Common.{◌≡◌, ◌≢◌, ◌⊎◌, inl, inr, ℕ, ◌+◌, ◌%◌, List, length, Some, None, refl, sym, ap, ◌∙◌, subst, arith}
 use mathlib.Core.Logic.{◌↔◌}
 use Rattle.std.specs.Prelude.{IsSome, IsTrue, slice_index, false}
 use Rattle.std.specs.Option.{unwrap_or, option_map, option_and_then}
@@ -8,14 +8,16 @@ use Rattle.std.proofs.lemmas.List.Elements.{Contains-get_or}
 use Rattle.grid_cells.specs.Cell.{Point}
 use Rattle.plan_table.specs.Path.{last_index}
 use Rattle.plan_table.specs.Route.{Route, Fleet, position, position_of, last_of, leaves_of}
-use Rattle.conflict_ledger.specs.Entries.{IsFollowing}
-use Rattle.conflict_ledger.specs.Cycles.{MovesOut, IsRing}
-use Rattle.conflict_ledger.specs.ConflictList.{Stands}
-use Rattle.conflict_ledger.specs.declared.entries.Conflict.{Conflict}
-use Rattle.conflict_ledger.specs.declared.entries.Conflict.TheVariants.{Vertex, Parked, Edge, Following, Swapping, Cycle}
-use Rattle.conflict_ledger.specs.Naming.{Names, IsPair, time_of}
-use Rattle.conflict_ledger.specs.Change.{SameBut, IsNear, RingsAfterArrival}
-use Rattle.conflict_ledger.proofs.RoundTrips.{after_within}
+use Rattle.mapf_rules.specs.Entries.{IsFollowing}
+use Rattle.mapf_rules.specs.Cycles.{MovesOut, IsRing}
+use Rattle.mapf_rules.specs.ConflictList.{Stands}
+use Rattle.mapf_rules.specs.declared.entries.Conflict.{Conflict}
+use Rattle.mapf_rules.specs.declared.entries.Conflict.TheVariants.{Vertex, Parked, Edge, Following, Swapping, Cycle}
+use Rattle.mapf_rules.specs.Naming.{Names, IsPair, time_of}
+use Rattle.conflict_ledger.specs.Gathering.{IsMet}
+use Rattle.conflict_ledger.specs.declared.gather.Place.TheVariants.{Beside, Ahead, Behind}
+use Rattle.conflict_ledger.specs.Change.{SameBut, RingsAfterArrival}
+use Rattle.mapf_rules.proofs.RoundTrips.{after_within}
 
 module _ (old new : Fleet) (agent : ℕ) (same : SameBut old new agent) where
   pub there : (a time : ℕ) → a ≢ agent → position_of old a time ≡ position_of new a time
@@ -24,7 +26,7 @@ module _ (old new : Fleet) (agent : ℕ) (same : SameBut old new agent) where
   pub ends : (a : ℕ) → a ≢ agent → last_of old a ≡ last_of new a
   ends a apart = ap (λ r. unwrap_or (option_map (λ (route : Route). last_index route.path) r) 0) (same a apart)
 
-  leaving : (a : ℕ) → a ≢ agent → leaves_of old a ≡ leaves_of new a
+  pub leaving : (a : ℕ) → a ≢ agent → leaves_of old a ≡ leaves_of new a
   leaving a apart = ap (λ r. unwrap_or (option_map (λ (route : Route). route.leaves) r) false) (same a apart)
 
   follows_stays : (time follower leader : ℕ) (cell : Point) → follower ≢ agent → leader ≢ agent → IsFollowing old time follower leader cell → IsFollowing new time follower leader cell
@@ -118,26 +120,33 @@ module _ (old new : Fleet) (agent : ℕ) (same : SameBut old new agent) where
     }
 
 -- ---- where the entries of an agent are looked for
-pub near_of : (fleet : Fleet) (agent : ℕ) (entry : Conflict) → IsPair entry → Names entry agent → Stands fleet entry → (other : ℕ) × Names entry other × (other ≢ agent) × IsNear fleet agent (time_of entry) other
+-- the other agent is where the agent meets it: there at the start of the step, where the agent is then or goes, or coming to
+-- where the agent starts
+abbrev pub MetNear : Fleet → ℕ → Conflict → ℕ → Type 0
+MetNear fleet agent entry other = (cell : Point) × (((position_of fleet agent (time_of entry) ≡ Some cell) × (position_of fleet other (time_of entry) ≡ Some cell) × IsMet Beside entry agent)
+    ⊎ (((position_of fleet agent (time_of entry + 1) ≡ Some cell) × (position_of fleet other (time_of entry) ≡ Some cell) × IsMet Ahead entry agent)
+    ⊎ ((position_of fleet agent (time_of entry) ≡ Some cell) × (position_of fleet other (time_of entry + 1) ≡ Some cell) × IsMet Behind entry agent)))
+
+pub near_of : (fleet : Fleet) (agent : ℕ) (entry : Conflict) → IsPair entry → Names entry agent → Stands fleet entry → (other : ℕ) × Names entry other × (other ≢ agent) × MetNear fleet agent entry other
 near_of fleet agent (Vertex time first second cell) pair names h = elim names [
-  | inl e ↦ (second, inr refl, λ is. omega (arith, h.ordered, e, is), (cell, inl (subst (λ a. position_of fleet a time ≡ Some cell) e h.first_there, h.second_there)))
-  | inr e ↦ (first, inl refl, λ is. omega (arith, h.ordered, e, is), (cell, inl (subst (λ a. position_of fleet a time ≡ Some cell) e h.second_there, h.first_there)))
+  | inl e ↦ (second, inr refl, λ is. omega (arith, h.ordered, e, is), (cell, inl (subst (λ a. position_of fleet a time ≡ Some cell) e h.first_there, h.second_there, tt)))
+  | inr e ↦ (first, inl refl, λ is. omega (arith, h.ordered, e, is), (cell, inl (subst (λ a. position_of fleet a time ≡ Some cell) e h.second_there, h.first_there, tt)))
 ]
 near_of fleet agent (Parked time first second cell) pair names h = elim names [
-  | inl e ↦ (second, inr refl, λ is. omega (arith, h.ordered, e, is), (cell, inl (subst (λ a. position_of fleet a time ≡ Some cell) e h.first_there, h.second_there)))
-  | inr e ↦ (first, inl refl, λ is. omega (arith, h.ordered, e, is), (cell, inl (subst (λ a. position_of fleet a time ≡ Some cell) e h.second_there, h.first_there)))
+  | inl e ↦ (second, inr refl, λ is. omega (arith, h.ordered, e, is), (cell, inl (subst (λ a. position_of fleet a time ≡ Some cell) e h.first_there, h.second_there, tt)))
+  | inr e ↦ (first, inl refl, λ is. omega (arith, h.ordered, e, is), (cell, inl (subst (λ a. position_of fleet a time ≡ Some cell) e h.second_there, h.first_there, tt)))
 ]
 near_of fleet agent (Edge time first second cell next) pair names h = elim names [
-  | inl e ↦ (second, inr refl, λ is. omega (arith, h.ordered, e, is), (cell, inl (subst (λ a. position_of fleet a time ≡ Some cell) e h.first_from, h.second_from)))
-  | inr e ↦ (first, inl refl, λ is. omega (arith, h.ordered, e, is), (cell, inl (subst (λ a. position_of fleet a time ≡ Some cell) e h.second_from, h.first_from)))
+  | inl e ↦ (second, inr refl, λ is. omega (arith, h.ordered, e, is), (cell, inl (subst (λ a. position_of fleet a time ≡ Some cell) e h.first_from, h.second_from, tt)))
+  | inr e ↦ (first, inl refl, λ is. omega (arith, h.ordered, e, is), (cell, inl (subst (λ a. position_of fleet a time ≡ Some cell) e h.second_from, h.first_from, tt)))
 ]
 near_of fleet agent (Following time follower leader cell) pair names h = elim names [
-  | inl e ↦ (leader, inr refl, λ is. h.two (e ∙ sym is), (cell, inr (inl (subst (λ a. position_of fleet a (time + 1) ≡ Some cell) e h.follower_to, h.leader_there))))
-  | inr e ↦ (follower, inl refl, λ is. h.two (is ∙ sym e), (cell, inr (inr (subst (λ a. position_of fleet a time ≡ Some cell) e h.leader_there, h.follower_to))))
+  | inl e ↦ (leader, inr refl, λ is. h.two (e ∙ sym is), (cell, inr (inl (subst (λ a. position_of fleet a (time + 1) ≡ Some cell) e h.follower_to, h.leader_there, e))))
+  | inr e ↦ (follower, inl refl, λ is. h.two (is ∙ sym e), (cell, inr (inr (subst (λ a. position_of fleet a time ≡ Some cell) e h.leader_there, h.follower_to, e))))
 ]
 near_of fleet agent (Swapping time first second cell other) pair names h = elim names [
-  | inl e ↦ (second, inr refl, λ is. omega (arith, h.ordered, e, is), (other, inr (inl (subst (λ a. position_of fleet a (time + 1) ≡ Some other) e h.first_to, h.second_from))))
-  | inr e ↦ (first, inl refl, λ is. omega (arith, h.ordered, e, is), (cell, inr (inl (subst (λ a. position_of fleet a (time + 1) ≡ Some cell) e h.second_to, h.first_from))))
+  | inl e ↦ (second, inr refl, λ is. omega (arith, h.ordered, e, is), (other, inr (inl (subst (λ a. position_of fleet a (time + 1) ≡ Some other) e h.first_to, h.second_from, tt))))
+  | inr e ↦ (first, inl refl, λ is. omega (arith, h.ordered, e, is), (cell, inr (inl (subst (λ a. position_of fleet a (time + 1) ≡ Some cell) e h.second_to, h.first_from, tt))))
 ]
 near_of fleet agent (Cycle time ring) pair names h = absurd pair
 

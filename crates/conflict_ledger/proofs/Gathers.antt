@@ -1,23 +1,42 @@
 -- What a search beside one agent's track gathers.
-use Rattle.std.proofs.Common.{◌≡◌, ◌⊎◌, inl, inr, ℕ, List, Option}
+use Rattle.std.proofs.Common.{◌≡◌, ◌⊎◌, inl, inr, ℕ, ◌≤◌, ◌<◌, List, [], Contains, Option, Some, None, refl, subst, arith}
+use Rattle.std.proofs.lemmas.Bool.{cases_lt}
+use Rattle.plan_table.proofs.Order.{Contains-nil}
+use Rattle.conflict_ledger.specs.Spans.{Fits}
+use Rattle.conflict_ledger.specs.declared.spans.Span.{Span}
 use Rattle.std.specs.Prelude.{IfSome}
 use Rattle.std.proofs.lemmas.Option.{MatchOption-at_some}
-use Rattle.grid_cells.specs.Cell.{Point}
-use Rattle.plan_table.specs.Route.{Fleet}
-use Rattle.conflict_ledger.specs.ConflictList.{Stands}
-use Rattle.conflict_ledger.specs.Naming.{IsOfPair, IsPair, Names}
-use Rattle.conflict_ledger.specs.Gathering.{Offers, Gathers, IsCrossing, IsWhere}
-use Rattle.conflict_ledger.specs.declared.entries.Conflict.{Conflict}
-use Rattle.conflict_ledger.specs.declared.entries.Conflict.TheVariants.{Vertex, Parked, Edge, Following, Swapping, Cycle}
+use Rattle.plan_table.specs.Route.{Fleet, last_of}
+use Rattle.mapf_rules.specs.ConflictList.{Stands}
+use Rattle.mapf_rules.specs.Naming.{IsOfPair, IsPair, Names, time_of}
+use Rattle.conflict_ledger.specs.Gathering.{Gathers, IsAgents, AreAgents, HasTime}
+use Rattle.mapf_rules.specs.Finding.{Offers}
+use Rattle.mapf_rules.specs.declared.entries.Conflict.{Conflict}
+use Rattle.mapf_rules.specs.declared.entries.Conflict.TheVariants.{Vertex, Parked, Edge, Following, Swapping, Cycle}
 
-pub gathers_nothing : (fleet : Fleet) (agent : ℕ) (old : List Conflict) → Gathers fleet agent old old
-gathers_nothing fleet agent old = record { keeps = λ e h. h; only = λ e h. inl h }
+pub gathers_nothing : (fleet : Fleet) (agent : ℕ) (at : ℕ → Type 0) (old : List Conflict) → Gathers fleet agent at old old
+gathers_nothing fleet agent at old = record { keeps = λ e h. h; only = λ e h. inl h }
 
-pub gathers_on : (fleet : Fleet) (agent : ℕ) (old mid new : List Conflict) → Gathers fleet agent old mid → Gathers fleet agent mid new → Gathers fleet agent old new
-gathers_on fleet agent old mid new a b = record {
+pub gathers_on : (fleet : Fleet) (agent : ℕ) (at : ℕ → Type 0) (old mid new : List Conflict) → Gathers fleet agent at old mid → Gathers fleet agent at mid new → Gathers fleet agent at old new
+gathers_on fleet agent at old mid new a b = record {
   keeps = λ e h. b.keeps e (a.keeps e h);
   only = λ e h. elim (b.only e h) [ inl before ↦ a.only e before | inr is ↦ inr is ];
 }
+
+-- what is of certain times is of more
+pub gathers_at : (fleet : Fleet) (agent : ℕ) (at more : ℕ → Type 0) (old new : List Conflict) → ((t : ℕ) → at t → more t) → Gathers fleet agent at old new → Gathers fleet agent more old new
+gathers_at fleet agent at more old new into gathers = record {
+  keeps = gathers.keeps;
+  only = λ e h. elim (gathers.only e h) [ inl before ↦ inl before | inr is ↦ inr (is.0, into (time_of e) is.1) ];
+}
+
+pair_time : (entry : Conflict) (time first second : ℕ) → IsOfPair entry time first second → time_of entry ≡ time
+pair_time (Vertex x a b c) time first second of = of.0
+pair_time (Parked x a b c) time first second of = of.0
+pair_time (Edge x a b c n) time first second of = of.0
+pair_time (Following x a b c) time first second of = of.0
+pair_time (Swapping x a b c n) time first second of = of.0
+pair_time (Cycle x r) time first second of = absurd of
 
 pair_names : (entry : Conflict) (time first second agent : ℕ) → IsOfPair entry time first second → (first ≡ agent) ⊎ (second ≡ agent) → IsPair entry × Names entry agent
 pair_names (Vertex x a b c) time first second agent of who = (tt, rw (of.1, of.2) who)
@@ -28,30 +47,45 @@ pair_names (Swapping x a b c n) time first second agent of who = (tt, rw (of.1, 
 pair_names (Cycle x r) time first second agent of who = absurd of
 
 -- an entry of the pair, if it was found, is one of the agent's
-pub gathers_offer : (fleet : Fleet) (agent time first second : ℕ) (old new : List Conflict) (found : Option Conflict) → (first ≡ agent) ⊎ (second ≡ agent) → IfSome found (Stands fleet) → IfSome found (λ entry. IsOfPair entry time first second) → Offers old new found → Gathers fleet agent old new
+pub gathers_offer : (fleet : Fleet) (agent time first second : ℕ) (old new : List Conflict) (found : Option Conflict) → (first ≡ agent) ⊎ (second ≡ agent) → IfSome found (Stands fleet) → IfSome found (λ entry. IsOfPair entry time first second) → Offers old new found → Gathers fleet agent (λ t. t ≡ time) old new
 gathers_offer fleet agent time first second old new found who stands pair offers = record {
   keeps = offers.keeps;
   only = λ e h. elim (offers.only e h) [
     | inl before ↦ inl before
     | inr is ↦
-        let named = pair_names e time first second agent (MatchOption-at_some _ (λ (v : Conflict). IsOfPair v time first second) e is pair) who in
-        inr (record { stands = MatchOption-at_some _ (Stands fleet) e is stands; pair = named.0; names = named.1 })
+        let of = MatchOption-at_some _ (λ (v : Conflict). IsOfPair v time first second) e is pair in
+        let named = pair_names e time first second agent of who in
+        inr (record { stands = MatchOption-at_some _ (Stands fleet) e is stands; pair = named.0; names = named.1 }, pair_time e time first second of)
   ];
 }
 
--- the agent in front of the other, and behind it
-pub crossing_first : (fleet : Fleet) (agent other time : ℕ) (here next : Point) → IsWhere fleet agent time here next → IsCrossing fleet time agent other (record { here = here; next = next; ahead = next; back = here })
-crossing_first fleet agent other time here next at = record {
-  here = λ c a b. at.now c a;
-  next = λ c a b. at.later c a;
-  ahead = λ c a b. at.later c a;
-  back = λ c a b. at.now c a;
-}
+-- the entries gathered on the path, and after it where the span doesn't end there, are those of the span's times
+module _ (fleet : Fleet) (agent : ℕ) (span : Span) (last : ℕ) (is_last : last ≡ last_of fleet agent) (fits : Fits span (last_of fleet agent)) (none path : List Conflict) (empty : none ≡ [])
+    (gathers : Gathers fleet agent (λ t. (span.from ≤ t) × (t ≤ last)) none path) (has : (t : ℕ) → span.from ≤ t → t ≤ last → HasTime fleet agent t path) where
+  on_path : (entry : Conflict) → Contains path entry → IsAgents fleet agent entry × ((span.from ≤ time_of entry) × (time_of entry ≤ last))
+  on_path entry h = elim (gathers.only entry h) [ inl old ↦ absurd (Contains-nil entry (subst (λ (l : List Conflict). Contains l entry) empty old)) | inr is ↦ is ]
 
-pub crossing_second : (fleet : Fleet) (agent other time : ℕ) (here next : Point) → IsWhere fleet agent time here next → IsCrossing fleet time other agent (record { here = here; next = next; ahead = here; back = next })
-crossing_second fleet agent other time here next at = record {
-  here = λ c a b. at.now c b;
-  next = λ c a b. at.later c b;
-  ahead = λ c a b. at.now c b;
-  back = λ c a b. at.later c b;
-}
+  pub gathered_until : (until : ℕ) → span.until ≡ Some until → AreAgents fleet agent span path
+  gathered_until until ends =
+      let at_end : until ≡ last_of fleet agent = subst (λ (o : Option ℕ). IfSome o (λ u. u ≡ last_of fleet agent)) ends fits.ends in
+      record {
+        only = λ entry h.
+            let is = on_path entry h in
+            let low : time_of entry ≤ until = omega (arith, is.1.1) in
+            (is.0, record { not_before = is.1.0; not_after = rw ends low });
+        has = λ entry is inside.
+            let low : time_of entry ≤ until = subst (λ (o : Option ℕ). IfSome o (λ u. time_of entry ≤ u)) ends inside.not_after in
+            has (time_of entry) inside.not_before (omega arith) entry is refl;
+      }
+
+  pub gathered_all : span.until ≡ None → (all : List Conflict) → Gathers fleet agent (λ t. last ≤ t) path all → ((t : ℕ) → last < t → HasTime fleet agent t all) → AreAgents fleet agent span all
+  gathered_all endless all late has_late = record {
+    only = λ entry h. elim (late.only entry h) [
+      | inl early ↦ let is = on_path entry early in (is.0, record { not_before = is.1.0; not_after = rw endless tt })
+      | inr is ↦ (is.0, record { not_before = omega (arith, is.1, fits.begins); not_after = rw endless tt })
+    ];
+    has = λ entry is inside. elim (cases_lt last (time_of entry)) [
+      | inl after ↦ has_late (time_of entry) after entry is refl
+      | inr before ↦ late.keeps entry (has (time_of entry) inside.not_before (omega arith) entry is refl)
+    ];
+  }

@@ -1,91 +1,65 @@
 -- Where the entries of one agent are found in an index.
-use Rattle.std.proofs.Common.{◌≡◌, ◌≢◌, ◌⊎◌, inl, inr, ℕ, ◌+◌, ◌<◌, ◌≤◌, List, Some, None, Option, Contains, refl, sym, ap, subst, ◌∙◌, arith}
+use Rattle.std.proofs.Common.{◌≡◌, ◌≢◌, ◌⊎◌, inl, inr, ℕ, ◌+◌, ◌<◌, ◌≤◌, List, Some, None, Option, refl, sym, ap, subst, ◌∙◌, arith}
 use mathlib.Core.Bool.{false≢true}
-use Rattle.std.specs.Prelude.{IsSome}
+use Rattle.std.specs.Prelude.{IsSome, min, max}
 use Rattle.std.proofs.lemmas.Bool.{cases_lt}
 use Rattle.std.proofs.lemmas.Option.{same_Some}
 use Rattle.grid_cells.specs.Cell.{Point}
 use Rattle.plan_table.specs.Route.{Route, Fleet, position_of, last_of, leaves_of, Leaves}
 use Rattle.plan_table.proofs.Fleets.{changes_early, leaver_early, position_rests, position_sooner, true_or_not}
 use Rattle.where_index.specs.Index.{Contents}
-use Rattle.where_index.specs.Asked.{AreStandingAt, Passes}
+use Rattle.where_index.specs.Asked.{Passes, IsShared}
 use Rattle.where_index.specs.declared.passings.Passing.{Passing}
-use Rattle.conflict_ledger.specs.Entries.{both_end_by, IsVertex, IsParked, IsFollowing}
-use Rattle.conflict_ledger.specs.ConflictList.{Stands}
-use Rattle.conflict_ledger.specs.Naming.{IsOfTwo, IsPair, Names, time_of}
-use Rattle.conflict_ledger.specs.Change.{IsNear}
+use Rattle.mapf_rules.specs.Entries.{both_end_by, IsVertex, IsParked, IsFollowing}
+use Rattle.mapf_rules.specs.ConflictList.{Stands}
+use Rattle.mapf_rules.specs.Naming.{IsPair, Names, time_of}
 use Rattle.conflict_ledger.specs.Sight.{Shows}
-use Rattle.conflict_ledger.specs.Gathering.{IsWhere, HasTwo, HasTime, IsLateOf}
-use Rattle.conflict_ledger.specs.Finding.{KeepsAll}
+use Rattle.conflict_ledger.specs.Gathering.{IsWhere, HasMet, HasTime, IsLateOf}
+use Rattle.conflict_ledger.specs.declared.gather.Place.TheVariants.{Beside, Ahead, Behind}
+use Rattle.mapf_rules.specs.Finding.{KeepsAll}
 use Rattle.conflict_ledger.proofs.Change.{near_of, there, ends}
-use Rattle.conflict_ledger.specs.declared.entries.Conflict.{Conflict}
-use Rattle.conflict_ledger.specs.declared.entries.Conflict.TheVariants.{Vertex, Parked, Edge, Following, Swapping, Cycle}
-
--- the two agents that an entry names, in one order or the other
-both_named : (p q a b : ℕ) → (p ≡ a) ⊎ (q ≡ a) → (p ≡ b) ⊎ (q ≡ b) → b ≢ a → ((p ≡ a) × (q ≡ b)) ⊎ ((p ≡ b) × (q ≡ a))
-both_named p q a b one two apart = elim one [
-  | inl pa ↦ elim two [ inl pb ↦ absurd (apart (sym pb ∙ pa)) | inr qb ↦ inl (pa, qb) ]
-  | inr qa ↦ elim two [ inl pb ↦ inr (pb, qa) | inr qb ↦ absurd (apart (sym qb ∙ qa)) ]
-]
-
-timed : (x p q a b : ℕ) → ((p ≡ a) × (q ≡ b)) ⊎ ((p ≡ b) × (q ≡ a)) → ((x ≡ x) × (p ≡ a) × (q ≡ b)) ⊎ ((x ≡ x) × (p ≡ b) × (q ≡ a))
-timed x p q a b h = elim h [ inl w ↦ inl (refl, w.0, w.1) | inr w ↦ inr (refl, w.0, w.1) ]
-
-pub two_of : (entry : Conflict) (a b : ℕ) → IsPair entry → Names entry a → Names entry b → b ≢ a → IsOfTwo entry (time_of entry) a b
-two_of (Vertex x p q c) a b pair one two apart = timed x p q a b (both_named p q a b one two apart)
-two_of (Parked x p q c) a b pair one two apart = timed x p q a b (both_named p q a b one two apart)
-two_of (Edge x p q c n) a b pair one two apart = timed x p q a b (both_named p q a b one two apart)
-two_of (Following x p q c) a b pair one two apart = timed x p q a b (both_named p q a b one two apart)
-two_of (Swapping x p q c n) a b pair one two apart = timed x p q a b (both_named p q a b one two apart)
-two_of (Cycle x r) a b pair one two apart = absurd pair
+use Rattle.conflict_ledger.proofs.Meetings.{ordered}
+use Rattle.mapf_rules.specs.declared.entries.Conflict.{Conflict}
+use Rattle.mapf_rules.specs.declared.entries.Conflict.TheVariants.{Vertex, Parked, Edge, Following, Swapping, Cycle}
 
 module _ (index : Contents) (agent : ℕ) (route : Option Route) (fleet : Fleet) (shows : Shows index agent route fleet) where
-  base_there : (a time : ℕ) (cell : Point) → a ≢ agent → position_of fleet a time ≡ Some cell → position_of shows.base a time ≡ Some cell
+  pub base_there : (a time : ℕ) (cell : Point) → a ≢ agent → position_of fleet a time ≡ Some cell → position_of shows.base a time ≡ Some cell
   base_there a time cell apart at = there shows.base fleet agent shows.others a time apart ∙ at
 
-  -- what those near the agent at the time give are all its entries then
-  pub step_has : (time : ℕ) (here next : Point) → IsWhere fleet agent time here next → (l1 l2 l3 : List ℕ) (e1 e2 e3 : List Conflict)
-      → AreStandingAt shows.base time here l1 → AreStandingAt shows.base time next l2 → AreStandingAt shows.base (time + 1) here l3
-      → ((b : ℕ) → Contains l1 b → HasTwo fleet time agent b e1) → ((b : ℕ) → Contains l2 b → HasTwo fleet time agent b e2) → ((b : ℕ) → Contains l3 b → HasTwo fleet time agent b e3)
-      → KeepsAll e1 e2 → KeepsAll e2 e3 → HasTime fleet agent time e3
-  step_has time here next place l1 l2 l3 e1 e2 e3 s1 s2 s3 h1 h2 h3 k12 k23 entry is at =
+  -- what those whom the agent meets in the three places give are all its entries then
+  pub step_has : (time : ℕ) (here next : Point) → IsWhere fleet agent time here next → (mid entries : List Conflict)
+      → ((other : ℕ) → other ≢ agent → position_of fleet other time ≡ Some next → HasMet fleet agent time Ahead other mid) → KeepsAll mid entries
+      → ((other : ℕ) → other ≢ agent → position_of fleet other time ≡ Some here → HasMet fleet agent time Beside other entries)
+      → ((other : ℕ) → other ≢ agent → position_of fleet other (time + 1) ≡ Some here → HasMet fleet agent time Behind other entries) → HasTime fleet agent time entries
+  step_has time here next place mid entries ahead keeps beside behind entry is at =
       let near = near_of fleet agent entry is.pair is.names is.stands in
-      let other : ℕ = near.0 in
-      let of : IsOfTwo entry time agent other = subst (λ (t : ℕ). IsOfTwo entry t agent other) at (two_of entry agent other is.pair is.names near.1 near.2) in
-      let close : IsNear fleet agent time other = subst (λ (t : ℕ). IsNear fleet agent t other) at near.3 in
-      let cell : Point = close.0 in
-      elim close.1 [
-        | inl w ↦
-            let same : cell ≡ here = place.now cell w.0 in
-            let has : Contains l1 other = (s1.exact other).1 (base_there other time here near.2 (w.1 ∙ ap Some same)) in
-            k23 entry (k12 entry (h1 other has entry is.stands of))
+      elim near.3.1 [
+        | inl w ↦ beside near.0 near.2 (rw (← at) w.1 ∙ ap Some (place.now near.3.0 (rw (← at) w.0))) entry is at near.1 near.2 w.2
         | inr more ↦ elim more [
-          | inl w ↦
-              let same : cell ≡ next = place.later cell w.0 in
-              let has : Contains l2 other = (s2.exact other).1 (base_there other time next near.2 (w.1 ∙ ap Some same)) in
-              k23 entry (h2 other has entry is.stands of)
-          | inr w ↦
-              let same : cell ≡ here = place.now cell w.0 in
-              let has : Contains l3 other = (s3.exact other).1 (base_there other (time + 1) here near.2 (w.1 ∙ ap Some same)) in
-              h3 other has entry is.stands of
+          | inl w ↦ keeps entry (ahead near.0 near.2 (rw (← at) w.1 ∙ ap Some (place.later near.3.0 (rw (← at) w.0))) entry is at near.1 near.2 w.2)
+          | inr w ↦ behind near.0 near.2 (rw (← at) w.1 ∙ ap Some (place.now near.3.0 (rw (← at) w.0))) entry is at near.1 near.2 w.2
         ]
       ]
+
+  -- who is in the cell at a time shares it
+  pub shares : (other time from to : ℕ) (here : Point) → other ≢ agent → from ≤ time → time ≤ to → position_of fleet other time ≡ Some here → IsShared shows.base here from to agent
+  shares other time from to here apart low high at = record { other = other; apart = apart; time = time; not_before = low; not_after = high; there = base_there other time here apart at }
 
   -- an agent that is nowhere has no entries then
   pub nowhere_has : (time : ℕ) (entries : List Conflict) → position_of fleet agent time ≡ None → HasTime fleet agent time entries
   nowhere_has time entries none entry is at =
       let near = near_of fleet agent entry is.pair is.names is.stands in
-      let close : IsNear fleet agent time near.0 = subst (λ (t : ℕ). IsNear fleet agent t near.0) at near.3 in
-      elim close.1 [
-        | inl w ↦ absurd (gone close.0 w.0)
+      let none_then : position_of fleet agent (time_of entry) ≡ None = rw at none in
+      elim near.3.1 [
+        | inl w ↦ absurd (gone (time_of entry) near.3.0 none_then w.0)
         | inr more ↦ elim more [
-          | inl w ↦ let sooner : IsSome (position_of fleet agent time) = position_sooner fleet agent time (rw w.0 refl) in absurd (false≢true (subst IsSome none sooner))
-          | inr w ↦ absurd (gone close.0 w.0)
+          | inl w ↦ let sooner : IsSome (position_of fleet agent (time_of entry)) = position_sooner fleet agent (time_of entry) (rw w.0 refl) in absurd (false≢true (subst IsSome none_then sooner))
+          | inr w ↦ absurd (gone (time_of entry) near.3.0 none_then w.0)
         ]
       ]
     where
-      gone : (cell : Point) → position_of fleet agent time ≡ Some cell → ⊥
-      gone cell there = let wrong : None ≡ Some cell = sym none ∙ there in cc
+      gone : (t : ℕ) (cell : Point) → position_of fleet agent t ≡ None → position_of fleet agent t ≡ Some cell → ⊥
+      gone t cell none there = let wrong : None ≡ Some cell = sym none ∙ there in cc
 
   module _ (last : ℕ) (is_last : last ≡ last_of fleet agent) where
     -- after its last index the agent is where it is one step later, if anywhere
@@ -188,20 +162,15 @@ module _ (index : Contents) (agent : ℕ) (route : Option Route) (fleet : Fleet)
         by_place (Some cell) e = let wrong : None ≡ Some cell = sym none ∙ rests_there time cell late e in absurd (cc)
 
 -- what is offered of an agent at rest and one that passes are all such entries
-pub one_of_late : (fleet : Fleet) (time agent other : ℕ) (rest : Point) (v w p q f : Option Conflict)
-    → (IsVertex fleet time agent other rest → v ≡ Some (Vertex time agent other rest)) → (IsVertex fleet time other agent rest → w ≡ Some (Vertex time other agent rest))
-    → (IsParked fleet time agent other rest → p ≡ Some (Parked time agent other rest)) → (IsParked fleet time other agent rest → q ≡ Some (Parked time other agent rest))
+pub one_of_late : (fleet : Fleet) (time agent other first second : ℕ) (rest : Point) (m f : Option Conflict) → first ≡ min agent other → second ≡ max agent other
+    → (IsVertex fleet time first second rest → m ≡ Some (Vertex time first second rest)) → (IsParked fleet time first second rest → m ≡ Some (Parked time first second rest))
     → ((x : ℕ) → x + 1 ≡ time → IsFollowing fleet x other agent rest → f ≡ Some (Following x other agent rest))
-    → (entry : Conflict) → Stands fleet entry → IsLateOf entry time agent other rest → (v ≡ Some entry) ⊎ ((w ≡ Some entry) ⊎ ((p ≡ Some entry) ⊎ ((q ≡ Some entry) ⊎ (f ≡ Some entry))))
-one_of_late fleet time agent other rest v w p q f vs ws ps qs fs (Vertex x a b c) h (is_time, is_cell, who) = elim who [
-  | inl one ↦ inl (vs (rw (← is_time, ← is_cell, ← one.0, ← one.1) h) ∙ rw (is_time, is_cell, one.0, one.1) refl)
-  | inr two ↦ inr (inl (ws (rw (← is_time, ← is_cell, ← two.0, ← two.1) h) ∙ rw (is_time, is_cell, two.0, two.1) refl))
-]
-one_of_late fleet time agent other rest v w p q f vs ws ps qs fs (Parked x a b c) h (is_time, is_cell, who) = elim who [
-  | inl one ↦ inr (inr (inl (ps (rw (← is_time, ← is_cell, ← one.0, ← one.1) h) ∙ rw (is_time, is_cell, one.0, one.1) refl)))
-  | inr two ↦ inr (inr (inr (inl (qs (rw (← is_time, ← is_cell, ← two.0, ← two.1) h) ∙ rw (is_time, is_cell, two.0, two.1) refl))))
-]
-one_of_late fleet time agent other rest v w p q f vs ws ps qs fs (Edge x a b c n) h late = absurd late
-one_of_late fleet time agent other rest v w p q f vs ws ps qs fs (Following x a b c) h (is_time, is_cell, is_f, is_l) = inr (inr (inr (inr (fs x is_time (rw (← is_cell, ← is_f, ← is_l) h) ∙ rw (is_cell, is_f, is_l) refl))))
-one_of_late fleet time agent other rest v w p q f vs ws ps qs fs (Swapping x a b c n) h late = absurd late
-one_of_late fleet time agent other rest v w p q f vs ws ps qs fs (Cycle x r) h late = absurd late
+    → (entry : Conflict) → Stands fleet entry → IsLateOf entry time agent other rest → (m ≡ Some entry) ⊎ (f ≡ Some entry)
+one_of_late fleet time agent other first second rest m f least most vs ps fs (Vertex x a b c) h (is_time, is_cell, who) =
+    let same = ordered agent other a b first second least most h.ordered who in
+    inl (vs (rw (← is_time, ← is_cell, ← same.0, ← same.1) h) ∙ rw (is_time, is_cell, same.0, same.1) refl)
+one_of_late fleet time agent other first second rest m f least most vs ps fs (Parked x a b c) h (is_time, is_cell, who) =
+    let same = ordered agent other a b first second least most h.ordered who in
+    inl (ps (rw (← is_time, ← is_cell, ← same.0, ← same.1) h) ∙ rw (is_time, is_cell, same.0, same.1) refl)
+one_of_late fleet time agent other first second rest m f least most vs ps fs (Following x a b c) h (is_time, is_cell, is_f, is_l) = inr (fs x is_time (rw (← is_cell, ← is_f, ← is_l) h) ∙ rw (is_cell, is_f, is_l) refl)
+one_of_late fleet time agent other first second rest m f least most vs ps fs entry h late = absurd late

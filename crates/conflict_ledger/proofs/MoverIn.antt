@@ -12,11 +12,11 @@ use Rattle.plan_table.proofs.Fleets.{leaver_early, position_rests, true_or_not}
 use Rattle.where_index.specs.Index.{Contents}
 use Rattle.where_index.specs.Asked.{AreMovers}
 use Rattle.where_index.specs.declared.moves.Move.{Move}
-use Rattle.conflict_ledger.specs.Cycles.{MovesOut}
-use Rattle.conflict_ledger.specs.RingWalk.{IsSoleMover, MovesTo}
+use Rattle.mapf_rules.specs.Cycles.{MovesOut}
+use Rattle.mapf_rules.specs.RingWalk.{IsSoleMover, MovesTo}
 use Rattle.conflict_ledger.specs.Sight.{Shows, IsMoverIn, own_place}
 use Rattle.conflict_ledger.proofs.Change.{there}
-use Rattle.conflict_ledger.proofs.Walks.{same_or_not}
+use Rattle.mapf_rules.proofs.Walks.{same_or_not}
 
 -- the agent moves out of the cell, to that one
 pub record MovesFromTo (fleet : Fleet) (time : ℕ) (cell : Point) (agent : ℕ) (to : Point) : Type 0 where

@@ -1,28 +1,33 @@
 -- What a ledger has to put in and take out where one agent comes or goes.
-use Rattle.std.proofs.Common.{◌≡◌, ◌≢◌, ◌⊎◌, inl, inr, ℕ, ◌+◌, List, [], ◌∷◌, Contains, Bool, true, false, cond, eqb, Option, Some, None, refl, sym, ap, subst, ◌∙◌, arith}
+use Rattle.std.proofs.Common.{◌≡◌, ◌≢◌, ◌⊎◌, inl, inr, ℕ, ◌+◌, ◌≤◌, List, [], ◌∷◌, Contains, Bool, true, false, cond, eqb, Option, Some, None, refl, sym, ap, subst, ◌∙◌, arith}
 use mathlib.Core.Bool.{false≢true}
 use mathlib.Core.Logic.{◌↔◌}
 use Rattle.std.specs.Prelude.{IsSome}
-use Rattle.std.specs.Option.{option_and_then}
+use Rattle.std.specs.Option.{option_and_then, option_map, unwrap_or}
+use Rattle.plan_table.specs.Path.{last_index}
 use Rattle.std.proofs.lemmas.Option.{same_Some}
 use Rattle.grid_cells.specs.Cell.{Point}
-use Rattle.plan_table.specs.Route.{Route, Fleet, position, position_of}
+use Rattle.plan_table.specs.Route.{Route, Fleet, position, position_of, last_of}
 use Rattle.plan_table.proofs.Order.{Contains-cons_cases, Contains-cons_head, Contains-cons_tail}
 use Rattle.std.proofs.lemmas.Bool.{eqb-true, eq-eqb}
 use Rattle.where_index.specs.Index.{Contents, StandsFor, with_route}
-use Rattle.conflict_ledger.specs.ConflictList.{Stands}
-use Rattle.conflict_ledger.specs.Cycles.{MovesOut, IsRing}
-use Rattle.conflict_ledger.specs.Naming.{IsPair, Names}
+use Rattle.mapf_rules.specs.ConflictList.{Stands}
+use Rattle.mapf_rules.specs.Cycles.{MovesOut, IsRing}
+use Rattle.mapf_rules.specs.Naming.{IsPair, Names, time_of}
 use Rattle.conflict_ledger.specs.Change.{SameBut, IsFree}
 use Rattle.conflict_ledger.specs.Sight.{Shows, own_place}
-use Rattle.conflict_ledger.specs.Gathering.{IsAgents}
-use Rattle.conflict_ledger.specs.Turns.{IsLeft, IsLeftAt}
-use Rattle.conflict_ledger.specs.Kept.{HasEntries, GainsAll, LosesAll}
-use Rattle.conflict_ledger.specs.declared.entries.Conflict.{Conflict}
-use Rattle.conflict_ledger.specs.declared.entries.Conflict.TheVariants.{Vertex, Parked, Edge, Following, Swapping, Cycle}
-use Rattle.conflict_ledger.proofs.Change.{there, pairs_after_change, near_of, rings_after_arrival}
-use Rattle.conflict_ledger.proofs.RoundTrips.{ring_next, one_to}
-use Rattle.conflict_ledger.proofs.Walks.{same_or_not}
+use Rattle.conflict_ledger.specs.Gathering.{IsAgents, AreAgents}
+use Rattle.conflict_ledger.specs.Spans.{IsIn, HasEntriesIn, SameBeside}
+use Rattle.conflict_ledger.specs.declared.spans.Span.{Span}
+use Rattle.conflict_ledger.specs.Turns.{IsLeft, IsLeftAt, MayTurn, IsToldAt}
+use Rattle.conflict_ledger.specs.Kept.{GainsAll, LosesAll}
+use Rattle.mapf_rules.specs.declared.entries.Conflict.{Conflict}
+use Rattle.mapf_rules.specs.declared.entries.Conflict.TheVariants.{Vertex, Parked, Edge, Following, Swapping, Cycle}
+use Rattle.conflict_ledger.proofs.Change.{there, ends, pairs_after_change, near_of, rings_after_arrival}
+use Rattle.mapf_rules.proofs.RoundTrips.{ring_next, one_to}
+use Rattle.conflict_ledger.proofs.MoverIn.{early_mover}
+use Rattle.mapf_rules.proofs.Walks.{same_or_not}
+use Rattle.std.proofs.lemmas.Bool.{cases_lt}
 use Rattle.std.proofs.lemmas.List.{get_or_default}
 
 in_or_not : (xs : List ℕ) (a : ℕ) → Contains xs a ⊎ (Contains xs a → ⊥)
@@ -184,82 +189,166 @@ module _ (index : Contents) (agent : ℕ) (route : Option Route) (out into : Fle
         ]
       ]
 
-  module _ (broken joined pairs : List Conflict) (b_is : (e : Conflict) → Contains broken e ↔ IsLeft out route e) (j_is : (e : Conflict) → Contains joined e ↔ IsLeft into route e) (p_is : (e : Conflict) → Contains pairs e ↔ IsAgents into agent e) where
+  -- the agent has an entry where a ring is at the cell that it moves out of
+  told_broken : (time : ℕ) (ring : List ℕ) → IsLeftAt out route time ring → (e : Conflict) × IsAgents into agent e × (time_of e ≡ time) × MayTurn e agent
+  told_broken time ring left =
+      let member : ℕ = left.round.member in
+      let apart : member ≢ agent = λ is. not_there time left.cell (subst (λ (q : ℕ). position_of out q time ≡ Some left.cell) is left.round.out.from) in
+      let its : position_of into member time ≡ Some left.cell = sym (there out into agent same member time apart) ∙ left.round.out.from in
+      let own : position_of into agent time ≡ Some left.cell = place time ∙ left.from in
+      let early : time + 1 ≤ last_of into member = subst (λ (q : ℕ). time + 1 ≤ q) (ends out into agent same member apart) (early_mover out time member left.cell left.round.out) in
+      elim (cases_lt member agent) [
+        | inl lower ↦ (Vertex time member agent left.cell, record { stands = record { ordered = lower; first_there = its; second_there = own; passes = inl (omega arith) }; pair = tt; names = inr refl }, refl, tt)
+        | inr above ↦ (Vertex time agent member left.cell, record { stands = record { ordered = omega (arith, apart); first_there = own; second_there = its; passes = inl (omega arith) }; pair = tt; names = inl refl }, refl, tt)
+      ]
+
+  told_joined : (time : ℕ) (ring : List ℕ) → IsLeftAt into route time ring → (e : Conflict) × IsAgents into agent e × (time_of e ≡ time) × MayTurn e agent
+  told_joined time ring left =
+      let before = one_to into time ring left.round.round agent (joined_in time ring left) in
+      let out_of = before.1.sole.moves in (
+        Following time before.0 agent before.1.cell,
+        record {
+          stands = record {
+            two = λ is. before.1.moves (subst (λ (q : ℕ). position_of into q time ≡ Some before.1.cell) (sym is) out_of.from);
+            leader_there = out_of.from;
+            leader_goes_on = out_of.goes_on;
+            follower_to = before.1.to;
+            moves = before.1.moves;
+          };
+          pair = tt;
+          names = inr refl;
+        },
+        refl,
+        refl,
+      )
+
+  module _ (broken joined pairs : List Conflict) (span : Span) (p_are : AreAgents into agent span pairs)
+      (b_only : (e : Conflict) → Contains broken e → IsLeft out route e × IsToldAt pairs agent (time_of e)) (b_has : (e : Conflict) → IsLeft out route e → IsToldAt pairs agent (time_of e) → Contains broken e)
+      (j_only : (e : Conflict) → Contains joined e → IsLeft into route e × IsToldAt pairs agent (time_of e)) (j_has : (e : Conflict) → IsLeft into route e → IsToldAt pairs agent (time_of e) → Contains joined e) where
+    told_in : (time : ℕ) → IsToldAt pairs agent time → IsIn span time
+    told_in time told = subst (IsIn span) told.at (p_are.only told.entry told.has).1
+
+    told_by : (time : ℕ) → IsIn span time → (e : Conflict) × IsAgents into agent e × (time_of e ≡ time) × MayTurn e agent → IsToldAt pairs agent time
+    told_by time inside w = record { entry = w.0; has = p_are.has w.0 w.1 (subst (IsIn span) (sym w.2) inside); at = w.2; turn = w.3 }
+
+    told_out : (e : Conflict) → IsIn span (time_of e) → IsLeft out route e → IsToldAt pairs agent (time_of e)
+    told_out (Vertex x a b c) inside left = absurd left
+    told_out (Parked x a b c) inside left = absurd left
+    told_out (Edge x a b c n) inside left = absurd left
+    told_out (Following x a b c) inside left = absurd left
+    told_out (Swapping x a b c n) inside left = absurd left
+    told_out (Cycle x r) inside left = told_by x inside (told_broken x r left)
+
+    told_into : (e : Conflict) → IsIn span (time_of e) → IsLeft into route e → IsToldAt pairs agent (time_of e)
+    told_into (Vertex x a b c) inside left = absurd left
+    told_into (Parked x a b c) inside left = absurd left
+    told_into (Edge x a b c n) inside left = absurd left
+    told_into (Following x a b c) inside left = absurd left
+    told_into (Swapping x a b c n) inside left = absurd left
+    told_into (Cycle x r) inside left = told_by x inside (told_joined x r left)
+
+    b_is : (e : Conflict) → IsIn span (time_of e) → Contains broken e ↔ IsLeft out route e
+    b_is e inside = (λ h. (b_only e h).0, λ left. b_has e left (told_out e inside left))
+
+    j_is : (e : Conflict) → IsIn span (time_of e) → Contains joined e ↔ IsLeft into route e
+    j_is e inside = (λ h. (j_only e h).0, λ left. j_has e left (told_into e inside left))
+
+    p_is : (e : Conflict) → IsIn span (time_of e) → Contains pairs e ↔ IsAgents into agent e
+    p_is e inside = (λ h. (p_are.only e h).0, λ is. p_are.has e is inside)
+
     -- the agent comes
-    module _ (k0 k1 k2 k3 : List Conflict) (has : HasEntries k0 out) (loses : LosesAll k0 k1 broken) (gains : GainsAll k1 k2 joined) (more : GainsAll k2 k3 pairs) where
-      pair_enters : (e : Conflict) → IsPair e → (IsLeft out route e → ⊥) → (IsLeft into route e → ⊥) → Contains k3 e ↔ Stands into e
-      pair_enters e pair no_b no_j = (
+    module _ (k0 k1 k2 k3 : List Conflict) (loses : LosesAll k0 k1 broken) (gains : GainsAll k1 k2 joined) (more : GainsAll k2 k3 pairs) where
+      pair_enters : HasEntriesIn span k0 out → (e : Conflict) → IsIn span (time_of e) → IsPair e → (IsLeft out route e → ⊥) → (IsLeft into route e → ⊥) → Contains k3 e ↔ Stands into e
+      pair_enters has e inside pair no_b no_j = (
         λ h. elim ((more e).0 h) [
-          | inr p ↦ ((p_is e).0 p).stands
+          | inr p ↦ ((p_is e inside).0 p).stands
           | inl two ↦ elim ((gains e).0 two) [
-            | inr j ↦ absurd (no_j ((j_is e).0 j))
-            | inl one ↦ let stands = (has e).0 ((loses e).0 one).0 in (pairs_after_change out into agent e same pair (unnamed e pair stands)).0 stands
+            | inr j ↦ absurd (no_j ((j_is e inside).0 j))
+            | inl one ↦ let stands = (has e inside).0 ((loses e).0 one).0 in (pairs_after_change out into agent e same pair (unnamed e pair stands)).0 stands
           ]
         ],
         λ stands. elim (names_or_not e agent) [
-          | inl named ↦ (more e).1 (inr ((p_is e).1 (record { stands = stands; pair = pair; names = named })))
-          | inr free ↦ (more e).1 (inl ((gains e).1 (inl ((loses e).1 ((has e).1 ((pairs_after_change out into agent e same pair free).1 stands), λ b. no_b ((b_is e).0 b))))))
+          | inl named ↦ (more e).1 (inr ((p_is e inside).1 (record { stands = stands; pair = pair; names = named })))
+          | inr free ↦ (more e).1 (inl ((gains e).1 (inl ((loses e).1 ((has e inside).1 ((pairs_after_change out into agent e same pair free).1 stands), λ b. no_b ((b_is e inside).0 b))))))
         ],
       )
 
-      pub enter_law : HasEntries k3 into
-      enter_law (Vertex x a b c) = pair_enters (Vertex x a b c) tt (λ h. h) (λ h. h)
-      enter_law (Parked x a b c) = pair_enters (Parked x a b c) tt (λ h. h) (λ h. h)
-      enter_law (Edge x a b c n) = pair_enters (Edge x a b c n) tt (λ h. h) (λ h. h)
-      enter_law (Following x a b c) = pair_enters (Following x a b c) tt (λ h. h) (λ h. h)
-      enter_law (Swapping x a b c n) = pair_enters (Swapping x a b c n) tt (λ h. h) (λ h. h)
-      enter_law (Cycle x r) = (
+      pub enter_law : HasEntriesIn span k0 out → HasEntriesIn span k3 into
+      enter_law has (Vertex x a b c) inside = pair_enters has (Vertex x a b c) inside tt (λ h. h) (λ h. h)
+      enter_law has (Parked x a b c) inside = pair_enters has (Parked x a b c) inside tt (λ h. h) (λ h. h)
+      enter_law has (Edge x a b c n) inside = pair_enters has (Edge x a b c n) inside tt (λ h. h) (λ h. h)
+      enter_law has (Following x a b c) inside = pair_enters has (Following x a b c) inside tt (λ h. h) (λ h. h)
+      enter_law has (Swapping x a b c n) inside = pair_enters has (Swapping x a b c n) inside tt (λ h. h) (λ h. h)
+      enter_law has (Cycle x r) inside = (
         λ h. elim ((more (Cycle x r)).0 h) [
-          | inr p ↦ absurd ((p_is (Cycle x r)).0 p).pair
+          | inr p ↦ absurd ((p_is (Cycle x r) inside).0 p).pair
           | inl two ↦ elim ((gains (Cycle x r)).0 two) [
-            | inr new ↦ ((j_is (Cycle x r)).0 new).round.round
+            | inr new ↦ ((j_is (Cycle x r) inside).0 new).round.round
             | inl one ↦
                 let before = (loses (Cycle x r)).0 one in
-                stays_ring x r ((has (Cycle x r)).0 before.0) (λ left. before.1 ((b_is (Cycle x r)).1 left))
+                stays_ring x r ((has (Cycle x r) inside).0 before.0) (λ left. before.1 ((b_is (Cycle x r) inside).1 left))
           ]
         ],
         λ is. (more (Cycle x r)).1 (inl ((gains (Cycle x r)).1 (elim ((arrival x r).0 is) [
-          | inl w ↦ inr ((j_is (Cycle x r)).1 (joined_has x r is w.0))
-          | inr w ↦ inl ((loses (Cycle x r)).1 ((has (Cycle x r)).1 w.1, λ b. not_free x r w.0 ((b_is (Cycle x r)).0 b) w.2))
+          | inl w ↦ inr ((j_is (Cycle x r) inside).1 (joined_has x r is w.0))
+          | inr w ↦ inl ((loses (Cycle x r)).1 ((has (Cycle x r) inside).1 w.1, λ b. not_free x r w.0 ((b_is (Cycle x r) inside).0 b) w.2))
         ]))),
       )
 
+      pub enter_beside : SameBeside span k0 k3
+      enter_beside e beside = (
+        λ h. elim ((more e).0 h) [
+          | inr p ↦ absurd (beside (p_are.only e p).1)
+          | inl two ↦ elim ((gains e).0 two) [ inr j ↦ absurd (beside (told_in (time_of e) (j_only e j).1)) | inl one ↦ ((loses e).0 one).0 ]
+        ],
+        λ h. (more e).1 (inl ((gains e).1 (inl ((loses e).1 (h, λ b. beside (told_in (time_of e) (b_only e b).1)))))),
+      )
+
     -- the agent goes
-    module _ (k0 k1 k2 k3 : List Conflict) (has : HasEntries k0 into) (loses : LosesAll k0 k1 joined) (fewer : LosesAll k1 k2 pairs) (gains : GainsAll k2 k3 broken) where
-      pair_leaves : (e : Conflict) → IsPair e → (IsLeft out route e → ⊥) → (IsLeft into route e → ⊥) → Contains k3 e ↔ Stands out e
-      pair_leaves e pair no_b no_j = (
+    module _ (k0 k1 k2 k3 : List Conflict) (loses : LosesAll k0 k1 joined) (fewer : LosesAll k1 k2 pairs) (gains : GainsAll k2 k3 broken) where
+      pair_leaves : HasEntriesIn span k0 into → (e : Conflict) → IsIn span (time_of e) → IsPair e → (IsLeft out route e → ⊥) → (IsLeft into route e → ⊥) → Contains k3 e ↔ Stands out e
+      pair_leaves has e inside pair no_b no_j = (
         λ h. elim ((gains e).0 h) [
-          | inr b ↦ absurd (no_b ((b_is e).0 b))
+          | inr b ↦ absurd (no_b ((b_is e inside).0 b))
           | inl two ↦
               let first = (fewer e).0 two in
-              let stands = (has e).0 ((loses e).0 first.0).0 in
-              (pairs_after_change out into agent e same pair (λ named. first.1 ((p_is e).1 (record { stands = stands; pair = pair; names = named })))).1 stands
+              let stands = (has e inside).0 ((loses e).0 first.0).0 in
+              (pairs_after_change out into agent e same pair (λ named. first.1 ((p_is e inside).1 (record { stands = stands; pair = pair; names = named })))).1 stands
         ],
         λ stands.
             let free = unnamed e pair stands in
-            (gains e).1 (inl ((fewer e).1 ((loses e).1 ((has e).1 ((pairs_after_change out into agent e same pair free).0 stands), λ j. no_j ((j_is e).0 j)), λ p. free ((p_is e).0 p).names))),
+            (gains e).1 (inl ((fewer e).1 ((loses e).1 ((has e inside).1 ((pairs_after_change out into agent e same pair free).0 stands), λ j. no_j ((j_is e inside).0 j)), λ p. free ((p_is e inside).0 p).names))),
       )
 
-      pub leave_law : HasEntries k3 out
-      leave_law (Vertex x a b c) = pair_leaves (Vertex x a b c) tt (λ h. h) (λ h. h)
-      leave_law (Parked x a b c) = pair_leaves (Parked x a b c) tt (λ h. h) (λ h. h)
-      leave_law (Edge x a b c n) = pair_leaves (Edge x a b c n) tt (λ h. h) (λ h. h)
-      leave_law (Following x a b c) = pair_leaves (Following x a b c) tt (λ h. h) (λ h. h)
-      leave_law (Swapping x a b c n) = pair_leaves (Swapping x a b c n) tt (λ h. h) (λ h. h)
-      leave_law (Cycle x r) = (
+      pub leave_law : HasEntriesIn span k0 into → HasEntriesIn span k3 out
+      leave_law has (Vertex x a b c) inside = pair_leaves has (Vertex x a b c) inside tt (λ h. h) (λ h. h)
+      leave_law has (Parked x a b c) inside = pair_leaves has (Parked x a b c) inside tt (λ h. h) (λ h. h)
+      leave_law has (Edge x a b c n) inside = pair_leaves has (Edge x a b c n) inside tt (λ h. h) (λ h. h)
+      leave_law has (Following x a b c) inside = pair_leaves has (Following x a b c) inside tt (λ h. h) (λ h. h)
+      leave_law has (Swapping x a b c n) inside = pair_leaves has (Swapping x a b c n) inside tt (λ h. h) (λ h. h)
+      leave_law has (Cycle x r) inside = (
         λ h. elim ((gains (Cycle x r)).0 h) [
-          | inr b ↦ ((b_is (Cycle x r)).0 b).round.round
+          | inr b ↦ ((b_is (Cycle x r) inside).0 b).round.round
           | inl two ↦
               let before = (loses (Cycle x r)).0 ((fewer (Cycle x r)).0 two).0 in
-              let is = (has (Cycle x r)).0 before.0 in
-              goes_ring x r is (λ in_ring. before.1 ((j_is (Cycle x r)).1 (joined_has x r is in_ring)))
+              let is = (has (Cycle x r) inside).0 before.0 in
+              goes_ring x r is (λ in_ring. before.1 ((j_is (Cycle x r) inside).1 (joined_has x r is in_ring)))
         ],
         λ is. elim (left_or_not x r is) [
-          | inl left ↦ (gains (Cycle x r)).1 (inr ((b_is (Cycle x r)).1 left))
+          | inl left ↦ (gains (Cycle x r)).1 (inr ((b_is (Cycle x r) inside).1 left))
           | inr free ↦
               let none = no_member x r is in
-              (gains (Cycle x r)).1 (inl ((fewer (Cycle x r)).1 ((loses (Cycle x r)).1 ((has (Cycle x r)).1 (stays_ring x r is free), λ j. none (joined_in x r ((j_is (Cycle x r)).0 j))), λ p. absurd ((p_is (Cycle x r)).0 p).pair)))
+              (gains (Cycle x r)).1 (inl ((fewer (Cycle x r)).1 ((loses (Cycle x r)).1 ((has (Cycle x r) inside).1 (stays_ring x r is free), λ j. none (joined_in x r ((j_is (Cycle x r) inside).0 j))), λ p. absurd ((p_is (Cycle x r) inside).0 p).pair)))
         ],
+      )
+
+      pub leave_beside : SameBeside span k0 k3
+      leave_beside e beside = (
+        λ h. elim ((gains e).0 h) [
+          | inr b ↦ absurd (beside (told_in (time_of e) (b_only e b).1))
+          | inl two ↦ ((loses e).0 ((fewer e).0 two).0).0
+        ],
+        λ h. (gains e).1 (inl ((fewer e).1 ((loses e).1 (h, λ j. beside (told_in (time_of e) (j_only e j).1)), λ p. beside (p_are.only e p).1))),
       )
 
 -- ---- a fleet with another route for one agent
@@ -277,3 +366,14 @@ with_shows index fleet agent r stands = record { base = fleet; stands = stands; 
 
 pub itself_shows : (index : Contents) (fleet : Fleet) (agent : ℕ) (r : Option Route) → StandsFor index fleet → fleet agent ≡ r → Shows index agent r fleet
 itself_shows index fleet agent r stands own = record { base = fleet; stands = stands; others = λ a apart. refl; own = own }
+
+-- the last index of a route that is shown
+pub last_shown : (index : Contents) (agent : ℕ) (route : Route) (fleet : Fleet) → Shows index agent (Some route) fleet → last_index route.path ≡ last_of fleet agent
+last_shown index agent route fleet shows = sym (ap (λ (o : Option Route). unwrap_or (option_map (λ (r : Route). last_index r.path) o) 0) shows.own)
+
+-- the fleet without the agent
+pub hidden : (index : Contents) (agent : ℕ) (route : Option Route) (fleet : Fleet) → Shows index agent route fleet → Shows index agent None (with_route fleet agent None)
+hidden index agent route fleet shows = record { base = shows.base; stands = shows.stands; others = λ a apart. shows.others a apart ∙ with_other fleet agent None a apart; own = with_own fleet agent None }
+
+pub but_hidden : (fleet : Fleet) (agent : ℕ) → SameBut (with_route fleet agent None) fleet agent
+but_hidden fleet agent a apart = sym (with_other fleet agent None a apart)

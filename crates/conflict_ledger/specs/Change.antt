@@ -1,16 +1,12 @@
 -- Entries of a fleet of which one route changes.
-use Rattle.std.specs.Prelude.{◌≡◌, ◌≢◌, ◌⊎◌, ◌↔◌, ℕ, ◌+◌, List, Contains, Some, None}
+use Rattle.std.specs.Prelude.{◌≡◌, ◌≢◌, ◌⊎◌, ◌↔◌, ℕ, List, Contains, Some, None}
 use Rattle.grid_cells.specs.Cell.{Point}
 use Rattle.plan_table.specs.Route.{Fleet, position_of}
-use Rattle.conflict_ledger.specs.Cycles.{IsRing, MovesOut}
+use Rattle.mapf_rules.specs.Cycles.{IsRing, MovesOut}
 
 -- the two fleets differ at most in that agent's route
 abbrev pub SameBut : Fleet → Fleet → ℕ → Type 0
 SameBut old new agent = (a : ℕ) → a ≢ agent → old a ≡ new a
-
--- the other agent is, at the start of the step, where the agent is then or goes, or comes to where the agent starts
-abbrev pub IsNear : Fleet → ℕ → ℕ → ℕ → Type 0
-IsNear fleet agent time other = (cell : Point) × (((position_of fleet agent time ≡ Some cell) × (position_of fleet other time ≡ Some cell)) ⊎ (((position_of fleet agent (time + 1) ≡ Some cell) × (position_of fleet other time ≡ Some cell)) ⊎ ((position_of fleet agent time ≡ Some cell) × (position_of fleet other (time + 1) ≡ Some cell))))
 
 -- the ring has no member in a cell that the agent moves out of
 abbrev pub IsFree : Fleet → ℕ → List ℕ → ℕ → Type 0

@@ -1,20 +1,25 @@
 -- What a ledger keeps: entries in the order in which they are listed (this project's choice).
-use Rattle.std.specs.Prelude.{◌≡◌, ◌≢◌, ◌⊎◌, ◌↔◌, ℕ, List, Contains, AllPairs}
+use Rattle.std.specs.Prelude.{◌≡◌, ◌≢◌, ◌⊎◌, ◌↔◌, ℕ, List, Contains}
 use Rattle.std.specs.List.{count_by}
 use Rattle.plan_table.specs.Order.{ComesBefore}
 use Rattle.plan_table.specs.Route.{Fleet}
-use Rattle.conflict_ledger.specs.ConflictList.{Stands, kind_of, listing_key}
-use Rattle.conflict_ledger.specs.declared.entries.Kind.{Kind}
-use Rattle.conflict_ledger.specs.declared.entries.Conflict.{Conflict}
-use Rattle.conflict_ledger.specs.contracts.entries.KindPartialEq.TheImpl as kinds
-
--- the entries are in order, each once
-abbrev pub IsListed : List Conflict → Type 0
-IsListed entries = AllPairs (λ a b. ComesBefore (listing_key a) (listing_key b)) entries
+use Rattle.mapf_rules.specs.ConflictList.{Stands, kind_of, listing_key}
+use Rattle.mapf_rules.specs.declared.entries.Kind.{Kind}
+use Rattle.mapf_rules.specs.declared.entries.Conflict.{Conflict}
+use Rattle.mapf_rules.specs.contracts.entries.KindPartialEq.TheImpl as kinds
 
 -- how many entries are of that kind
 abbrev pub many_of : Kind → List Conflict → ℕ
 many_of kind entries = count_by (λ entry. kinds.ghosts.eq (kind_of entry) kind) entries
+
+-- an entry is of that kind
+abbrev pub HasKind : Kind → List Conflict → Type 0
+HasKind kind entries = (entry : Conflict) × Contains entries entry × (kind_of entry ≡ kind)
+
+-- no entry of that kind is listed before this one, which is of the kind
+pub record IsLeastOf (kind : Kind) (least : Conflict) : Type 0 where
+  pub kind_is : kind_of least ≡ kind
+  pub none_before : (entry : Conflict) → kind_of entry ≡ kind → ComesBefore (listing_key entry) (listing_key least) → ⊥
 
 -- new has that entry, and those of old
 abbrev pub GainsEntry : List Conflict → List Conflict → Conflict → Type 0

@@ -1,12 +1,6 @@
-pub mod Entries
-pub mod Cycles
-pub mod ConflictList
-pub mod Naming
 pub mod Change
 pub mod Kept
 pub mod Sight
+pub mod Spans
 pub mod Gathering
 pub mod Turns
-pub mod Laws
-pub mod RingWalk
-pub mod Finding

@@ -1,11 +1,12 @@
 -- Rings at the cells that one agent moves out of: words for the ledger's own steps (this project's choice).
-use Rattle.std.specs.Prelude.{◌≡◌, ◌≢◌, ℕ, ◌+◌, Option, Some, List}
+use Rattle.std.specs.Prelude.{◌≡◌, ◌≢◌, ℕ, ◌+◌, Option, Some, List, Contains}
 use Rattle.grid_cells.specs.Cell.{Point}
 use Rattle.plan_table.specs.Route.{Route, Fleet}
-use Rattle.conflict_ledger.specs.Cycles.{IsRingAt}
+use Rattle.mapf_rules.specs.Cycles.{IsRingAt}
+use Rattle.mapf_rules.specs.Naming.{time_of}
 use Rattle.conflict_ledger.specs.Sight.{own_place}
-use Rattle.conflict_ledger.specs.declared.entries.Conflict.{Conflict}
-use Rattle.conflict_ledger.specs.declared.entries.Conflict.TheVariants.{Vertex, Parked, Edge, Following, Swapping, Cycle}
+use Rattle.mapf_rules.specs.declared.entries.Conflict.{Conflict}
+use Rattle.mapf_rules.specs.declared.entries.Conflict.TheVariants.{Vertex, Parked, Edge, Following, Swapping, Cycle}
 
 -- the route moves in the step, and the ring of the fleet has a member that moves out of the cell that it leaves
 pub record IsLeftAt (fleet : Fleet) (route : Option Route) (time : ℕ) (ring : List ℕ) : Type 0 where
@@ -24,3 +25,20 @@ IsLeft fleet route (Edge time first second cell next) = ⊥
 IsLeft fleet route (Following time follower leader cell) = ⊥
 IsLeft fleet route (Swapping time first second cell other) = ⊥
 IsLeft fleet route (Cycle time ring) = IsLeftAt fleet route time ring
+
+-- the entry is a meeting before the later path's end, or of one who follows the agent: where the agent's moves make or break
+-- a ring, there is one
+abbrev pub MayTurn : Conflict → ℕ → Type 0
+MayTurn (Vertex time first second cell) agent = Unit {0}
+MayTurn (Parked time first second cell) agent = ⊥
+MayTurn (Edge time first second cell next) agent = ⊥
+MayTurn (Following time follower leader cell) agent = leader ≡ agent
+MayTurn (Swapping time first second cell other) agent = ⊥
+MayTurn (Cycle time ring) agent = ⊥
+
+-- one of the entries is such a one at that time
+pub record IsToldAt (entries : List Conflict) (agent time : ℕ) : Type 0 where
+  pub entry : Conflict
+  pub has : Contains entries entry
+  pub at : time_of entry ≡ time
+  pub turn : MayTurn entry agent

@@ -1,41 +1,34 @@
-ghost use Rattle.std.specs.Prelude.{◌≡◌, ◌⊎◌, ◌↔◌, ℕ, ◌+◌, ◌-◌, ◌<◌, ◌≤◌, Some, OnOk, IfOk, IfSome, Contains};
+ghost use Rattle.std.specs.Prelude.{◌≡◌, ◌⊎◌, ◌↔◌, ℕ, ◌+◌, ◌-◌, ◌<◌, ◌≤◌, ◌≢◌, min, max, Some, OnOk, IfOk, IfSome, Contains};
 ghost use Rattle.std.specs.Option.{option_map};
 ghost use Rattle.grid_cells.specs.Cell.{Point};
-ghost use Rattle.plan_table.specs.Route.{Fleet, last_of, route_of};
-ghost use Rattle.conflict_ledger.specs.declared.entries.Conflict.{Conflict};
-ghost use Rattle.conflict_ledger.specs.Entries.{IsVertex, IsParked, IsEdge, IsFollowing, IsSwapping};
-ghost use Rattle.conflict_ledger.specs.ConflictList.{Stands};
-ghost use Rattle.conflict_ledger.specs.Naming.{IsOfPair};
-ghost use Rattle.conflict_ledger.specs.Finding.{HasPair};
+ghost use Rattle.plan_table.specs.Route.{Fleet, position_of, last_of, route_of};
+ghost use Rattle.mapf_rules.specs.declared.entries.Conflict.{Conflict};
+ghost use Rattle.conflict_ledger.specs.declared.gather.Place.{Place};
+ghost use Rattle.mapf_rules.specs.Entries.{IsVertex, IsParked, IsEdge, IsFollowing, IsSwapping};
+ghost use Rattle.mapf_rules.specs.ConflictList.{Stands};
+ghost use Rattle.mapf_rules.specs.Naming.{IsOfPair};
 ghost use Rattle.conflict_ledger.specs.Sight.{Shows};
-ghost use Rattle.conflict_ledger.specs.Gathering.{Offers, Gathers, IsWhere, IsAgents, IsCrossing, HasTime, HasLate, HasTwo};
+ghost use Rattle.conflict_ledger.specs.Gathering.{Gathers, AreAgents, IsWhere, HasMet, HasTime, HasLate};
+ghost use Rattle.mapf_rules.specs.Finding.{Offers};
+ghost use Rattle.conflict_ledger.specs.Spans.{Fits};
 
-use crate::entries::Conflict;
 use crate::sight::Sight;
+use crate::spans::Span;
 use grid_cells::{Agent, Cell, OutOfMemory, Step};
+use mapf_rules::{Conflict, offer};
 use std::alloc::Global;
 
-// The cells in which two agents can meet in a step: at its start, at its end, and those into which
-// the first comes where the second was, and out of which it goes where the second comes.
+// Where the agent meets the other one of an entry: beside it as the step begins, ahead of it then, or
+// behind it as the step ends.
 #[derive(Clone, Copy)]
-pub struct Crossing {
-    pub here: Cell,
-    pub next: Cell,
-    pub ahead: Cell,
-    pub back: Cell,
+pub enum Place {
+    Beside,
+    Ahead,
+    Behind,
 }
 
-// Adds the entry that was found, if any.
-pub(crate) fn offer(entries: &mut Vec<Conflict>, found: Option<Conflict>) -> Result<(), OutOfMemory>
-    ensures { OnOk result (Offers entries.old.items entries.new.items found) }
-{
-    if let Some(entry) = found {
-        entries.push(entry)?;
-    }
-    Ok(())
-}
-
-fn vertex_of(
+// The entry of two agents that meet in the cell at the time: Vertex or Parked, and never both.
+fn meeting_of(
     sight: &Sight<'_>,
     time: u32,
     first: Agent,
@@ -44,31 +37,17 @@ fn vertex_of(
 ) -> Option<Conflict>
     ensures stands { (fleet : Fleet) → Shows sight.now.index.now sight.now.agent (option_map route_of sight.now.shown) fleet → IfSome result (Stands fleet) }
     ensures pair { IfSome result (λ entry. IsOfPair entry time first second) }
-    ensures found { (fleet : Fleet) → Shows sight.now.index.now sight.now.agent (option_map route_of sight.now.shown) fleet → IsVertex fleet time first second cell → result ≡ Some (Conflict.Vertex time first second cell) }
+    ensures vertex { (fleet : Fleet) → Shows sight.now.index.now sight.now.agent (option_map route_of sight.now.shown) fleet → IsVertex fleet time first second cell → result ≡ Some (Conflict.Vertex time first second cell) }
+    ensures parked { (fleet : Fleet) → Shows sight.now.index.now sight.now.agent (option_map route_of sight.now.shown) fleet → IsParked fleet time first second cell → result ≡ Some (Conflict.Parked time first second cell) }
 {
     if sight.vertex(time, first, second, cell) {
-        Some(Conflict::Vertex {
+        return Some(Conflict::Vertex {
             time: Step::new(time),
             first,
             second,
             cell,
-        })
-    } else {
-        None
+        });
     }
-}
-
-fn parked_of(
-    sight: &Sight<'_>,
-    time: u32,
-    first: Agent,
-    second: Agent,
-    cell: Cell,
-) -> Option<Conflict>
-    ensures stands { (fleet : Fleet) → Shows sight.now.index.now sight.now.agent (option_map route_of sight.now.shown) fleet → IfSome result (Stands fleet) }
-    ensures pair { IfSome result (λ entry. IsOfPair entry time first second) }
-    ensures found { (fleet : Fleet) → Shows sight.now.index.now sight.now.agent (option_map route_of sight.now.shown) fleet → IsParked fleet time first second cell → result ≡ Some (Conflict.Parked time first second cell) }
-{
     if sight.parked(time, first, second, cell) {
         Some(Conflict::Parked {
             time: Step::new(time),
@@ -157,97 +136,137 @@ fn swapping_of(
     }
 }
 
-// Adds the entries of the two agents in that step, as written in this order.
-fn offer_pair(
-    sight: &Sight<'_>,
-    entries: &mut Vec<Conflict>,
-    time: u32,
-    first: Agent,
-    second: Agent,
-    cells: &Crossing,
-) -> Result<(), OutOfMemory>
-    requires { time < u32.MAX }
-    ensures gathers { OnOk result ((fleet : Fleet) → Shows sight.now.index.now sight.now.agent (option_map route_of sight.now.shown) fleet → (first ≡ sight.now.agent) ⊎ (second ≡ sight.now.agent) → Gathers fleet sight.now.agent entries.old.items entries.new.items) }
-    ensures has { OnOk result ((fleet : Fleet) → Shows sight.now.index.now sight.now.agent (option_map route_of sight.now.shown) fleet → IsCrossing fleet time first second cells.now → HasPair fleet time first second entries.new.items) }
+// The lesser and the greater of two agents.
+fn in_order(one: Agent, other: Agent) -> (Agent, Agent)
+    ensures { (result.0 ≡ min one other) × (result.1 ≡ max one other) }
 {
-    offer(entries, vertex_of(sight, time, first, second, cells.here))?;
-    offer(entries, parked_of(sight, time, first, second, cells.here))?;
-    offer(
-        entries,
-        edge_of(sight, time, first, second, cells.here, cells.next),
-    )?;
-    offer(
-        entries,
-        following_of(sight, time, first, second, cells.ahead),
-    )?;
-    offer(
-        entries,
-        swapping_of(sight, time, first, second, cells.back, cells.ahead),
-    )?;
-    Ok(())
+    if one < other {
+        (one, other)
+    } else {
+        (other, one)
+    }
 }
 
-// Adds the entries of the agent and another one in that step, in which the agent is here and then
-// in the next cell.
-fn offer_two(
+// Adds the entries that the agent has in that step with the other one where they meet in that place.
+fn offer_met(
     sight: &Sight<'_>,
     entries: &mut Vec<Conflict>,
     time: u32,
+    place: Place,
     other: Agent,
     here: Cell,
     next: Cell,
 ) -> Result<(), OutOfMemory>
     requires { time < u32.MAX }
-    ensures gathers { OnOk result ((fleet : Fleet) → Shows sight.now.index.now sight.now.agent (option_map route_of sight.now.shown) fleet → Gathers fleet sight.now.agent entries.old.items entries.new.items) }
-    ensures has { OnOk result ((fleet : Fleet) → Shows sight.now.index.now sight.now.agent (option_map route_of sight.now.shown) fleet → IsWhere fleet sight.now.agent time here next → HasTwo fleet time sight.now.agent other entries.new.items) }
+    ensures gathers { OnOk result ((fleet : Fleet) → Shows sight.now.index.now sight.now.agent (option_map route_of sight.now.shown) fleet → Gathers fleet sight.now.agent (λ t. t ≡ time) entries.old.items entries.new.items) }
+    ensures has { OnOk result ((fleet : Fleet) → Shows sight.now.index.now sight.now.agent (option_map route_of sight.now.shown) fleet → IsWhere fleet sight.now.agent time here next → HasMet fleet sight.now.agent time place other entries.new.items) }
 {
-    let (ahead, back) = (next, here);
-    offer_pair(
-        sight,
-        entries,
-        time,
-        sight.agent,
-        other,
-        &Crossing {
-            here,
-            next,
-            ahead,
-            back,
-        },
-    )?;
-    let (ahead, back) = (here, next);
-    offer_pair(
-        sight,
-        entries,
-        time,
-        other,
-        sight.agent,
-        &Crossing {
-            here,
-            next,
-            ahead,
-            back,
-        },
-    )?;
-    Ok(())
+    let agent = sight.agent;
+    match place {
+        Place::Beside => {
+            let (first, second) = in_order(agent, other);
+            offer(entries, meeting_of(sight, time, first, second, here))?;
+            offer(entries, edge_of(sight, time, first, second, here, next))?;
+            Ok(())
+        }
+        Place::Ahead => {
+            offer(entries, following_of(sight, time, agent, other, next))?;
+            offer(entries, swapping_of(sight, time, agent, other, here, next))?;
+            offer(entries, swapping_of(sight, time, other, agent, next, here))?;
+            Ok(())
+        }
+        Place::Behind => {
+            offer(entries, following_of(sight, time, other, agent, here))?;
+            Ok(())
+        }
+    }
 }
 
-// Adds the entries of the agent and each of the others in that step.
+// Adds the entries that the agent has in that step with each of the others met in that place.
 fn offer_all(
     sight: &Sight<'_>,
     entries: &mut Vec<Conflict>,
     time: u32,
+    place: Place,
     others: &[Agent],
     here: Cell,
     next: Cell,
 ) -> Result<(), OutOfMemory>
     requires { time < u32.MAX }
-    ensures gathers { OnOk result ((fleet : Fleet) → Shows sight.now.index.now sight.now.agent (option_map route_of sight.now.shown) fleet → Gathers fleet sight.now.agent entries.old.items entries.new.items) }
-    ensures has { OnOk result ((fleet : Fleet) → Shows sight.now.index.now sight.now.agent (option_map route_of sight.now.shown) fleet → IsWhere fleet sight.now.agent time here next → (other : ℕ) → Contains others.now other → HasTwo fleet time sight.now.agent other entries.new.items) }
+    ensures gathers { OnOk result ((fleet : Fleet) → Shows sight.now.index.now sight.now.agent (option_map route_of sight.now.shown) fleet → Gathers fleet sight.now.agent (λ t. t ≡ time) entries.old.items entries.new.items) }
+    ensures has { OnOk result ((fleet : Fleet) → Shows sight.now.index.now sight.now.agent (option_map route_of sight.now.shown) fleet → IsWhere fleet sight.now.agent time here next → (other : ℕ) → Contains others.now other → HasMet fleet sight.now.agent time place other entries.new.items) }
 {
     for other in others {
-        offer_two(sight, entries, time, *other, here, next)?;
+        offer_met(sight, entries, time, place, *other, here, next)?;
     }
+    Ok(())
+}
+
+// Adds the entries of the agent, which moves in that step, with those ahead of it.
+fn gather_ahead(
+    sight: &Sight<'_>,
+    entries: &mut Vec<Conflict>,
+    time: u32,
+    here: Cell,
+    next: Cell,
+) -> Result<(), OutOfMemory>
+    requires { time < u32.MAX }
+    ensures gathers { OnOk result ((fleet : Fleet) → Shows sight.now.index.now sight.now.agent (option_map route_of sight.now.shown) fleet → Gathers fleet sight.now.agent (λ t. t ≡ time) entries.old.items entries.new.items) }
+    ensures has { OnOk result ((fleet : Fleet) → Shows sight.now.index.now sight.now.agent (option_map route_of sight.now.shown) fleet → IsWhere fleet sight.now.agent time here next → (other : ℕ) → other ≢ sight.now.agent → position_of fleet other time ≡ Some next → HasMet fleet sight.now.agent time Place.Ahead other entries.new.items) }
+{
+    if here == next {
+        return Ok(());
+    }
+    let ahead = sight.index.standing_at(Step::new(time), next)?;
+    offer_all(
+        sight,
+        entries,
+        time,
+        Place::Ahead,
+        ahead.items(),
+        here,
+        next,
+    )?;
+    Ok(())
+}
+
+// Adds the entries of the agent in that step with those beside it and behind it.
+fn gather_here(
+    sight: &Sight<'_>,
+    entries: &mut Vec<Conflict>,
+    time: u32,
+    here: Cell,
+    next: Cell,
+) -> Result<(), OutOfMemory>
+    requires { time < u32.MAX }
+    ensures gathers { OnOk result ((fleet : Fleet) → Shows sight.now.index.now sight.now.agent (option_map route_of sight.now.shown) fleet → Gathers fleet sight.now.agent (λ t. t ≡ time) entries.old.items entries.new.items) }
+    ensures beside { OnOk result ((fleet : Fleet) → Shows sight.now.index.now sight.now.agent (option_map route_of sight.now.shown) fleet → IsWhere fleet sight.now.agent time here next → (other : ℕ) → other ≢ sight.now.agent → position_of fleet other time ≡ Some here → HasMet fleet sight.now.agent time Place.Beside other entries.new.items) }
+    ensures behind { OnOk result ((fleet : Fleet) → Shows sight.now.index.now sight.now.agent (option_map route_of sight.now.shown) fleet → IsWhere fleet sight.now.agent time here next → (other : ℕ) → other ≢ sight.now.agent → position_of fleet other (time + 1) ≡ Some here → HasMet fleet sight.now.agent time Place.Behind other entries.new.items) }
+{
+    let (now, later) = (Step::new(time), Step::new(time + 1));
+    if !sight.index.is_shared(here, now, later, sight.agent) {
+        return Ok(());
+    }
+    let beside = sight.index.standing_at(now, here)?;
+    offer_all(
+        sight,
+        entries,
+        time,
+        Place::Beside,
+        beside.items(),
+        here,
+        next,
+    )?;
+    let behind = sight.index.standing_at(later, here)?;
+    offer_all(
+        sight,
+        entries,
+        time,
+        Place::Behind,
+        behind.items(),
+        here,
+        next,
+    )?;
     Ok(())
 }
 
@@ -260,22 +279,18 @@ fn gather_step(
     next: Cell,
 ) -> Result<(), OutOfMemory>
     requires { time < u32.MAX }
-    ensures gathers { OnOk result ((fleet : Fleet) → Shows sight.now.index.now sight.now.agent (option_map route_of sight.now.shown) fleet → Gathers fleet sight.now.agent entries.old.items entries.new.items) }
+    ensures gathers { OnOk result ((fleet : Fleet) → Shows sight.now.index.now sight.now.agent (option_map route_of sight.now.shown) fleet → Gathers fleet sight.now.agent (λ t. t ≡ time) entries.old.items entries.new.items) }
     ensures has { OnOk result ((fleet : Fleet) → Shows sight.now.index.now sight.now.agent (option_map route_of sight.now.shown) fleet → IsWhere fleet sight.now.agent time here next → HasTime fleet sight.now.agent time entries.new.items) }
 {
-    let beside = sight.index.standing_at(Step::new(time), here)?;
-    offer_all(sight, entries, time, beside.items(), here, next)?;
-    let ahead = sight.index.standing_at(Step::new(time), next)?;
-    offer_all(sight, entries, time, ahead.items(), here, next)?;
-    let behind = sight.index.standing_at(Step::new(time + 1), here)?;
-    offer_all(sight, entries, time, behind.items(), here, next)?;
+    gather_ahead(sight, entries, time, here, next)?;
+    gather_here(sight, entries, time, here, next)?;
     Ok(())
 }
 
 // Adds the entries of the agent in the step that begins at the time.
 fn gather_at(sight: &Sight<'_>, entries: &mut Vec<Conflict>, time: u32) -> Result<(), OutOfMemory>
     requires { time < u32.MAX }
-    ensures gathers { OnOk result ((fleet : Fleet) → Shows sight.now.index.now sight.now.agent (option_map route_of sight.now.shown) fleet → Gathers fleet sight.now.agent entries.old.items entries.new.items) }
+    ensures gathers { OnOk result ((fleet : Fleet) → Shows sight.now.index.now sight.now.agent (option_map route_of sight.now.shown) fleet → Gathers fleet sight.now.agent (λ t. t ≡ time) entries.old.items entries.new.items) }
     ensures has { OnOk result ((fleet : Fleet) → Shows sight.now.index.now sight.now.agent (option_map route_of sight.now.shown) fleet → HasTime fleet sight.now.agent time entries.new.items) }
 {
     let Some(here) = sight.own(time) else {
@@ -285,13 +300,18 @@ fn gather_at(sight: &Sight<'_>, entries: &mut Vec<Conflict>, time: u32) -> Resul
     gather_step(sight, entries, time, here, next)
 }
 
-// Adds the entries of the agent up to the last index of its path.
-fn gather_path(sight: &Sight<'_>, entries: &mut Vec<Conflict>, last: u32) -> Result<(), OutOfMemory>
+// Adds the entries of the agent from one time on, up to the last index of its path.
+fn gather_path(
+    sight: &Sight<'_>,
+    entries: &mut Vec<Conflict>,
+    from: u32,
+    last: u32,
+) -> Result<(), OutOfMemory>
     requires { last < u32.MAX }
-    ensures gathers { OnOk result ((fleet : Fleet) → Shows sight.now.index.now sight.now.agent (option_map route_of sight.now.shown) fleet → Gathers fleet sight.now.agent entries.old.items entries.new.items) }
-    ensures has { OnOk result ((fleet : Fleet) → Shows sight.now.index.now sight.now.agent (option_map route_of sight.now.shown) fleet → (time : ℕ) → time ≤ last → HasTime fleet sight.now.agent time entries.new.items) }
+    ensures gathers { OnOk result ((fleet : Fleet) → Shows sight.now.index.now sight.now.agent (option_map route_of sight.now.shown) fleet → from ≤ last → Gathers fleet sight.now.agent (λ t. (from ≤ t) × (t ≤ last)) entries.old.items entries.new.items) }
+    ensures has { OnOk result ((fleet : Fleet) → Shows sight.now.index.now sight.now.agent (option_map route_of sight.now.shown) fleet → (time : ℕ) → from ≤ time → time ≤ last → HasTime fleet sight.now.agent time entries.new.items) }
 {
-    for time in 0..last + 1 {
+    for time in from..last + 1 {
         gather_at(sight, entries, time)?;
     }
     Ok(())
@@ -305,13 +325,11 @@ fn offer_passing(
     other: Agent,
     rest: Cell,
 ) -> Result<(), OutOfMemory>
-    ensures gathers { OnOk result ((fleet : Fleet) → Shows sight.now.index.now sight.now.agent (option_map route_of sight.now.shown) fleet → Gathers fleet sight.now.agent entries.old.items entries.new.items) }
+    ensures gathers { OnOk result ((fleet : Fleet) → Shows sight.now.index.now sight.now.agent (option_map route_of sight.now.shown) fleet → Gathers fleet sight.now.agent (λ t. time ≤ t + 1) entries.old.items entries.new.items) }
     ensures has { OnOk result ((fleet : Fleet) → Shows sight.now.index.now sight.now.agent (option_map route_of sight.now.shown) fleet → HasLate fleet time sight.now.agent other rest entries.new.items) }
 {
-    offer(entries, vertex_of(sight, time, sight.agent, other, rest))?;
-    offer(entries, vertex_of(sight, time, other, sight.agent, rest))?;
-    offer(entries, parked_of(sight, time, sight.agent, other, rest))?;
-    offer(entries, parked_of(sight, time, other, sight.agent, rest))?;
+    let (first, second) = in_order(sight.agent, other);
+    offer(entries, meeting_of(sight, time, first, second, rest))?;
     if time > 0 {
         offer(
             entries,
@@ -324,7 +342,7 @@ fn offer_passing(
 // Adds the entries of the agent after the last index of its path.
 fn gather_late(sight: &Sight<'_>, entries: &mut Vec<Conflict>, last: u32) -> Result<(), OutOfMemory>
     requires { last < u32.MAX }
-    ensures gathers { OnOk result ((fleet : Fleet) → Shows sight.now.index.now sight.now.agent (option_map route_of sight.now.shown) fleet → Gathers fleet sight.now.agent entries.old.items entries.new.items) }
+    ensures gathers { OnOk result ((fleet : Fleet) → Shows sight.now.index.now sight.now.agent (option_map route_of sight.now.shown) fleet → Gathers fleet sight.now.agent (λ t. last ≤ t) entries.old.items entries.new.items) }
     ensures has { OnOk result ((fleet : Fleet) → Shows sight.now.index.now sight.now.agent (option_map route_of sight.now.shown) fleet → last ≡ last_of fleet sight.now.agent → (time : ℕ) → last < time → HasTime fleet sight.now.agent time entries.new.items) }
 {
     let Some(rest) = sight.own(last + 1) else {
@@ -337,13 +355,21 @@ fn gather_late(sight: &Sight<'_>, entries: &mut Vec<Conflict>, last: u32) -> Res
     Ok(())
 }
 
-/// The entries of two agents that name the agent of the sight. One may come more than once.
-pub(crate) fn gather(alloc: Global, sight: &Sight<'_>) -> Result<Vec<Conflict>, OutOfMemory>
-    ensures { IfOk result (λ entries. (fleet : Fleet) → Shows sight.now.index.now sight.now.agent (option_map route_of sight.now.shown) fleet → (entry : Conflict) → Contains entries.items entry ↔ IsAgents fleet sight.now.agent entry) }
+/// The entries of two agents that name the agent of the sight, at the span's times. One may come more
+/// than once.
+pub(crate) fn gather(
+    alloc: Global,
+    sight: &Sight<'_>,
+    span: Span,
+) -> Result<Vec<Conflict>, OutOfMemory>
+    ensures { IfOk result (λ entries. (fleet : Fleet) → Shows sight.now.index.now sight.now.agent (option_map route_of sight.now.shown) fleet → Fits span (last_of fleet sight.now.agent) → AreAgents fleet sight.now.agent span entries.items) }
 {
     let mut entries = Vec::new(alloc);
     let last = sight.own_last();
-    gather_path(sight, &mut entries, last)?;
+    gather_path(sight, &mut entries, span.from, last)?;
+    if let Some(_until) = span.until {
+        return Ok(entries);
+    }
     gather_late(sight, &mut entries, last)?;
     Ok(entries)
 }

@@ -1,8 +1,10 @@
-ghost use Rattle.std.specs.Prelude.{◌≡◌, [], IfOk, OnOk};
-ghost use Rattle.conflict_ledger.specs.Kept.{IsListed, GainsEntry, LosesEntry, GainsAll, LosesAll, many_of};
+ghost use Rattle.std.specs.Prelude.{◌≡◌, ◌↔◌, [], IfOk, OnOk, IsTrue};
+ghost use Rattle.conflict_ledger.specs.Kept.{GainsEntry, LosesEntry, GainsAll, LosesAll, HasKind, many_of};
+ghost use Rattle.mapf_rules.specs.ConflictList.{IsListed};
 
-use crate::entries::{Conflict, Kind};
+use crate::least::least_of;
 use grid_cells::{List, OutOfMemory};
+use mapf_rules::{Conflict, Kind};
 use std::alloc::Global;
 use std::collections::BTreeSet;
 use std::marker::Model;
@@ -15,7 +17,7 @@ pub struct KeptEntries {
 
 impl Model for KeptEntries {
     ghost use Rattle.std.specs.Prelude.{List};
-    ghost use Rattle.conflict_ledger.specs.declared.entries.Conflict.{Conflict};
+    ghost use Rattle.mapf_rules.specs.declared.entries.Conflict.{Conflict};
 
     ghost Value = { List Conflict };
 
@@ -75,6 +77,17 @@ impl KeptEntries {
             .iter()
             .filter(|entry| entry.kind() == kind)
             .count() as u64
+    }
+
+    /// Whether there is an entry of that kind. No other entry is looked at.
+    pub fn has(&self, alloc: Global, kind: Kind) -> bool
+        ensures has { IsTrue result ↔ HasKind kind self.now }
+        ensures once { IsListed self.now }
+    {
+        match self.entries.range(least_of(alloc, kind)..).next() {
+            Some(entry) => entry.kind() == kind,
+            None => false,
+        }
     }
 
     /// The entries, in their order.

@@ -1,20 +1,23 @@
-ghost use Rattle.std.specs.Prelude.{◌≡◌, ◌↔◌, ℕ, List, Some, None, IfOk};
-ghost use Rattle.plan_table.specs.Route.{Fleet, route_of};
+ghost use Rattle.std.specs.Prelude.{◌≡◌, ◌↔◌, ℕ, ◌<◌, List, Some, None, IfOk, IsTrue};
+ghost use Rattle.plan_table.specs.Path.{last_index};
+ghost use Rattle.plan_table.specs.Route.{Fleet, position, route_of};
 ghost use Rattle.where_index.specs.Index.{StandsFor, with_route};
 ghost use Rattle.conflict_ledger.specs.Change.{SameBut};
-ghost use Rattle.conflict_ledger.specs.ConflictList.{AreConflicts};
-ghost use Rattle.conflict_ledger.specs.Cycles.{IsRingAt};
-ghost use Rattle.conflict_ledger.specs.Kept.{HasEntries, many_of};
+ghost use Rattle.mapf_rules.specs.ConflictList.{AreConflicts};
+ghost use Rattle.mapf_rules.specs.Cycles.{IsRingAt};
+ghost use Rattle.conflict_ledger.specs.Kept.{HasEntries, HasKind, many_of};
+ghost use Rattle.mapf_rules.specs.ConflictList.{IsListed};
 ghost use Rattle.conflict_ledger.specs.Sight.{Shows};
+ghost use Rattle.conflict_ledger.specs.Spans.{Fits, HasEntriesIn, SameBeside};
 
-use crate::entries::{Conflict, Kind, Ring};
 use crate::gather::gather;
 use crate::kept::KeptEntries;
 use crate::movers::Whole;
-use crate::rings::ring_out_of;
 use crate::sight::Sight;
+use crate::spans::Span;
 use crate::turns::rings_left;
 use grid_cells::{Agent, Cell, List, OutOfMemory, Step};
+use mapf_rules::{Conflict, Kind, Ring, ring_out_of};
 use plan_table::Track;
 use std::alloc::Global;
 use std::marker::Model;
@@ -29,7 +32,7 @@ pub struct ConflictLedger {
 
 impl Model for ConflictLedger {
     ghost use Rattle.std.specs.Prelude.{List};
-    ghost use Rattle.conflict_ledger.specs.declared.entries.Conflict.{Conflict};
+    ghost use Rattle.mapf_rules.specs.declared.entries.Conflict.{Conflict};
 
     ghost Value = { List Conflict };
 
@@ -61,7 +64,7 @@ impl ConflictLedger {
     ) -> Result<ConflictLedger, OutOfMemory>
         ensures { IfOk result (λ ledger. (fleet : Fleet) → StandsFor index.now fleet → fleet agent ≡ Some (route_of track.entry) → HasEntries self (with_route fleet agent None) → HasEntries ledger fleet) }
     {
-        self.enter(agent, track, index)
+        self.enter(agent, track, Span::whole(), index)
     }
 
     /// Lets go an agent with that track, which the index no longer has. Before, the ledger has the
@@ -78,12 +81,13 @@ impl ConflictLedger {
     ) -> Result<ConflictLedger, OutOfMemory>
         ensures { IfOk result (λ ledger. (fleet : Fleet) → StandsFor index.now fleet → fleet agent ≡ None → HasEntries self (with_route fleet agent (Some (route_of track.entry))) → HasEntries ledger fleet) }
     {
-        self.leave(agent, track, index)
+        self.leave(agent, track, Span::whole(), index)
     }
 
-    /// Gives an agent that had the old track the new one, which the index has. Before, the ledger has
-    /// the entries of the same tracks with the old one; after, those of the index. All entries of the
-    /// path are mended, since those before `since` change too where its end does.
+    /// Gives an agent that had the old track the new one, which the index has. Below `since` the
+    /// positions on the two tracks are equal. Before, the ledger has the entries of the same tracks
+    /// with the old one; after, those of the index. The cost follows the times that tell the tracks
+    /// apart.
     ///
     /// # Errors
     ///
@@ -93,13 +97,15 @@ impl ConflictLedger {
         agent: Agent,
         old: Track<'_>,
         new: Track<'_>,
-        _since: u32,
+        since: u32,
         index: &WhereIndex,
     ) -> Result<ConflictLedger, OutOfMemory>
+        requires { (t : ℕ) → t < since → position (route_of old) t ≡ position (route_of new) t }
         ensures { IfOk result (λ ledger. (fleet : Fleet) → StandsFor index.now fleet → fleet agent ≡ Some (route_of new.entry) → HasEntries self (with_route fleet agent (Some (route_of old.entry))) → HasEntries ledger fleet) }
     {
-        let others = self.leave(agent, old, index)?;
-        others.enter(agent, new, index)
+        let span = Span::apart(old, new, since);
+        let others = self.leave(agent, old, span, index)?;
+        others.enter(agent, new, span, index)
     }
 
     /// The entries, in their order: by kind, time, agents and cells.
@@ -141,14 +147,24 @@ impl ConflictLedger {
         self.kept.count(kind)
     }
 
-    // Puts in what comes with the agent's track, beside the others of the index.
+    /// Whether it has an entry of that kind. No other entry is looked at.
+    pub fn has(&self, kind: Kind) -> bool
+        ensures has { IsTrue result ↔ HasKind kind self.now }
+        ensures once { IsListed self.now }
+    {
+        self.kept.has(self.alloc, kind)
+    }
+
+    // Puts in what comes with the agent's track at the span's times, beside the others of the index.
     fn enter<'x>(
         mut self,
         agent: Agent,
         track: Track<'x>,
+        span: Span,
         index: &'x WhereIndex,
     ) -> Result<ConflictLedger, OutOfMemory>
-        ensures { IfOk result (λ ledger. (before after : Fleet) → Shows index.now agent None before → Shows index.now agent (Some (route_of track.entry)) after → SameBut before after agent → HasEntries self before → HasEntries ledger after) }
+        ensures mends { IfOk result (λ ledger. (before after : Fleet) → Shows index.now agent None before → Shows index.now agent (Some (route_of track.entry)) after → SameBut before after agent → Fits span (last_index track.entry.plan.now) → HasEntriesIn span self before → HasEntriesIn span ledger after) }
+        ensures beside { IfOk result (λ ledger. (after : Fleet) → Shows index.now agent (Some (route_of track.entry)) after → Fits span (last_index track.entry.plan.now) → SameBeside span self ledger) }
     {
         let without = Sight {
             index,
@@ -160,23 +176,25 @@ impl ConflictLedger {
             agent,
             shown: Some(track),
         };
-        let broken = rings_left(self.alloc, &without, &with)?;
-        let joined = rings_left(self.alloc, &with, &with)?;
-        let entries = gather(self.alloc, &with)?;
+        let entries = gather(self.alloc, &with, span)?;
+        let broken = rings_left(self.alloc, &without, &with, &entries)?;
+        let joined = rings_left(self.alloc, &with, &with, &entries)?;
         self.kept.lose_all(&broken);
         self.kept.put_all(joined)?;
         self.kept.put_all(entries)?;
         Ok(self)
     }
 
-    // Takes out what goes with the agent's track, beside the others of the index.
+    // Takes out what goes with the agent's track at the span's times, beside the others of the index.
     fn leave<'x>(
         mut self,
         agent: Agent,
         track: Track<'x>,
+        span: Span,
         index: &'x WhereIndex,
     ) -> Result<ConflictLedger, OutOfMemory>
-        ensures { IfOk result (λ ledger. (before after : Fleet) → Shows index.now agent (Some (route_of track.entry)) before → Shows index.now agent None after → SameBut after before agent → HasEntries self before → HasEntries ledger after) }
+        ensures mends { IfOk result (λ ledger. (before after : Fleet) → Shows index.now agent (Some (route_of track.entry)) before → Shows index.now agent None after → SameBut after before agent → Fits span (last_index track.entry.plan.now) → HasEntriesIn span self before → HasEntriesIn span ledger after) }
+        ensures beside { IfOk result (λ ledger. (before : Fleet) → Shows index.now agent (Some (route_of track.entry)) before → Fits span (last_index track.entry.plan.now) → SameBeside span self ledger) }
     {
         let without = Sight {
             index,
@@ -188,9 +206,9 @@ impl ConflictLedger {
             agent,
             shown: Some(track),
         };
-        let broken = rings_left(self.alloc, &without, &with)?;
-        let joined = rings_left(self.alloc, &with, &with)?;
-        let entries = gather(self.alloc, &with)?;
+        let entries = gather(self.alloc, &with, span)?;
+        let broken = rings_left(self.alloc, &without, &with, &entries)?;
+        let joined = rings_left(self.alloc, &with, &with, &entries)?;
         self.kept.lose_all(&joined);
         self.kept.lose_all(&entries);
         self.kept.put_all(broken)?;

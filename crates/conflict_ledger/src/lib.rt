@@ -1,27 +1,20 @@
-//! Conflicts of a fleet's plans.
+//! A ledger of the conflict entries of a fleet, kept while agents come, go and change tracks.
 #![tactic(auto)]
 
-mod cycles;
-mod entries;
+mod closing;
 mod gather;
 mod kept;
-mod laws;
+mod least;
 mod ledger;
 mod movers;
-mod pairs;
-mod plain;
-mod rings;
 mod sight;
-mod sorting;
+mod spans;
 mod turns;
 
-pub use entries::{Conflict, Kind, Ring};
-pub use laws::{
-    entries_compare_as_listed, meetings_are_told, named_agents_are_there, one_conflict_list,
+pub use ledger::ConflictLedger;
+pub use mapf_rules::{
+    Conflict, Kind, Movers, Ring, conflicts, destination, entries_compare_as_listed,
+    entries_of_pair, entries_of_two, last, meetings_are_told, moves_out, named_agents_are_there,
+    one_conflict_list, position, ring_from, ring_out_of, ring_through, sorted,
     swap_is_two_followings,
 };
-pub use ledger::ConflictLedger;
-pub use pairs::{last, position};
-pub use plain::{conflicts, entries_of_pair, entries_of_two};
-pub use rings::{Movers, destination, moves_out, ring_from, ring_out_of, ring_through};
-pub use sorting::sorted;

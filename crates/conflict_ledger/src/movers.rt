@@ -6,9 +6,9 @@ ghost use Rattle.where_index.specs.declared.moves.Move.{Move};
 ghost use Rattle.where_index.specs.Index.{StandsFor};
 ghost use Rattle.conflict_ledger.specs.Sight.{Shows, IsMoverIn};
 
-use crate::rings::Movers;
 use crate::sight::Sight;
 use grid_cells::{Agent, Cell, Step};
+use mapf_rules::Movers;
 use where_index::{Move, WhereIndex};
 
 // All that an index shows.

@@ -2,7 +2,7 @@ ghost use Rattle.std.specs.Prelude.{◌≡◌, ◌≢◌, ◌⊎◌, ◌↔◌, 
 ghost use Rattle.std.specs.Option.{option_map, option_and_then};
 ghost use Rattle.grid_cells.specs.Cell.{Point};
 ghost use Rattle.plan_table.specs.Route.{Fleet, position, position_of, last_of, leaves_of, Leaves, route_of};
-ghost use Rattle.conflict_ledger.specs.Entries.{both_end_by, IsVertex, IsParked, IsEdge, IsFollowing, IsSwapping};
+ghost use Rattle.mapf_rules.specs.Entries.{both_end_by, IsVertex, IsParked, IsEdge, IsFollowing, IsSwapping};
 ghost use Rattle.conflict_ledger.specs.Sight.{Shows, own_place};
 
 use grid_cells::{Agent, Cell, Step};
@@ -153,17 +153,18 @@ impl Sight<'_> {
             && !self.leaves(second)
     }
 
-    // Whether an Edge entry of the two agents stands at the time.
+    // Whether an Edge entry of the two agents stands at the time. Where they start is mostly known to
+    // be so, and asked last; so it is below.
     pub fn edge(&self, time: u32, first: Agent, second: Agent, cell: Cell, next: Cell) -> bool
         requires { time < u32.MAX }
         ensures { (fleet : Fleet) → Shows self.now.index.now self.now.agent (option_map route_of self.now.shown) fleet → IsTrue result ↔ IsEdge fleet time first second cell next }
     {
         first < second
             && cell != next
-            && self.is_at(first, time, cell)
-            && self.is_at(second, time, cell)
             && self.is_at(first, time + 1, next)
             && self.is_at(second, time + 1, next)
+            && self.is_at(first, time, cell)
+            && self.is_at(second, time, cell)
     }
 
     // Whether a Following entry of the two agents stands at the time.
@@ -172,10 +173,10 @@ impl Sight<'_> {
         ensures { (fleet : Fleet) → Shows self.now.index.now self.now.agent (option_map route_of self.now.shown) fleet → IsTrue result ↔ IsFollowing fleet time follower leader cell }
     {
         follower != leader
-            && self.is_at(leader, time, cell)
+            && !self.is_at(follower, time, cell)
             && self.has_position(leader, time + 1)
             && self.is_at(follower, time + 1, cell)
-            && !self.is_at(follower, time, cell)
+            && self.is_at(leader, time, cell)
     }
 
     // Whether a Swapping entry of the two agents stands at the time.
@@ -185,9 +186,9 @@ impl Sight<'_> {
     {
         first < second
             && cell != other
-            && self.is_at(first, time, cell)
-            && self.is_at(second, time, other)
             && self.is_at(first, time + 1, other)
             && self.is_at(second, time + 1, cell)
+            && self.is_at(first, time, cell)
+            && self.is_at(second, time, other)
     }
 }

@@ -1,16 +1,28 @@
-ghost use Rattle.std.specs.Prelude.{◌≡◌, ◌↔◌, ℕ, ◌<◌, Some, List, IfOk, IfSome, Contains};
+ghost use Rattle.std.specs.Prelude.{◌≡◌, ◌↔◌, ℕ, ◌<◌, Some, List, IfOk, IfSome, IsTrue, Contains};
 ghost use Rattle.std.specs.Option.{option_map};
 ghost use Rattle.plan_table.specs.Route.{Fleet, route_of};
-ghost use Rattle.conflict_ledger.specs.declared.entries.Conflict.{Conflict};
+ghost use Rattle.mapf_rules.specs.declared.entries.Conflict.{Conflict};
+ghost use Rattle.mapf_rules.specs.Cycles.{IsRingAt};
 ghost use Rattle.conflict_ledger.specs.Sight.{Shows};
-ghost use Rattle.conflict_ledger.specs.Turns.{IsLeft, IsLeftAt};
+ghost use Rattle.mapf_rules.specs.Naming.{time_of};
+ghost use Rattle.conflict_ledger.specs.Turns.{IsLeft, IsLeftAt, MayTurn, IsToldAt};
 
-use crate::entries::Conflict;
-use crate::gather::offer;
-use crate::rings::ring_out_of;
 use crate::sight::Sight;
-use grid_cells::{OutOfMemory, Step};
+use grid_cells::{Agent, Cell, OutOfMemory, Step};
+use mapf_rules::{Conflict, Movers, offer, ring_out_of};
 use std::alloc::Global;
+
+// Whether the view can show a ring in that step at the cell. Where nobody moves the opposite way of
+// the agent that moves out of it, there is none, however long the chain of agents ahead is.
+fn may_ring(view: &Sight<'_>, time: u32, cell: Cell) -> bool
+    requires { time < u32.MAX }
+    ensures { (fleet : Fleet) (ring : List ℕ) → Shows view.now.index.now view.now.agent (option_map route_of view.now.shown) fleet → IsRingAt fleet time cell ring → IsTrue result }
+{
+    match view.sole_mover(time, cell) {
+        Some(mover) => view.may_close(time, cell, mover.1),
+        None => false,
+    }
+}
 
 // The ring that the view shows in that step at the cell that the agent of the other sight moves out
 // of, if it moves.
@@ -21,7 +33,7 @@ fn ring_left_at(
     time: u32,
 ) -> Result<Option<Conflict>, OutOfMemory>
     requires { time < u32.MAX }
-    ensures only { IfOk result (λ found. (fleet : Fleet) → Shows view.now.index.now view.now.agent (option_map route_of view.now.shown) fleet → IfSome found (IsLeft fleet (option_map route_of with.now.shown))) }
+    ensures only { IfOk result (λ found. (fleet : Fleet) → Shows view.now.index.now view.now.agent (option_map route_of view.now.shown) fleet → IfSome found (λ entry. IsLeft fleet (option_map route_of with.now.shown) entry × (time_of entry ≡ time))) }
     ensures has { IfOk result (λ found. (fleet : Fleet) (ring : List ℕ) → Shows view.now.index.now view.now.agent (option_map route_of view.now.shown) fleet → IsLeftAt fleet (option_map route_of with.now.shown) time ring → found ≡ Some (Conflict.Cycle time ring)) }
 {
     let Some(cell) = with.own(time) else {
@@ -30,6 +42,9 @@ fn ring_left_at(
     let Some(_to) = with.own_move(time, cell) else {
         return Ok(None);
     };
+    if !may_ring(view, time, cell) {
+        return Ok(None);
+    }
     match ring_out_of(alloc, view, time, cell)? {
         Some(ring) => Ok(Some(Conflict::Cycle {
             time: Step::new(time),
@@ -39,17 +54,53 @@ fn ring_left_at(
     }
 }
 
-/// The rings that the view shows at the cells that the agent of the other sight moves out of.
+// Whether a ring that the agent's moves make or break can stand at the entry's time.
+fn may_turn(entry: &Conflict, agent: Agent) -> bool
+    ensures { IsTrue result ↔ MayTurn entry.now agent }
+{
+    match entry {
+        Conflict::Vertex { .. } => true,
+        Conflict::Following { leader, .. } => *leader == agent,
+        _ => false,
+    }
+}
+
+// The ring that the view shows at the entry's time at the cell that the agent of the other sight
+// moves out of, where the entry lets one stand.
+fn ring_told(
+    alloc: Global,
+    view: &Sight<'_>,
+    with: &Sight<'_>,
+    entry: &Conflict,
+) -> Result<Option<Conflict>, OutOfMemory>
+    ensures only { IfOk result (λ found. (fleet : Fleet) → Shows view.now.index.now view.now.agent (option_map route_of view.now.shown) fleet → IfSome found (λ ring. IsLeft fleet (option_map route_of with.now.shown) ring × (time_of ring ≡ time_of entry.now) × MayTurn entry.now with.now.agent)) }
+    ensures has { IfOk result (λ found. (fleet other : Fleet) (ring : Conflict) → Shows view.now.index.now view.now.agent (option_map route_of view.now.shown) fleet → Shows with.now.index.now with.now.agent (option_map route_of with.now.shown) other → IsLeft fleet (option_map route_of with.now.shown) ring → time_of ring ≡ time_of entry.now → MayTurn entry.now with.now.agent → found ≡ Some ring) }
+{
+    if !may_turn(entry, with.agent) {
+        return Ok(None);
+    }
+    let time = entry.time().number();
+    if time < with.own_last() {
+        ring_left_at(alloc, view, with, time)
+    } else {
+        Ok(None)
+    }
+}
+
+/// The rings that the view shows at the cells that the agent of the other sight moves out of, at the
+/// times at which one of that agent's entries lets one stand.
 pub(crate) fn rings_left(
     alloc: Global,
     view: &Sight<'_>,
     with: &Sight<'_>,
+    entries: &[Conflict],
 ) -> Result<Vec<Conflict>, OutOfMemory>
-    ensures { IfOk result (λ rings. (fleet other : Fleet) → Shows view.now.index.now view.now.agent (option_map route_of view.now.shown) fleet → Shows with.now.index.now with.now.agent (option_map route_of with.now.shown) other → (entry : Conflict) → Contains rings.items entry ↔ IsLeft fleet (option_map route_of with.now.shown) entry) }
+    ensures only { IfOk result (λ rings. (fleet : Fleet) → Shows view.now.index.now view.now.agent (option_map route_of view.now.shown) fleet → (entry : Conflict) → Contains rings.items entry → IsLeft fleet (option_map route_of with.now.shown) entry × IsToldAt entries.now with.now.agent (time_of entry)) }
+    ensures has { IfOk result (λ rings. (fleet other : Fleet) → Shows view.now.index.now view.now.agent (option_map route_of view.now.shown) fleet → Shows with.now.index.now with.now.agent (option_map route_of with.now.shown) other → (entry : Conflict) → IsLeft fleet (option_map route_of with.now.shown) entry → IsToldAt entries.now with.now.agent (time_of entry) → Contains rings.items entry) }
 {
     let mut rings = Vec::new(alloc);
-    for time in 0..with.own_last() {
-        let found = ring_left_at(alloc, view, with, time)?;
+    for entry in entries {
+        let found = ring_told(alloc, view, with, entry)?;
         offer(&mut rings, found)?;
     }
     Ok(rings)

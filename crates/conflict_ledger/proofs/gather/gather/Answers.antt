@@ -1,16 +1,14 @@
-use Rattle.std.proofs.Common.{inl, inr, refl, arith}
-use Rattle.std.proofs.lemmas.Bool.{cases_lt}
-use Rattle.plan_table.proofs.Order.{Contains-nil}
-use Rattle.conflict_ledger.specs.Naming.{time_of}
-use Rattle.conflict_ledger.proofs.Gathers.{gathers_on}
+use Rattle.std.proofs.Common.{arith}
+use Rattle.conflict_ledger.proofs.Gathers.{gathered_until, gathered_all}
 use Rattle.conflict_ledger.proofs.gather.gather.Goals as goal
 
+pub returns-in-Some : goal.returns-in-Some
+returns-in-Some c fleet shows fits =
+    gathered_until fleet _ c.args.span c.own_last-last.result (c.own_last-last.ensures.is fleet shows) fits _ _ c.new-entries.ensures.items
+    (c.in_ok-gather_path.ensures.gathers fleet shows (omega (arith, fits.begins, c.own_last-last.ensures.is fleet shows))) (c.in_ok-gather_path.ensures.has fleet shows) c.in-Some._until c.in-Some.is
+
 pub returns : goal.returns
-returns c fleet shows entry =
-    let on = gathers_on fleet _ _ _ _ (c.in_ok-gather_path.ensures.gathers fleet shows) (c.in_ok-gather_late.ensures.gathers fleet shows) in (
-      λ h. elim (on.only entry h) [ inl old ↦ absurd (Contains-nil entry (rw c.new-entries.ensures.items at old)) | inr is ↦ is ],
-      λ is. elim (cases_lt c.own_last-last.result (time_of entry)) [
-        | inl late ↦ c.in_ok-gather_late.ensures.has fleet shows (c.own_last-last.ensures.is fleet shows) (time_of entry) late entry is refl
-        | inr early ↦ (c.in_ok-gather_late.ensures.gathers fleet shows).keeps entry (c.in_ok-gather_path.ensures.has fleet shows (time_of entry) (omega arith) entry is refl)
-      ],
-    )
+returns c fleet shows fits =
+    gathered_all fleet _ c.args.span c.own_last-last.result (c.own_last-last.ensures.is fleet shows) fits _ _ c.new-entries.ensures.items
+    (c.in_ok-gather_path.ensures.gathers fleet shows (omega (arith, fits.begins, c.own_last-last.ensures.is fleet shows))) (c.in_ok-gather_path.ensures.has fleet shows) c.in_default.is _
+    (c.in_ok-gather_late.ensures.gathers fleet shows) (c.in_ok-gather_late.ensures.has fleet shows (c.own_last-last.ensures.is fleet shows))

@@ -1,4 +1,4 @@
-use Rattle.std.proofs.Common.{◌≡◌, ◌+◌, ◌<◌, ℕ, Some, Option, inl, inr, ap, sym, subst, ◌∙◌, get_or, arith}
+use Rattle.std.proofs.Common.{◌≡◌, ◌+◌, ◌<◌, ℕ, Contains, Some, Option, inl, inr, ap, sym, subst, ◌∙◌, get_or, arith}
 use Rattle.std.specs.Option.{option_and_then}
 use Rattle.std.proofs.lemmas.Bool.{cases_lt}
 use Rattle.std.proofs.lemmas.List.{get_or_read}
@@ -6,7 +6,7 @@ use Rattle.plan_table.specs.Route.{Route, position, position_of}
 use Rattle.where_index.specs.Asked.{ArePassing}
 use Rattle.where_index.specs.declared.passings.Passing.{Passing}
 use Rattle.conflict_ledger.specs.Gathering.{HasLate}
-use Rattle.conflict_ledger.proofs.Gathers.{gathers_on}
+use Rattle.conflict_ledger.proofs.Gathers.{gathers_on, gathers_at}
 use Rattle.conflict_ledger.proofs.Late.{late_none, late_place}
 use Rattle.conflict_ledger.proofs.gather.gather_late.Goals as goal
 
@@ -17,7 +17,11 @@ returns-in_default-clause-has c fleet shows is_last time late =
 
 pub loop-passing-preserved : goal.loop-passing-preserved
 loop-passing-preserved c = record {
-  gathers = λ fleet shows. gathers_on fleet _ _ _ _ (c.loop-passing.invariant.gathers fleet shows) (c.in_ok-offer_passing.ensures.gathers fleet shows);
+  gathers = λ fleet shows.
+      let through : ArePassing shows.base c.in-Some.rest (c.args.last + 1) c.items-passing-items.result.now = rw (c.items-passing-items.ensures, ← c.new.ensures) (c.in_ok-passings.ensures shows.base shows.stands) in
+      let has : Contains c.items-passing-items.result.now c.passing-item.result = (c.loop-passing.passing-index, omega arith, sym c.passing-item.is) in
+      let after = ((through.exact c.passing-item.result).0 has).not_before in
+      gathers_on fleet _ _ _ _ _ (c.loop-passing.invariant.gathers fleet shows) (gathers_at fleet _ _ _ _ _ (λ t w. omega (arith, after, w)) (c.in_ok-offer_passing.ensures.gathers fleet shows));
   has = λ fleet shows k d lt. elim (cases_lt k c.loop-passing.passing-index) [
     | inl lower ↦ λ entry stands of. (c.in_ok-offer_passing.ensures.gathers fleet shows).keeps entry (c.loop-passing.invariant.has fleet shows k d lower entry stands of)
     | inr higher ↦

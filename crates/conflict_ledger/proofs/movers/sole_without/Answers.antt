@@ -2,7 +2,7 @@ use Rattle.std.proofs.Common.{◌≡◌, ◌⊎◌, ℕ, ◌<◌, length, get_or
 use mathlib.Core.Bool.{false≢true}
 use Rattle.std.proofs.lemmas.List.{get_or_default}
 use Rattle.where_index.specs.declared.moves.Move.{Move}
-use Rattle.conflict_ledger.proofs.Walks.{same_or_not}
+use Rattle.mapf_rules.proofs.Walks.{same_or_not}
 use Rattle.conflict_ledger.proofs.movers.sole_without.Goals as goal
 
 pub returns-else-no_third-clause-found : goal.returns-else-no_third-clause-found

@@ -1,38 +1,34 @@
-use Rattle.std.proofs.Common.{◌≡◌, ℕ, inl, inr, subst, arith}
+use Rattle.std.proofs.Common.{◌≡◌, inl, inr, sym, subst, ap, ◌∙◌, get_or, arith}
 use Rattle.std.specs.Option.{option_map}
 use Rattle.std.proofs.lemmas.Bool.{cases_lt}
+use Rattle.std.proofs.lemmas.List.{get_or_read}
 use Rattle.std.proofs.lemmas.Option.{MatchOption-at_some}
-use Rattle.plan_table.proofs.Order.{Contains-nil}
 use Rattle.plan_table.specs.Route.{route_of}
-use Rattle.conflict_ledger.specs.Turns.{IsLeft, IsLeftAt}
-use Rattle.conflict_ledger.specs.declared.entries.Conflict.TheVariants.{Cycle}
-use Rattle.conflict_ledger.proofs.LeftRings.{left_early, left_each}
+use Rattle.mapf_rules.specs.Naming.{time_of}
+use Rattle.conflict_ledger.specs.Turns.{IsLeft, MayTurn}
+use Rattle.mapf_rules.specs.declared.entries.Conflict.{Conflict}
 use Rattle.conflict_ledger.proofs.turns.rings_left.Goals as goal
 
-pub loop-time-init : goal.loop-time-init
-loop-time-init c = record {
-  only = λ fleet shows entry h. absurd (Contains-nil entry (rw c.new-rings.ensures.items at h));
-  has = λ fleet shows time ring lt left. absurd (omega arith);
-}
-
-pub loop-time-preserved : goal.loop-time-preserved
-loop-time-preserved c = record {
-  only = λ fleet shows entry h. elim (c.in_ok-offer.ensures.only entry h) [
-    | inl before ↦ c.loop-time.invariant.only fleet shows entry before
-    | inr is ↦ MatchOption-at_some _ (IsLeft fleet (option_map route_of c.args.with.now.shown)) entry is (c.in_ok-found.ensures.only fleet shows)
+pub loop-entry-preserved : goal.loop-entry-preserved
+loop-entry-preserved c = record {
+  only = λ fleet shows e h. elim (c.in_ok-offer.ensures.only e h) [
+    | inl before ↦ c.loop-entry.invariant.only fleet shows e before
+    | inr is ↦
+        let told = MatchOption-at_some _ (λ (ring : Conflict). IsLeft fleet (option_map route_of c.args.with.now.shown) ring × (time_of ring ≡ time_of c.entry-item.result) × MayTurn c.entry-item.result c.args.with.now.agent) e is (c.in_ok-found.ensures.only fleet shows) in
+        (told.0, record { entry = c.entry-item.result; has = (c.loop-entry.entry-index, omega arith, sym c.entry-item.is); at = sym told.1; turn = told.2 })
   ];
-  has = λ fleet shows time ring lt left. elim (cases_lt time c.loop-time.time) [
-    | inl lower ↦ c.in_ok-offer.ensures.keeps (Cycle time ring) (c.loop-time.invariant.has fleet shows time ring lower left)
+  has = λ fleet other shows beside e left k d lt at turn. elim (cases_lt k c.loop-entry.entry-index) [
+    | inl lower ↦ c.in_ok-offer.ensures.keeps e (c.loop-entry.invariant.has fleet other shows beside e left k d lower at turn)
     | inr higher ↦
-        let same : time ≡ c.loop-time.time = omega arith in
-        c.in_ok-offer.ensures.has (Cycle time ring) (rw same (c.in_ok-found.ensures.has fleet ring shows (subst (λ (t : ℕ). IsLeftAt fleet (option_map route_of c.args.with.now.shown) t ring) same left)))
+        let same : k ≡ c.loop-entry.entry-index = omega arith in
+        let read : c.entry-item.result ≡ get_or c.args.entries.now k d = rw same (get_or_read c.args.entries.now c.loop-entry.entry-index c.entry-item.result (omega arith) c.entry-item.is d) in
+        c.in_ok-offer.ensures.has e (c.in_ok-found.ensures.has fleet other e shows beside left (sym at ∙ ap time_of (sym read)) (subst (λ (x : Conflict). MayTurn x c.args.with.now.agent) (sym read) turn))
   ];
 }
 
 pub returns : goal.returns
-returns c fleet other shows beside entry = (
-  c.loop-time.invariant.only fleet shows entry,
-  left_each fleet (option_map route_of c.args.with.now.shown) c.loop-time.rings.items (λ time ring left.
-      let early = left_early _ _ _ other beside c.own_last-time-end.result (c.own_last-time-end.ensures.is other beside) fleet time ring left in
-      c.loop-time.invariant.has fleet shows time ring (omega arith) left) entry,
-)
+returns c = record {
+  only = c.loop-entry.invariant.only;
+  has = λ fleet other shows beside e left told.
+      c.loop-entry.invariant.has fleet other shows beside e left told.has.0 told.entry (omega (arith, told.has.1)) (ap time_of told.has.2 ∙ told.at) (subst (λ (x : Conflict). MayTurn x c.args.with.now.agent) (sym told.has.2) told.turn);
+}

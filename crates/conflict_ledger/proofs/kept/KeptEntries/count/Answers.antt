@@ -1,4 +1,4 @@
-use Rattle.conflict_ledger.proofs.Orders.{entries_ascend}
+use Rattle.mapf_rules.proofs.Orders.{entries_ascend}
 use Rattle.conflict_ledger.proofs.kept.KeptEntries.count.Goals as goal
 
 pub returns-clause-once : goal.returns-clause-once

@@ -1,6 +1,6 @@
 use Rattle.std.proofs.Common.{append_assoc, append-nil}
-use Rattle.conflict_ledger.proofs.Orders.{entries_ascend}
-use Rattle.conflict_ledger.proofs.Copies.{clone_is}
+use Rattle.mapf_rules.proofs.Orders.{entries_ascend}
+use Rattle.mapf_rules.proofs.Copies.{clone_is}
 use Rattle.conflict_ledger.proofs.kept.KeptEntries.listed.Goals as goal
 
 pub returns-clause-ascending : goal.returns-clause-ascending

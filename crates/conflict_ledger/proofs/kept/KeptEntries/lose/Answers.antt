@@ -1,5 +1,5 @@
-use Rattle.conflict_ledger.proofs.Orders.{conflict_total, conflict_exact}
-use Rattle.conflict_ledger.proofs.Sets.{set_loses}
+use Rattle.mapf_rules.proofs.Orders.{conflict_total, conflict_exact}
+use Rattle.mapf_rules.proofs.Sets.{set_loses}
 use Rattle.conflict_ledger.proofs.kept.KeptEntries.lose.Goals as goal
 
 pub returns : goal.returns

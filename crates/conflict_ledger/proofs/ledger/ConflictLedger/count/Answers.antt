@@ -1,7 +1,7 @@
 use Rattle.std.proofs.Common.{List, sym, ap, subst, ◌∙◌}
 use Rattle.conflict_ledger.specs.Kept.{HasEntries, many_of}
-use Rattle.conflict_ledger.specs.declared.entries.Conflict.{Conflict}
-use Rattle.conflict_ledger.proofs.LawsHold.{one_list}
+use Rattle.mapf_rules.specs.declared.entries.Conflict.{Conflict}
+use Rattle.mapf_rules.proofs.LawsHold.{one_list}
 use Rattle.conflict_ledger.proofs.ledger.ConflictLedger.count.Goals as goal
 
 pub returns-clause-listed : goal.returns-clause-listed

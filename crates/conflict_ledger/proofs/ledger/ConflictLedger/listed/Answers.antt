@@ -2,9 +2,10 @@ use Rattle.std.proofs.Common.{◌≡◌, List, Ok, Err}
 use Rattle.std.specs.Prelude.{Result, IfOk}
 use Rattle.grid_cells.specs.declared.memory.OutOfMemory.{OutOfMemory}
 use Rattle.plan_table.specs.Route.{Fleet}
-use Rattle.conflict_ledger.specs.Kept.{IsListed, HasEntries}
-use Rattle.conflict_ledger.specs.ConflictList.{AreConflicts}
-use Rattle.conflict_ledger.specs.declared.entries.Conflict.{Conflict}
+use Rattle.conflict_ledger.specs.Kept.{HasEntries}
+use Rattle.mapf_rules.specs.ConflictList.{IsListed}
+use Rattle.mapf_rules.specs.ConflictList.{AreConflicts}
+use Rattle.mapf_rules.specs.declared.entries.Conflict.{Conflict}
 use Rattle.conflict_ledger.proofs.ledger.ConflictLedger.listed.Goals as goal
 
 told : (kept : List Conflict) (r : Result (List Conflict) OutOfMemory) → IfOk r (λ entries. entries ≡ kept) → IfOk r IsListed → IfOk r (λ entries. (fleet : Fleet) → HasEntries kept fleet → AreConflicts fleet entries)

@@ -1,6 +1,6 @@
 use Rattle.std.proofs.Common.{arith}
 use Rattle.std.proofs.lemmas.Option.{none-some, MatchOption-at_some}
-use Rattle.conflict_ledger.specs.Cycles.{IsRingAt}
+use Rattle.mapf_rules.specs.Cycles.{IsRingAt}
 use Rattle.conflict_ledger.proofs.MoverIn.{early_mover}
 use Rattle.conflict_ledger.proofs.ledger.ConflictLedger.ring_at.Goals as goal
 

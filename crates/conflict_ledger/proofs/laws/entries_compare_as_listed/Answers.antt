@@ -1,5 +1,0 @@
-use Rattle.conflict_ledger.proofs.Orders.{conflict_cmp-is}
-use Rattle.conflict_ledger.proofs.laws.entries_compare_as_listed.Goals as goal
-
-pub returns : goal.returns
-returns c = conflict_cmp-is
