@@ -25,17 +25,17 @@ use Rattle.plan_table.proofs.Rows.{rows_few}
 use Rattle.cost_ledger.specs.Kept.{Keeps, AreSpots, AreRests, SwapsRow, last_of_row, ends_elsewhere, sum_of_rows, rest, visit_cmp}
 use Rattle.cost_ledger.specs.Ledger.{SameBut, SameAt}
 use Rattle.cost_ledger.specs.Spots.{spot_of, Gains, Loses, GainsAll, LosesAll, IsSpotIn, AreThrough}
-use Rattle.cost_ledger.specs.Visits.{IsBlocked, visit_key, AreVisits}
-use Rattle.cost_ledger.specs.VisitSearch.{IsVisitIn}
+use Rattle.mapf_rules.specs.Visits.{IsBlocked, visit_key, AreVisits}
+use Rattle.mapf_rules.specs.VisitSearch.{IsVisitIn}
 use Rattle.cost_ledger.specs.declared.rests.Rest.{Rest}
 use Rattle.cost_ledger.specs.declared.spots.Spot.{Spot}
-use Rattle.cost_ledger.specs.declared.visits.Visit.{Visit}
+use Rattle.mapf_rules.specs.declared.visits.Visit.{Visit}
 use Rattle.cost_ledger.proofs.KeyOrders.{visit_total}
 use Rattle.cost_ledger.proofs.SpotOrder.{from_lt, from_eq, cases3}
-use Rattle.cost_ledger.proofs.Visiting.{key_before}
+use Rattle.mapf_rules.proofs.Visiting.{key_before}
 use Rattle.cost_ledger.proofs.RowSums.{sum_remove}
 
-same_or_apart : (a b : ℕ) → (a ≡ b) ⊎ (a ≢ b)
+pub same_or_apart : (a b : ℕ) → (a ≡ b) ⊎ (a ≢ b)
 same_or_apart a b = grind arith
 
 none_some : {X G : Type 0} (o : Option X) (x : X) → o ≡ None → o ≡ Some x → G
@@ -101,16 +101,16 @@ module _ {X : Type 0} (agent_of : X → ℕ) (P : Row → X → Type 0) where
     )
 
 -- ---- spots and rests
-abbrev SpotOf : Row → Spot → Type 0
-SpotOf row s = IsSpotIn s.agent row.plan (last_of_row row + 1) s
+abbrev pub SpotOf : Row → Spot → Type 0
+SpotOf row s = IsSpotIn s.agent row.plan 0 (last_of_row row + 1) s
 
 abbrev RestOf : Row → Rest → Type 0
 RestOf row r = r.time ≡ last_of_row row
 
-spot_in : (agent : ℕ) (row : Row) (s : Spot) → IsSpotIn agent row.plan (last_of_row row + 1) s ↔ ((s.agent ≡ agent) × SpotOf row s)
+spot_in : (agent : ℕ) (row : Row) (s : Spot) → IsSpotIn agent row.plan 0 (last_of_row row + 1) s ↔ ((s.agent ≡ agent) × SpotOf row s)
 spot_in agent row s = (
-  (λ is. (is.same_agent, record { same_agent = refl; early = is.early; there = is.there })),
-  (λ h. record { same_agent = h.0; early = h.1.early; there = h.1.there }),
+  (λ is. (is.same_agent, record { same_agent = refl; late = is.late; early = is.early; there = is.there })),
+  (λ h. record { same_agent = h.0; late = h.1.late; early = h.1.early; there = h.1.there }),
 )
 
 rest_in : (agent : ℕ) (row : Row) (r : Rest) → (r ≡ rest (last_of_row row) agent) ↔ ((r.agent ≡ agent) × RestOf row r)
@@ -119,13 +119,13 @@ rest_in agent row r = (
   (λ h. λ i. record { time = h.1 i; agent = h.0 i }),
 )
 
-pub spots_put : (rows new : List (ℕ × Row)) (agent : ℕ) (row : Row) (old spots : List Spot) → row_of rows agent ≡ None → ChangesRow rows new agent (Some row) → AreSpots rows old → GainsAll old spots (IsSpotIn agent row.plan (last_of_row row + 1)) → AreSpots new spots
+pub spots_put : (rows new : List (ℕ × Row)) (agent : ℕ) (row : Row) (old spots : List Spot) → row_of rows agent ≡ None → ChangesRow rows new agent (Some row) → AreSpots rows old → GainsAll old spots (IsSpotIn agent row.plan 0 (last_of_row row + 1)) → AreSpots new spots
 spots_put rows new agent row old spots absent change before gains =
-    of_put (λ (s : Spot). s.agent) SpotOf rows new agent old spots row (IsSpotIn agent row.plan (last_of_row row + 1)) absent change (spot_in agent row) before gains
+    of_put (λ (s : Spot). s.agent) SpotOf rows new agent old spots row (IsSpotIn agent row.plan 0 (last_of_row row + 1)) absent change (spot_in agent row) before gains
 
-pub spots_take : (rows new : List (ℕ × Row)) (agent : ℕ) (row : Row) (old spots : List Spot) → row_of rows agent ≡ Some row → ChangesRow rows new agent None → AreSpots rows old → LosesAll old spots (IsSpotIn agent row.plan (last_of_row row + 1)) → AreSpots new spots
+pub spots_take : (rows new : List (ℕ × Row)) (agent : ℕ) (row : Row) (old spots : List Spot) → row_of rows agent ≡ Some row → ChangesRow rows new agent None → AreSpots rows old → LosesAll old spots (IsSpotIn agent row.plan 0 (last_of_row row + 1)) → AreSpots new spots
 spots_take rows new agent row old spots live change before loses =
-    of_take (λ (s : Spot). s.agent) SpotOf rows new agent old spots row (IsSpotIn agent row.plan (last_of_row row + 1)) live change (λ s is. is.same_agent) (λ s e is. (spot_in agent row s).1 (e, is)) before loses
+    of_take (λ (s : Spot). s.agent) SpotOf rows new agent old spots row (IsSpotIn agent row.plan 0 (last_of_row row + 1)) live change (λ s is. is.same_agent) (λ s e is. (spot_in agent row s).1 (e, is)) before loses
 
 pub rests_put : (rows new : List (ℕ × Row)) (agent : ℕ) (row : Row) (old rests : List Rest) → row_of rows agent ≡ None → ChangesRow rows new agent (Some row) → AreRests rows old → Gains old rests (rest (last_of_row row) agent) → AreRests new rests
 rests_put rows new agent row old rests absent change before gains =
@@ -136,7 +136,7 @@ rests_take rows new agent row old rests live change before loses =
     of_take (λ (r : Rest). r.agent) RestOf rows new agent old rests row (λ r. r ≡ rest (last_of_row row) agent) live change (λ r e. ap (λ (q : Rest). q.agent) e) (λ r e is. (rest_in agent row r).1 (e, is)) before loses
 
 -- ---- visits
-abbrev VisitOf : Chart → Row → Visit → Type 0
+abbrev pub VisitOf : Chart → Row → Visit → Type 0
 VisitOf grid row v = IsBlocked grid row.plan v.time v.cell
 
 abbrev pub VisitsOf : Chart → List (ℕ × Row) → List Visit → Type 0
@@ -188,7 +188,7 @@ visits_listed grid rows visits sorted are = record {
   exact = λ v. ((λ h. let is = (are v).0 h in record { row = is.0; live = is.1; blocked = is.2 }), (λ is. (are v).1 (is.row, is.live, is.blocked)));
 }
 
-visit_in : (grid : Chart) (agent : ℕ) (row : Row) (v : Visit) → IsVisitIn grid agent row.plan 0 (last_of_row row + 1) v ↔ ((v.agent ≡ agent) × VisitOf grid row v)
+pub visit_in : (grid : Chart) (agent : ℕ) (row : Row) (v : Visit) → IsVisitIn grid agent row.plan 0 (last_of_row row + 1) v ↔ ((v.agent ≡ agent) × VisitOf grid row v)
 visit_in grid agent row v = (
   (λ is. (is.same_agent, is.blocked)),
   (λ h. record { same_agent = h.0; late = omega arith; early = omega (arith, h.1.on_path); blocked = h.1 }),
@@ -198,9 +198,9 @@ pub visits_put : (grid : Chart) (rows new : List (ℕ × Row)) (agent : ℕ) (ro
 visits_put grid rows new agent row old visits sorted absent change before gains =
     visits_listed grid new visits sorted (of_put (λ (v : Visit). v.agent) (VisitOf grid) rows new agent old visits row (IsVisitIn grid agent row.plan 0 (last_of_row row + 1)) absent change (visit_in grid agent row) (visits_of grid rows old before) gains)
 
-pub visits_take : (grid : Chart) (rows new : List (ℕ × Row)) (agent : ℕ) (row : Row) (old visits : List Visit) → IsStrictlySortedBy visit_cmp visits → row_of rows agent ≡ Some row → ChangesRow rows new agent None → AreVisits grid rows old → LosesAll old visits (λ v. IsSpotIn agent row.plan (last_of_row row + 1) (spot_of v)) → AreVisits grid new visits
+pub visits_take : (grid : Chart) (rows new : List (ℕ × Row)) (agent : ℕ) (row : Row) (old visits : List Visit) → IsStrictlySortedBy visit_cmp visits → row_of rows agent ≡ Some row → ChangesRow rows new agent None → AreVisits grid rows old → LosesAll old visits (λ v. IsSpotIn agent row.plan 0 (last_of_row row + 1) (spot_of v)) → AreVisits grid new visits
 visits_take grid rows new agent row old visits sorted live change before loses =
-    visits_listed grid new visits sorted (of_take (λ (v : Visit). v.agent) (VisitOf grid) rows new agent old visits row (λ v. IsSpotIn agent row.plan (last_of_row row + 1) (spot_of v)) live change (λ v is. is.same_agent) (λ v e is. record { same_agent = e; early = omega (arith, is.on_path); there = is.there }) (visits_of grid rows old before) loses)
+    visits_listed grid new visits sorted (of_take (λ (v : Visit). v.agent) (VisitOf grid) rows new agent old visits row (λ v. IsSpotIn agent row.plan 0 (last_of_row row + 1) (spot_of v)) live change (λ v is. is.same_agent) (λ v e is. record { same_agent = e; late = omega arith; early = omega (arith, is.on_path); there = is.there }) (visits_of grid rows old before) loses)
 
 pub visits_swap : (grid : Chart) (rows new : List (ℕ × Row)) (agent : ℕ) (row after : Row) (visits : List Visit) → row.plan ≡ after.plan → row_of rows agent ≡ Some row → ChangesRow rows new agent (Some after) → AreVisits grid rows visits → AreVisits grid new visits
 visits_swap grid rows new agent row after visits plans live change before =
@@ -239,7 +239,7 @@ module _ (rows : List (ℕ × Row)) (spots : List Spot) (rests : List Rest) (tot
   elsewhere_small = omega (arith, few, keeps.elsewhere_is, sum_by-le (λ (entry : ℕ × Row). ends_elsewhere entry.1) 1 rows (λ k d within. one_at_most (get_or rows k d).1))
 
 module _ (rows new : List (ℕ × Row)) (spots new_spots : List Spot) (rests new_rests : List Rest) (total elsewhere new_total new_elsewhere : ℕ) (agent : ℕ) where
-  pub keeps_put : (row : Row) (time : ℕ) → Keeps rows spots rests total elsewhere → row_of rows agent ≡ None → agent ≤ MOST_AGENT → IsPath row.plan → ChangesRow rows new agent (Some row) → IsByAgent new → ((number : Row → ℕ) → sum_of_rows number new ≡ sum_of_rows number rows + number row) → GainsAll spots new_spots (IsSpotIn agent row.plan (last_of_row row + 1)) → time ≡ last_of_row row → Gains rests new_rests (rest time agent) → new_total ≡ total + time → new_elsewhere ≡ elsewhere + ends_elsewhere row → Keeps new new_spots new_rests new_total new_elsewhere
+  pub keeps_put : (row : Row) (time : ℕ) → Keeps rows spots rests total elsewhere → row_of rows agent ≡ None → agent ≤ MOST_AGENT → IsPath row.plan → ChangesRow rows new agent (Some row) → IsByAgent new → ((number : Row → ℕ) → sum_of_rows number new ≡ sum_of_rows number rows + number row) → GainsAll spots new_spots (IsSpotIn agent row.plan 0 (last_of_row row + 1)) → time ≡ last_of_row row → Gains rests new_rests (rest time agent) → new_total ≡ total + time → new_elsewhere ≡ elsewhere + ends_elsewhere row → Keeps new new_spots new_rests new_total new_elsewhere
   keeps_put row time keeps absent number_small path change by_agent sums spots_gain last rests_gain totals elsewheres = record {
     by_agent = by_agent;
     lawful = λ a r live. elim (same_or_apart a agent) [
@@ -254,7 +254,7 @@ module _ (rows new : List (ℕ × Row)) (spots new_spots : List Spot) (rests new
     elsewhere_is = omega (arith, keeps.elsewhere_is, sums ends_elsewhere);
   }
 
-  pub keeps_take : (row : Row) (time : ℕ) → Keeps rows spots rests total elsewhere → row_of rows agent ≡ Some row → ChangesRow rows new agent None → IsByAgent new → ((number : Row → ℕ) → sum_of_rows number new + number row ≡ sum_of_rows number rows) → LosesAll spots new_spots (IsSpotIn agent row.plan (last_of_row row + 1)) → time ≡ last_of_row row → Loses rests new_rests (rest time agent) → new_total + time ≡ total → new_elsewhere + ends_elsewhere row ≡ elsewhere → Keeps new new_spots new_rests new_total new_elsewhere
+  pub keeps_take : (row : Row) (time : ℕ) → Keeps rows spots rests total elsewhere → row_of rows agent ≡ Some row → ChangesRow rows new agent None → IsByAgent new → ((number : Row → ℕ) → sum_of_rows number new + number row ≡ sum_of_rows number rows) → LosesAll spots new_spots (IsSpotIn agent row.plan 0 (last_of_row row + 1)) → time ≡ last_of_row row → Loses rests new_rests (rest time agent) → new_total + time ≡ total → new_elsewhere + ends_elsewhere row ≡ elsewhere → Keeps new new_spots new_rests new_total new_elsewhere
   keeps_take row time keeps live change by_agent sums spots_lose last rests_lose totals elsewheres = record {
     by_agent = by_agent;
     lawful = λ a r now. elim (same_or_apart a agent) [
@@ -280,7 +280,7 @@ module _ (rows new : List (ℕ × Row)) (spots new_spots : List Spot) (rests new
               (old.0, subst (λ (q : Row). IsPath q.plan) one old.1)
           | inr apart ↦ keeps.lawful a r (sym (swap.now.other_agents a apart) ∙ now)
         ];
-        spots_are = of_swap (λ (s : Spot). s.agent) SpotOf rows new agent spots row after swap.was swap.now (λ s. ((λ h. record { same_agent = h.same_agent; early = h.early; there = h.there }), (λ h. record { same_agent = h.same_agent; early = h.early; there = h.there }))) keeps.spots_are;
+        spots_are = of_swap (λ (s : Spot). s.agent) SpotOf rows new agent spots row after swap.was swap.now (λ s. ((λ h. record { same_agent = h.same_agent; late = h.late; early = h.early; there = h.there }), (λ h. record { same_agent = h.same_agent; late = h.late; early = h.early; there = h.there }))) keeps.spots_are;
         rests_are = of_swap (λ (r : Rest). r.agent) RestOf rows new agent rests row after swap.was swap.now (λ r. ((λ h. h), (λ h. h))) keeps.rests_are;
         total_is = omega (arith, keeps.total_is, swap.sums last_of_row);
         elsewhere_is = omega (arith, keeps.elsewhere_is, swap.sums ends_elsewhere);
@@ -306,7 +306,7 @@ module _ (old new grid : Chart) (rows : List (ℕ × Row)) (spots found : List S
   at_found : (v : Visit) (row : Row) → v.cell ≡ cell → row_of rows v.agent ≡ Some row → v.time ≤ last_index row.plan → place row.plan v.time ≡ Some v.cell → Contains found (spot_of v)
   at_found v row e live on there =
       let short : last_index row.plan ≤ MOST_LAST_INDEX = (paths v.agent row live).walkable.short in
-      (through (spot_of v)).1 ((are (spot_of v)).1 (row, live, record { same_agent = refl; early = omega arith; there = there }), e, omega arith)
+      (through (spot_of v)).1 ((are (spot_of v)).1 (row, live, record { same_agent = refl; late = omega arith; early = omega arith; there = there }), e, omega arith)
 
   pub visits_closed : IsClosed grid cell → GainsAll before visits (λ v. Contains found (spot_of v)) → AreVisits new rows visits
   visits_closed closed gains = visits_listed new rows visits sorted (λ v. elim (point_cases v.cell cell) [

@@ -12,10 +12,10 @@ use Rattle.grid_cells.specs.Cell.{Point}
 use Rattle.plan_table.specs.Path.{last_index, place, IsPath}
 use Rattle.plan_table.specs.Plans.{IsByAgent}
 use Rattle.plan_table.specs.declared.plans.Row.{Row}
-use Rattle.cost_ledger.specs.Costs.{IsFinished, IsCost, AreCosts, IsSumOf, IsGreatestOf}
+use Rattle.mapf_rules.specs.Costs.{IsFinished, IsCost, AreCosts, IsSumOf, IsGreatestOf}
 use Rattle.cost_ledger.specs.Kept.{last_of_row, ends_elsewhere, sum_of_rows, AreRests, rest}
 use Rattle.cost_ledger.specs.declared.rests.Rest.{Rest}
-use Rattle.cost_ledger.proofs.Settling.{settles, settle_once}
+use Rattle.mapf_rules.proofs.Settling.{settles, settle_once}
 
 -- a number, given where the other one is 0
 abbrev given : ℕ → ℕ → Option ℕ

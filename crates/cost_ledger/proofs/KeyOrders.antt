@@ -5,7 +5,7 @@ use Rattle.std.proofs.lemmas.Map.Lookups.{CmpEqualImpliesEq, exact_unsigned}
 use Rattle.std.proofs.lemmas.Cmp.{nat_cmp_total, on_total, then_total}
 use Rattle.cost_ledger.specs.Kept.{rest_cmp, visit_cmp}
 use Rattle.cost_ledger.specs.declared.rests.Rest.{Rest}
-use Rattle.cost_ledger.specs.declared.visits.Visit.{Visit}
+use Rattle.mapf_rules.specs.declared.visits.Visit.{Visit}
 use Rattle.cost_ledger.proofs.SpotOrder.{then_equal}
 
 pub rest_total : IsTotalOrder rest_cmp

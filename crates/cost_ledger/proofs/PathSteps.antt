@@ -10,32 +10,32 @@ use Rattle.grid_cells.specs.Cell.{Point}
 use Rattle.grid_cells.specs.Grid.{Chart, IsClosed}
 use Rattle.plan_table.specs.Path.{last_index, place}
 use Rattle.cost_ledger.specs.Spots.{spot, spot_of, IsSpotIn}
-use Rattle.cost_ledger.specs.VisitSearch.{IsVisitIn}
+use Rattle.mapf_rules.specs.VisitSearch.{IsVisitIn}
 use Rattle.cost_ledger.specs.declared.spots.Spot.{Spot}
-use Rattle.cost_ledger.specs.declared.visits.Visit.{Visit}
+use Rattle.mapf_rules.specs.declared.visits.Visit.{Visit}
 
-module _ (agent : ℕ) (path : List Point) where
-  pub no_spot : (s : Spot) → IsSpotIn agent path 0 s → ⊥
-  no_spot s is = omega (arith, is.early)
+module _ (agent : ℕ) (path : List Point) (from : ℕ) where
+  pub no_spot : (s : Spot) → IsSpotIn agent path from from s → ⊥
+  no_spot s is = omega (arith, is.late, is.early)
 
-  pub spot_more : (time : ℕ) (cell : Point) → place path time ≡ Some cell → (s : Spot) → IsSpotIn agent path (time + 1) s ↔ (IsSpotIn agent path time s ⊎ (s ≡ spot cell time agent))
-  spot_more time cell there s = (
+  pub spot_more : (time : ℕ) (cell : Point) → from ≤ time → place path time ≡ Some cell → (s : Spot) → IsSpotIn agent path from (time + 1) s ↔ (IsSpotIn agent path from time s ⊎ (s ≡ spot cell time agent))
+  spot_more time cell on there s = (
     (λ is. elim (cases_lt s.time time) [
-      | inl lt ↦ inl (record { same_agent = is.same_agent; early = lt; there = is.there })
+      | inl lt ↦ inl (record { same_agent = is.same_agent; late = is.late; early = lt; there = is.there })
       | inr late ↦
           let now : s.time ≡ time = omega (arith, is.early) in
           let cells : s.cell ≡ cell = same_Some s.cell cell (sym is.there ∙ ap (place path) now ∙ there) in
           inr (λ i. record { cell = cells i; time = now i; agent = is.same_agent i })
     ]),
     (λ h. elim h [
-      | inl is ↦ record { same_agent = is.same_agent; early = omega (arith, is.early); there = is.there }
-      | inr is ↦ subst (IsSpotIn agent path (time + 1)) (sym is) (record { same_agent = refl; early = omega arith; there = there })
+      | inl is ↦ record { same_agent = is.same_agent; late = is.late; early = omega (arith, is.early); there = is.there }
+      | inr is ↦ subst (IsSpotIn agent path from (time + 1)) (sym is) (record { same_agent = refl; late = on; early = omega arith; there = there })
     ]),
   )
 
-  pub visit_more : (time : ℕ) (cell : Point) → place path time ≡ Some cell → (v : Visit) → IsSpotIn agent path (time + 1) (spot_of v) ↔ (IsSpotIn agent path time (spot_of v) ⊎ (v ≡ record { agent = agent; time = time; cell = cell }))
-  visit_more time cell there v =
-      let more = spot_more time cell there (spot_of v) in (
+  pub visit_more : (time : ℕ) (cell : Point) → from ≤ time → place path time ≡ Some cell → (v : Visit) → IsSpotIn agent path from (time + 1) (spot_of v) ↔ (IsSpotIn agent path from time (spot_of v) ⊎ (v ≡ record { agent = agent; time = time; cell = cell }))
+  visit_more time cell on there v =
+      let more = spot_more time cell on there (spot_of v) in (
         (λ is. elim (more.0 is) [
           | inl before ↦ inl before
           | inr e ↦
@@ -48,18 +48,18 @@ module _ (agent : ℕ) (path : List Point) where
       )
 
 module _ (grid : Chart) (agent : ℕ) (path : List Point) where
-  pub no_visit : (v : Visit) → IsVisitIn grid agent path 0 0 v → ⊥
-  no_visit v is = omega (arith, is.early)
+  pub no_visit : (from : ℕ) (v : Visit) → IsVisitIn grid agent path from from v → ⊥
+  no_visit from v is = omega (arith, is.late, is.early)
 
-  pub blocked_more : (time : ℕ) (v : Visit) → IsVisitIn grid agent path 0 (time + 1) v ↔ (IsVisitIn grid agent path 0 time v ⊎ IsVisitIn grid agent path time (time + 1) v)
-  blocked_more time v = (
+  pub blocked_more : (from time : ℕ) → from ≤ time → (v : Visit) → IsVisitIn grid agent path from (time + 1) v ↔ (IsVisitIn grid agent path from time v ⊎ IsVisitIn grid agent path time (time + 1) v)
+  blocked_more from time on v = (
     (λ is. elim (cases_lt v.time time) [
       | inl lt ↦ inl (record { same_agent = is.same_agent; late = is.late; early = lt; blocked = is.blocked })
       | inr late ↦ inr (record { same_agent = is.same_agent; late = late; early = is.early; blocked = is.blocked })
     ]),
     (λ h. elim h [
       | inl is ↦ record { same_agent = is.same_agent; late = is.late; early = omega (arith, is.early); blocked = is.blocked }
-      | inr is ↦ record { same_agent = is.same_agent; late = omega arith; early = is.early; blocked = is.blocked }
+      | inr is ↦ record { same_agent = is.same_agent; late = omega (arith, is.late); early = is.early; blocked = is.blocked }
     ]),
   )
 

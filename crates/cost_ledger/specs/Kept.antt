@@ -10,7 +10,7 @@ use Rattle.plan_table.specs.declared.plans.Row.{Row}
 use Rattle.cost_ledger.specs.Spots.{IsSpotIn}
 use Rattle.cost_ledger.specs.declared.rests.Rest.{Rest}
 use Rattle.cost_ledger.specs.declared.spots.Spot.{Spot}
-use Rattle.cost_ledger.specs.declared.visits.Visit.{Visit}
+use Rattle.mapf_rules.specs.declared.visits.Visit.{Visit}
 
 -- an agent and the time at which it comes to rest
 abbrev pub rest : ℕ → ℕ → Rest
@@ -37,7 +37,7 @@ ends_elsewhere row =
 
 -- the spots of the paths of the rows
 abbrev pub AreSpots : List (ℕ × Row) → List Spot → Type 0
-AreSpots rows spots = (s : Spot) → Contains spots s ↔ ((row : Row) × (row_of rows s.agent ≡ Some row) × IsSpotIn s.agent row.plan (last_of_row row + 1) s)
+AreSpots rows spots = (s : Spot) → Contains spots s ↔ ((row : Row) × (row_of rows s.agent ≡ Some row) × IsSpotIn s.agent row.plan 0 (last_of_row row + 1) s)
 
 -- the last indices of the paths of the rows
 abbrev pub AreRests : List (ℕ × Row) → List Rest → Type 0

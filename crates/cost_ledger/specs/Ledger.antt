@@ -5,9 +5,9 @@ use Rattle.grid_cells.specs.Cell.{Point}
 use Rattle.grid_cells.specs.Grid.{Chart, IsClosed}
 use Rattle.plan_table.specs.Plans.{row_of}
 use Rattle.plan_table.specs.declared.plans.Row.{Row}
-use Rattle.cost_ledger.specs.Costs.{IsSettleTime, IsFinished, AreCosts}
-use Rattle.cost_ledger.specs.Visits.{AreVisits}
-use Rattle.cost_ledger.specs.declared.visits.Visit.{Visit}
+use Rattle.mapf_rules.specs.Costs.{IsSettleTime, IsFinished, AreCosts}
+use Rattle.mapf_rules.specs.Visits.{AreVisits}
+use Rattle.mapf_rules.specs.declared.visits.Visit.{Visit}
 
 -- the rows, and the visits that are told of them
 pub record Ledger : Type 0 where

@@ -1,7 +1,5 @@
-pub mod Costs
-pub mod Visits
 pub mod Laws
-pub mod VisitSearch
 pub mod Spots
+pub mod Replans
 pub mod Kept
 pub mod Ledger

@@ -6,7 +6,7 @@ use Rattle.grid_cells.specs.Cell.{Point}
 use Rattle.grid_cells.specs.declared.numbers.TheConstants.{MOST_AGENT}
 use Rattle.plan_table.specs.Path.{place}
 use Rattle.cost_ledger.specs.declared.spots.Spot.{Spot}
-use Rattle.cost_ledger.specs.declared.visits.Visit.{Visit}
+use Rattle.mapf_rules.specs.declared.visits.Visit.{Visit}
 
 -- the cell at that time on that agent's path
 abbrev pub spot : Point → ℕ → ℕ → Spot
@@ -32,9 +32,10 @@ GainsAll {X} old new P = (x : X) → Contains new x ↔ (Contains old x ⊎ P x)
 abbrev pub LosesAll : {X : Type 0} → List X → List X → (X → Type 0) → Type 0
 LosesAll {X} old new P = (x : X) → Contains new x ↔ (Contains old x × (P x → ⊥))
 
--- the agent's path has the spot's cell at its time, which is below the bound
-pub record IsSpotIn (agent : ℕ) (path : List Point) (to : ℕ) (s : Spot) : Type 0 where
+-- the agent's path has the spot's cell at its time, which is from one time on and before another
+pub record IsSpotIn (agent : ℕ) (path : List Point) (from to : ℕ) (s : Spot) : Type 0 where
   pub same_agent : s.agent ≡ agent
+  pub late : from ≤ s.time
   pub early : s.time < to
   pub there : place path s.time ≡ Some s.cell
 

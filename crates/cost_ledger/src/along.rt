@@ -1,44 +1,47 @@
 ghost use Rattle.std.specs.Prelude.{◌≡◌, ◌+◌, ◌≤◌, true, false, OnOk, Contains};
 ghost use Rattle.plan_table.specs.Path.{last_index};
 ghost use Rattle.cost_ledger.specs.Spots.{spot_of, GainsAll, LosesAll, IsSpotIn};
-ghost use Rattle.cost_ledger.specs.VisitSearch.{IsVisitIn};
+ghost use Rattle.mapf_rules.specs.VisitSearch.{IsVisitIn};
 
 use crate::blocked::Blocked;
-use crate::search::is_closed;
 use crate::spots::{Spot, Spots};
-use crate::visits::Visit;
 use grid_cells::{Agent, Grid, OutOfMemory, Step};
+use mapf_rules::{Visit, is_closed};
 use plan_table::Plan;
 
-/// Adds the spots of the agent's path.
-pub fn add_spots(spots: &mut Spots, agent: Agent, plan: &Plan) -> Result<(), OutOfMemory>
-    ensures { OnOk result (GainsAll spots.old spots.new (IsSpotIn agent plan.now (last_index plan.now + 1))) }
+/// Adds the spots of the agent's path from one time on.
+pub fn add_spots(spots: &mut Spots, agent: Agent, plan: &Plan, from: u32) -> Result<(), OutOfMemory>
+    requires { from ≤ last_index plan.now + 1 }
+    ensures { OnOk result (GainsAll spots.old spots.new (IsSpotIn agent plan.now from (last_index plan.now + 1))) }
 {
-    for time in 0..plan.last() + 1 {
+    for time in from..plan.last() + 1 {
         spots.add(plan.at(Step::new(time)), time, agent)?;
     }
     Ok(())
 }
 
-/// Takes the spots of the agent's path out.
-pub fn lose_spots(spots: &mut Spots, agent: Agent, plan: &Plan)
-    ensures { LosesAll spots.old spots.new (IsSpotIn agent plan.now (last_index plan.now + 1)) }
+/// Takes the spots of the agent's path from one time on out.
+pub fn lose_spots(spots: &mut Spots, agent: Agent, plan: &Plan, from: u32)
+    requires { from ≤ last_index plan.now + 1 }
+    ensures { LosesAll spots.old spots.new (IsSpotIn agent plan.now from (last_index plan.now + 1)) }
 {
-    for time in 0..plan.last() + 1 {
+    for time in from..plan.last() + 1 {
         spots.lose(plan.at(Step::new(time)), time, agent);
     }
 }
 
-/// Adds the agent's visits to closed cells.
+/// Adds the agent's visits to closed cells from one time on.
 pub fn block(
     blocked: &mut Blocked,
     grid: &Grid,
     agent: Agent,
     plan: &Plan,
+    from: u32,
 ) -> Result<(), OutOfMemory>
-    ensures { OnOk result (GainsAll blocked.old blocked.new (IsVisitIn grid.now agent plan.now 0 (last_index plan.now + 1))) }
+    requires { from ≤ last_index plan.now + 1 }
+    ensures { OnOk result (GainsAll blocked.old blocked.new (IsVisitIn grid.now agent plan.now from (last_index plan.now + 1))) }
 {
-    for time in 0..plan.last() + 1 {
+    for time in from..plan.last() + 1 {
         block_at(blocked, grid, agent, plan, time)?;
     }
     Ok(())
@@ -66,11 +69,12 @@ fn block_at(
     Ok(())
 }
 
-/// Takes the agent's visits out, wherever on its path they are.
-pub fn unblock(blocked: &mut Blocked, agent: Agent, plan: &Plan)
-    ensures { LosesAll blocked.old blocked.new (λ visit. IsSpotIn agent plan.now (last_index plan.now + 1) (spot_of visit)) }
+/// Takes the agent's visits from one time on out, wherever on its path they are.
+pub fn unblock(blocked: &mut Blocked, agent: Agent, plan: &Plan, from: u32)
+    requires { from ≤ last_index plan.now + 1 }
+    ensures { LosesAll blocked.old blocked.new (λ visit. IsSpotIn agent plan.now from (last_index plan.now + 1) (spot_of visit)) }
 {
-    for time in 0..plan.last() + 1 {
+    for time in from..plan.last() + 1 {
         blocked.lose(Visit {
             agent,
             time: Step::new(time),

@@ -3,8 +3,8 @@ ghost use Rattle.cost_ledger.specs.Kept.{visit_cmp};
 ghost use Rattle.cost_ledger.specs.Spots.{Gains, Loses};
 ghost use Rattle.std.specs.List.Sorted.{IsStrictlySortedBy};
 
-use crate::visits::Visit;
 use grid_cells::{List, OutOfMemory};
+use mapf_rules::Visit;
 use std::alloc::Global;
 use std::collections::BTreeSet;
 use std::marker::Model;
@@ -17,7 +17,7 @@ pub struct Blocked {
 
 impl Model for Blocked {
     ghost use Rattle.std.specs.Prelude.{List};
-    ghost use Rattle.cost_ledger.specs.declared.visits.Visit.{Visit};
+    ghost use Rattle.mapf_rules.specs.declared.visits.Visit.{Visit};
 
     ghost Value = { List Visit };
 

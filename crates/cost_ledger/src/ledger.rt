@@ -1,19 +1,18 @@
-ghost use Rattle.std.specs.Prelude.{◌≡◌, ◌↔◌, [], None, Some, IfOk, IfSome, IfNone, IsTrue};
+ghost use Rattle.std.specs.Prelude.{◌≡◌, ◌↔◌, [], None, Some, IfOk, IfSome, IfNone, IsTrue, length};
 ghost use Rattle.grid_cells.specs.Grid.{Chart};
 ghost use Rattle.plan_table.specs.Plans.{row_of, ChangesRow, IsByAgent};
-ghost use Rattle.cost_ledger.specs.Costs.{IsSumOfCosts, IsMakespan};
-ghost use Rattle.cost_ledger.specs.Visits.{AreVisits};
+ghost use Rattle.mapf_rules.specs.Costs.{IsSumOfCosts, IsMakespan};
+ghost use Rattle.mapf_rules.specs.Visits.{AreVisits};
 ghost use Rattle.cost_ledger.specs.Ledger.{StandsFor, SameBut, SameAt, IsSettleOf, IsFinishedIn, IsUnfinishedCount};
 
 use crate::along::{add_spots, block, lose_spots, set_blocked, unblock};
 use crate::blocked::Blocked;
+use crate::replans::{follow_spots, follow_visits};
 use crate::rests::Rests;
 use crate::rows::{Rows, elsewhere};
-use crate::search::is_closed;
 use crate::spots::Spots;
-use crate::totals::{is_finished, settle_time};
-use crate::visits::Visit;
 use grid_cells::{Agent, Cell, Grid, List, OutOfMemory};
+use mapf_rules::{Visit, is_closed, is_finished, settle_time};
 use plan_table::{MOST_LAST_INDEX, Plan, Row};
 use std::alloc::Global;
 use std::marker::Model;
@@ -82,8 +81,8 @@ impl CostLedger {
             plan: plan.copy()?,
         };
         let away = elsewhere(&row);
-        add_spots(&mut self.spots, agent, plan)?;
-        block(&mut self.blocked, grid, agent, plan)?;
+        add_spots(&mut self.spots, agent, plan, 0)?;
+        block(&mut self.blocked, grid, agent, plan, 0)?;
         self.rests.add(last, agent)?;
         self.rows.insert(agent, row)?;
         self.total += u64::from(last);
@@ -103,8 +102,8 @@ impl CostLedger {
             return;
         };
         let last = row.plan.last();
-        lose_spots(&mut self.spots, agent, &row.plan);
-        unblock(&mut self.blocked, agent, &row.plan);
+        lose_spots(&mut self.spots, agent, &row.plan, 0);
+        unblock(&mut self.blocked, agent, &row.plan, 0);
         self.rests.lose(last, agent);
         self.total -= u64::from(last);
         self.elsewhere -= elsewhere(&row);
@@ -122,6 +121,44 @@ impl CostLedger {
             return;
         };
         self.elsewhere = self.elsewhere - before + after;
+    }
+
+    /// Gives the agent another plan, if it is in it. The grid is the one that the ledger stands for.
+    /// What is kept changes from the first time on at which the plans differ.
+    ///
+    /// # Errors
+    ///
+    /// Want of memory. The ledger is gone then.
+    pub fn set_plan(
+        mut self,
+        agent: Agent,
+        plan: &Plan,
+        grid: &Grid,
+    ) -> Result<CostLedger, OutOfMemory>
+        ensures row { IfOk result (λ ledger. IfSome (row_of self.rows agent) (λ row. ChangesRow self.rows ledger.rows agent (Some (record row { plan = plan.now })))) }
+        ensures by_agent { IfOk result (λ ledger. IsByAgent ledger.rows) }
+        ensures stands { IfOk result (λ ledger. StandsFor self grid.now → StandsFor ledger grid.now) }
+        ensures none { IfNone (row_of self.rows agent) (IfOk result (λ ledger. ledger ≡ self)) }
+    {
+        let Some(old) = self.rows.remove(agent) else {
+            return Ok(self);
+        };
+        let row = Row {
+            goal: old.goal,
+            plan: plan.copy()?,
+        };
+        let since = old.plan.same_front(plan);
+        follow_spots(&mut self.spots, agent, &old.plan, plan, since)?;
+        follow_visits(&mut self.blocked, grid, agent, &old.plan, plan, since)?;
+        let (before, after) = (old.plan.last(), plan.last());
+        let (stayed_away, stays_away) = (elsewhere(&old), elsewhere(&row));
+        self.rests.lose(before, agent);
+        self.rests.add(after, agent)?;
+        self.rows.insert(agent, row)?;
+        self.total = self.total - u64::from(before) + u64::from(after);
+        self.elsewhere = self.elsewhere - stayed_away + stays_away;
+        let _count = self.blocked.count();
+        Ok(self)
     }
 
     /// Gives the cell the state that it has in the grid.
@@ -191,6 +228,14 @@ impl CostLedger {
         ensures by_agent { IsByAgent self.now.rows }
     {
         self.elsewhere
+    }
+
+    /// How many blocked visits the agents have.
+    pub fn visits(&self) -> usize
+        ensures is { result ≡ length self.now.visits }
+        ensures by_agent { IsByAgent self.now.rows }
+    {
+        self.blocked.count()
     }
 
     /// The blocked visits of the agents, by agent, then time.

@@ -1,22 +1,19 @@
-//! Costs of a fleet's plans, and its visits to closed cells.
+//! A ledger of the costs of a fleet's plans, and of its visits to closed cells.
 #![tactic(auto)]
 
 mod along;
 mod blocked;
 mod laws;
 mod ledger;
+mod replans;
 mod rests;
 mod rows;
-mod search;
 mod spots;
-mod totals;
-mod visits;
 
-pub use laws::{
-    empty_stands_for_all, one_sum_and_makespan, one_visit_list, setting_changes_one,
-    settles_at_last,
-};
+pub use laws::{empty_stands_for_all, setting_changes_one};
 pub use ledger::CostLedger;
-pub use search::{add_visits, blocked_visits, is_closed, is_unblocked};
-pub use totals::{costs, greatest_of, is_finished, makespan, settle_time, sum_of, sum_of_costs};
-pub use visits::Visit;
+pub use mapf_rules::{
+    Visit, add_visits, blocked_visits, costs, greatest_of, is_closed, is_finished, is_unblocked,
+    makespan, one_sum_and_makespan, one_visit_list, settle_time, settles_at_last, sum_of,
+    sum_of_costs,
+};

@@ -1,6 +1,6 @@
 use Rattle.cost_ledger.specs.Spots.{GainsAll}
-use Rattle.cost_ledger.specs.VisitSearch.{IsVisitIn}
+use Rattle.mapf_rules.specs.VisitSearch.{IsVisitIn}
 use Rattle.cost_ledger.proofs.along.block.Given as goal
 
 abbrev pub invariant-loop-time : goal.invariant-loop-time
-invariant-loop-time l = GainsAll l.fn.blocked l.blocked (IsVisitIn l.grid l.agent l.plan 0 l.time)
+invariant-loop-time l = GainsAll l.fn.blocked l.blocked (IsVisitIn l.grid l.agent l.plan l.fn.from l.time)

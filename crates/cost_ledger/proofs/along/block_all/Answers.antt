@@ -2,7 +2,7 @@ use Rattle.std.proofs.Common.{◌≡◌, ℕ, List, length, take, Contains, ap, 
 use Rattle.std.proofs.Math.Seq.{take-length}
 use Rattle.cost_ledger.specs.Spots.{GainsAll, spot_of}
 use Rattle.cost_ledger.specs.declared.spots.Spot.{Spot}
-use Rattle.cost_ledger.specs.declared.visits.Visit.{Visit}
+use Rattle.mapf_rules.specs.declared.visits.Visit.{Visit}
 use Rattle.cost_ledger.proofs.Sets.{gains_more}
 use Rattle.cost_ledger.proofs.PathSteps.{taken_visit}
 use Rattle.cost_ledger.proofs.along.block_all.Goals as goal

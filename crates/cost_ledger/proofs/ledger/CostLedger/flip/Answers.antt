@@ -1,7 +1,7 @@
 use Rattle.std.proofs.Common.{◌≡◌, List, Contains, subst}
 use Rattle.cost_ledger.specs.Spots.{spot_of, GainsAll, LosesAll}
 use Rattle.cost_ledger.specs.declared.spots.Spot.{Spot}
-use Rattle.cost_ledger.specs.declared.visits.Visit.{Visit}
+use Rattle.mapf_rules.specs.declared.visits.Visit.{Visit}
 use Rattle.cost_ledger.proofs.Keeping.{visits_flipped}
 use Rattle.cost_ledger.proofs.ledger.CostLedger.flip.Goals as goal
 

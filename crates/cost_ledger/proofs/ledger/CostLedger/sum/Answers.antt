@@ -1,5 +1,5 @@
 use Rattle.std.proofs.Common.{sym, ◌∙◌, subst, Some}
-use Rattle.cost_ledger.specs.Costs.{IsSumOf}
+use Rattle.mapf_rules.specs.Costs.{IsSumOf}
 use Rattle.cost_ledger.proofs.Keeping.{all_paths}
 use Rattle.cost_ledger.proofs.KeptTotals.{costs_of, are_costs, sum_given, given_all}
 use Rattle.cost_ledger.proofs.ledger.CostLedger.sum.Goals as goal
