@@ -5,10 +5,10 @@ use Rattle.std.proofs.lemmas.List.{take_more}
 use Rattle.std.proofs.lemmas.List.Elements.{Contains-append_left, Contains-append_right, Contains-append_cases, Contains-push, Contains-push_cases}
 use Rattle.plan_table.specs.Order.{ListsAll}
 use Rattle.plan_table.specs.Route.{Fleet, last_of}
-use Rattle.conflict_ledger.specs.ConflictList.{Stands, listing_key}
-use Rattle.conflict_ledger.specs.Naming.{IsOfPair}
-use Rattle.conflict_ledger.specs.declared.entries.Conflict.{Conflict}
-use Rattle.conflict_ledger.specs.declared.entries.Conflict.TheVariants.{Vertex, Parked, Edge, Following, Swapping, Cycle}
+use Rattle.mapf_rules.specs.ConflictList.{Stands, listing_key}
+use Rattle.mapf_rules.specs.Naming.{IsOfPair}
+use Rattle.mapf_rules.specs.declared.entries.Conflict.{Conflict}
+use Rattle.mapf_rules.specs.declared.entries.Conflict.TheVariants.{Vertex, Parked, Edge, Following, Swapping, Cycle}
 use Rattle.desk_audit.specs.Parts.{first_agent, IsRanked}
 use Rattle.desk_audit.specs.Seeking.{Finds, IsOfMet, IsOfPassed}
 use mathlib.Core.Logic.{◌↔◌}

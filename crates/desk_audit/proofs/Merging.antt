@@ -17,9 +17,9 @@ use Rattle.plan_table.specs.Plans.{row_of, agents_of, IsByAgent}
 use Rattle.plan_table.specs.declared.plans.Row.{Row}
 use Rattle.plan_table.proofs.Order.{Contains-nil}
 use Rattle.plan_table.proofs.Fleets.{row_at_rank, row_here, rank_of}
-use Rattle.cost_ledger.specs.Visits.{IsVisit, IsBlocked, visit_key, AreVisits}
-use Rattle.cost_ledger.specs.VisitSearch.{AddsVisits}
-use Rattle.cost_ledger.specs.declared.visits.Visit.{Visit}
+use Rattle.mapf_rules.specs.Visits.{IsVisit, IsBlocked, visit_key, AreVisits}
+use Rattle.mapf_rules.specs.VisitSearch.{AddsVisits}
+use Rattle.mapf_rules.specs.declared.visits.Visit.{Visit}
 use Rattle.desk_audit.specs.Parts.{IsRanked, IsVisitOf, edge}
 
 -- agents rise with their ranks

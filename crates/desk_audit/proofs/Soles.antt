@@ -5,8 +5,8 @@ use Rattle.std.proofs.lemmas.Option.{same_Some}
 use Rattle.grid_cells.specs.Cell.{Point}
 use Rattle.plan_table.specs.Route.{Fleet}
 use Rattle.plan_table.proofs.Fleets.{changes_early}
-use Rattle.conflict_ledger.specs.Cycles.{MovesOut}
-use Rattle.conflict_ledger.specs.RingWalk.{IsSoleMover}
+use Rattle.mapf_rules.specs.Cycles.{MovesOut}
+use Rattle.mapf_rules.specs.RingWalk.{IsSoleMover}
 use Rattle.desk_audit.specs.Filing.{bucket_of, slot_bucket}
 use Rattle.desk_audit.specs.Index.{IsIndexOf, pass}
 use Rattle.desk_audit.specs.declared.tables.Slot.{Slot}

@@ -8,15 +8,15 @@ use Rattle.plan_table.specs.Route.{Fleet, tracks_of}
 use Rattle.plan_table.specs.declared.plans.Row.{Row}
 use Rattle.plan_table.specs.declared.tracks.Mode.{Mode}
 use Rattle.scene_edits.specs.Scene.{SceneState}
-use Rattle.conflict_ledger.specs.ConflictList.{Stands, AreConflicts, listing_key}
-use Rattle.conflict_ledger.specs.declared.entries.Conflict.TheVariants.{Vertex, Parked, Edge, Following, Swapping, Cycle}
-use Rattle.conflict_ledger.proofs.Live.{stands_live}
-use Rattle.conflict_ledger.proofs.RoundTrips.{ring_live}
+use Rattle.mapf_rules.specs.ConflictList.{Stands, AreConflicts, listing_key}
+use Rattle.mapf_rules.specs.declared.entries.Conflict.TheVariants.{Vertex, Parked, Edge, Following, Swapping, Cycle}
+use Rattle.mapf_rules.proofs.Live.{stands_live}
+use Rattle.mapf_rules.proofs.RoundTrips.{ring_live}
 use Rattle.plan_table.proofs.Fleets.{tracks_live}
 use Rattle.std.specs.Prelude.{IsSome}
 use Rattle.std.proofs.lemmas.List.{take_rest}
-use Rattle.conflict_ledger.specs.declared.entries.Conflict.{Conflict}
-use Rattle.cost_ledger.specs.Visits.{visit_key}
+use Rattle.mapf_rules.specs.declared.entries.Conflict.{Conflict}
+use Rattle.mapf_rules.specs.Visits.{visit_key}
 use Rattle.desk_report.specs.Report.{IsLine, AreLines}
 use Rattle.desk_audit.specs.Parts.{IsPart, IsVisitOf, AreEntriesOf, first_agent}
 use Rattle.desk_audit.specs.declared.parts.Part.{Part}

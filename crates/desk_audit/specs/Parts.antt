@@ -6,14 +6,14 @@ use Rattle.plan_table.specs.Plans.{agents_of, row_of}
 use Rattle.plan_table.specs.Route.{Fleet, tracks_of}
 use Rattle.plan_table.specs.declared.tracks.Mode.{Mode}
 use Rattle.scene_edits.specs.Scene.{IsRowOn}
-use Rattle.conflict_ledger.specs.ConflictList.{Stands}
-use Rattle.cost_ledger.specs.Visits.{IsVisit, visit_key}
-use Rattle.cost_ledger.specs.declared.visits.Visit.{Visit}
+use Rattle.mapf_rules.specs.ConflictList.{Stands}
+use Rattle.mapf_rules.specs.Visits.{IsVisit, visit_key}
+use Rattle.mapf_rules.specs.declared.visits.Visit.{Visit}
 use Rattle.desk_report.specs.Report.{IsBound, AreLines}
 use Rattle.desk_audit.specs.declared.parts.Part.{Part}
 use Rattle.plan_table.specs.declared.plans.Row.{Row}
-use Rattle.conflict_ledger.specs.declared.entries.Conflict.{Conflict}
-use Rattle.conflict_ledger.specs.declared.entries.Conflict.TheVariants.{Vertex, Parked, Edge, Following, Swapping, Cycle}
+use Rattle.mapf_rules.specs.declared.entries.Conflict.{Conflict}
+use Rattle.mapf_rules.specs.declared.entries.Conflict.TheVariants.{Vertex, Parked, Edge, Following, Swapping, Cycle}
 
 -- the agent has a rank from one on and before another
 pub record IsRanked (rows : List (ℕ × Row)) (from to agent : ℕ) : Type 0 where

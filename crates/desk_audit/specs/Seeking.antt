@@ -2,10 +2,10 @@
 use Rattle.std.specs.Prelude.{◌≡◌, ◌≢◌, ◌⊎◌, ℕ, ◌+◌, ◌<◌, ◌≤◌, Option, Some, List, Contains, slice_index}
 use Rattle.grid_cells.specs.Cell.{Point}
 use Rattle.plan_table.specs.Route.{Fleet, position_of, last_of}
-use Rattle.conflict_ledger.specs.ConflictList.{Stands}
-use Rattle.conflict_ledger.specs.Naming.{IsOfPair}
-use Rattle.conflict_ledger.specs.declared.entries.Conflict.{Conflict}
-use Rattle.conflict_ledger.specs.declared.entries.Conflict.TheVariants.{Vertex, Parked, Edge, Following, Swapping, Cycle}
+use Rattle.mapf_rules.specs.ConflictList.{Stands}
+use Rattle.mapf_rules.specs.Naming.{IsOfPair}
+use Rattle.mapf_rules.specs.declared.entries.Conflict.{Conflict}
+use Rattle.mapf_rules.specs.declared.entries.Conflict.TheVariants.{Vertex, Parked, Edge, Following, Swapping, Cycle}
 use Rattle.desk_audit.specs.Parts.{first_agent}
 use Rattle.desk_audit.specs.declared.tables.Pass.{Pass}
 

@@ -1,12 +1,12 @@
 //! The conflict entries of a piece: those whose first written agent has a rank in the piece.
-ghost use Rattle.std.specs.Prelude.{◌≡◌, ◌≢◌, ℕ, ◌+◌, ◌<◌, ◌≤◌, ◌↔◌, IsTrue, IfOk, OnOk, Some, Contains, length, slice_get};
+ghost use Rattle.std.specs.Prelude.{◌≡◌, ◌≢◌, ℕ, ◌+◌, ◌<◌, ◌≤◌, ◌↔◌, IfOk, OnOk, Some, Contains, length, slice_get};
 ghost use Rattle.grid_cells.specs.Cell.{Point};
 ghost use Rattle.plan_table.specs.Path.{last_index, place};
 ghost use Rattle.plan_table.specs.Plans.{agents_of};
 ghost use Rattle.plan_table.specs.Route.{tracks_of, position_of, last_of};
-ghost use Rattle.conflict_ledger.specs.ConflictList.{Stands};
-ghost use Rattle.conflict_ledger.specs.Naming.{IsOfPair};
-ghost use Rattle.conflict_ledger.specs.declared.entries.Conflict.{Conflict};
+ghost use Rattle.mapf_rules.specs.ConflictList.{Stands};
+ghost use Rattle.mapf_rules.specs.Naming.{IsOfPair};
+ghost use Rattle.mapf_rules.specs.declared.entries.Conflict.{Conflict};
 ghost use Rattle.desk_audit.specs.Index.{IsIndexOf};
 ghost use Rattle.desk_audit.specs.Parts.{IsRanked, first_agent};
 ghost use Rattle.desk_audit.specs.Seeking.{Finds, time_of, IsOfMet, IsOfPassed, IsRingFrom, IsAhead, Leads, HasMet};
@@ -15,8 +15,8 @@ ghost use Rattle.desk_audit.specs.declared.tables.Pass.{Pass};
 use crate::movers::Indexed;
 use crate::sightings::Sightings;
 use crate::tables::Pass;
-use conflict_ledger::{Conflict, Ring, entries_of_pair, last, ring_from};
 use grid_cells::{Agent, Cell, OutOfMemory, Step};
+use mapf_rules::{Conflict, entries_of_pair, last, ring_from};
 use plan_table::{MOST_LAST_INDEX, Mode, Plans};
 use std::alloc::Global;
 
@@ -96,23 +96,11 @@ fn add_ring(
     let Some(ring) = ring_from(alloc, movers, time, agent, to)? else {
         return Ok(());
     };
-    if begins_with(&ring, agent) {
-        entries.push(Conflict::Cycle {
-            time: Step::new(time),
-            ring,
-        })?;
-    }
+    entries.push(Conflict::Cycle {
+        time: Step::new(time),
+        ring,
+    })?;
     Ok(())
-}
-
-// Whether the first agent of the ring is that one.
-fn begins_with(ring: &Ring, agent: Agent) -> bool
-    ensures { IsTrue result ↔ (slice_get ring.now 0 ≡ Some agent) }
-{
-    match ring.items().first() {
-        Some(first) => *first == agent,
-        None => false,
-    }
 }
 
 // The other agents that are in the cell at the time.

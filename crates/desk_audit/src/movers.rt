@@ -3,13 +3,13 @@
 ghost use Rattle.std.specs.Prelude.{◌≡◌, ℕ, ◌<◌, Some, IfSome, IsSome};
 ghost use Rattle.grid_cells.specs.Cell.{Point};
 ghost use Rattle.plan_table.specs.Route.{tracks_of};
-ghost use Rattle.conflict_ledger.specs.RingWalk.{IsSoleMover, MovesTo};
+ghost use Rattle.mapf_rules.specs.RingWalk.{IsSoleMover, MovesTo};
 ghost use Rattle.desk_audit.specs.Index.{IsIndexOf};
 
 use crate::sightings::Sightings;
 use crate::tables::bucket;
-use conflict_ledger::{Movers, destination, moves_out};
 use grid_cells::{Agent, Cell};
+use mapf_rules::{Movers, destination, moves_out};
 use plan_table::{Mode, Plans};
 use std::marker::Model;
 

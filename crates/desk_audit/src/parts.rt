@@ -8,10 +8,9 @@ use crate::entries::entries_of;
 use crate::lines::lines_of;
 use crate::sightings::Sightings;
 use crate::visits::visits_of;
-use conflict_ledger::Conflict;
-use cost_ledger::Visit;
 use desk_report::AgentLine;
 use grid_cells::{Grid, OutOfMemory};
+use mapf_rules::{Conflict, Visit};
 use plan_table::{Mode, Plans};
 use std::alloc::Global;
 

@@ -1,11 +1,11 @@
 //! The blocked visits of a piece.
 ghost use Rattle.std.specs.Prelude.{◌≤◌, IfOk, length};
 ghost use Rattle.plan_table.specs.Order.{ListsAll};
-ghost use Rattle.cost_ledger.specs.Visits.{visit_key};
+ghost use Rattle.mapf_rules.specs.Visits.{visit_key};
 ghost use Rattle.desk_audit.specs.Parts.{IsVisitOf};
 
-use cost_ledger::{Visit, add_visits};
 use grid_cells::{Grid, OutOfMemory};
+use mapf_rules::{Visit, add_visits};
 use plan_table::Plans;
 use std::alloc::Global;
 

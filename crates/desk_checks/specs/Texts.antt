@@ -1,7 +1,7 @@
 -- The text of a verdict (this project's choice).
 use Rattle.std.specs.Prelude.{ℕ, Bool, true, false, List, [], ◌∷◌, ◌++◌, length, codes, count_by}
-use Rattle.conflict_ledger.specs.ConflictList.{kind_of}
-use Rattle.conflict_ledger.specs.declared.entries.Conflict.{Conflict}
+use Rattle.mapf_rules.specs.ConflictList.{kind_of}
+use Rattle.mapf_rules.specs.declared.entries.Conflict.{Conflict}
 use Rattle.desk_report.specs.LineText.{line_text, answer_text}
 use Rattle.desk_report.specs.ReportText.{count_line, report_text, totals_text}
 use Rattle.desk_report.specs.Solves.{is_named}

@@ -4,8 +4,8 @@ ghost use Rattle.std.specs.Io.KnownBytes.{Appends};
 ghost use Rattle.desk_report.specs.ReportText.{count_line, total_line, totals_text};
 ghost use Rattle.desk_checks.specs.Texts.{count_named, kind_line, kinds_text, quiet_text};
 
-use conflict_ledger::Conflict;
 use desk_report::{Kinds, Report, Sink, Word, WriteFailed, put_line};
+use mapf_rules::Conflict;
 
 // No kind.
 const NONE: Kinds = Kinds {

@@ -13,9 +13,9 @@ use Rattle.grid_cells.specs.Size.{Holds}
 use Rattle.plan_table.specs.Path.{last_index, place, IsPath}
 use Rattle.plan_table.specs.declared.plans.Row.{Row}
 use Rattle.plan_table.proofs.Order.{EachOf-with}
-use Rattle.cost_ledger.specs.Costs.{IsFinished}
-use Rattle.cost_ledger.specs.Visits.{IsUnblocked}
-use Rattle.cost_ledger.proofs.Settling.{settles, settle_once}
+use Rattle.mapf_rules.specs.Costs.{IsFinished}
+use Rattle.mapf_rules.specs.Visits.{IsUnblocked}
+use Rattle.mapf_rules.proofs.Settling.{settles, settle_once}
 use Rattle.desk_report.specs.Report.{IsLine}
 use Rattle.desk_report.specs.Laws.{SettleIsBoundAndGap, IsPathOn, HasBoundAndGap}
 use Rattle.desk_report.specs.declared.reports.AgentLine.{AgentLine}

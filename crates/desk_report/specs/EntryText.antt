@@ -1,7 +1,7 @@
 -- How the entries of a conflict list are written: the kind, the time, the agents, the cells (this project's choice).
 use Rattle.std.specs.Prelude.{ℕ, List, [], ◌∷◌, map, codes, decimal}
-use Rattle.conflict_ledger.specs.declared.entries.Conflict.{Conflict}
-use Rattle.conflict_ledger.specs.declared.entries.Conflict.TheVariants.{Vertex, Parked, Edge, Following, Swapping, Cycle}
+use Rattle.mapf_rules.specs.declared.entries.Conflict.{Conflict}
+use Rattle.mapf_rules.specs.declared.entries.Conflict.TheVariants.{Vertex, Parked, Edge, Following, Swapping, Cycle}
 use Rattle.desk_report.specs.LineText.{line_text, cell_text}
 
 abbrev pub entry_line : Conflict → List ℕ

@@ -9,9 +9,9 @@ use Rattle.plan_table.specs.Order.{EachOf}
 use Rattle.plan_table.specs.Route.{tracks_of}
 use Rattle.plan_table.specs.declared.plans.Row.{Row}
 use Rattle.plan_table.specs.declared.tracks.Mode.{Mode}
-use Rattle.conflict_ledger.specs.ConflictList.{AreConflicts}
-use Rattle.cost_ledger.specs.Costs.{IsSettleTime, IsFinished, IsSumOf, IsSumOfCosts, IsMakespan}
-use Rattle.cost_ledger.specs.Visits.{AreVisits, IsUnblocked}
+use Rattle.mapf_rules.specs.ConflictList.{AreConflicts}
+use Rattle.mapf_rules.specs.Costs.{IsSettleTime, IsFinished, IsSumOf, IsSumOfCosts, IsMakespan}
+use Rattle.mapf_rules.specs.Visits.{AreVisits, IsUnblocked}
 use Rattle.desk_report.specs.declared.reports.AgentLine.{AgentLine}
 use Rattle.desk_report.specs.declared.reports.Report.{Report}
 

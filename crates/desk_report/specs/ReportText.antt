@@ -1,7 +1,7 @@
 -- The text of a report (this project's choice of lines and of their order).
 use Rattle.std.specs.Prelude.{ℕ, List, [], ◌∷◌, ◌++◌, Option, length, codes, decimal}
 use Rattle.std.specs.List.{flat_map}
-use Rattle.cost_ledger.specs.declared.visits.Visit.{Visit}
+use Rattle.mapf_rules.specs.declared.visits.Visit.{Visit}
 use Rattle.desk_report.specs.LineText.{line_text, cell_text, given_text, answer_text}
 use Rattle.desk_report.specs.EntryText.{entry_line}
 use Rattle.desk_report.specs.declared.reports.AgentLine.{AgentLine}

@@ -1,13 +1,13 @@
 ghost use Rattle.std.specs.Prelude.{◌≡◌, ◌+◌, ◌<◌, ◌≤◌, IfOk, length, map, slice_get, Option, Some, ℕ};
-ghost use Rattle.cost_ledger.specs.Costs.{IsSumOf, IsSumOfCosts, IsMakespan};
+ghost use Rattle.mapf_rules.specs.Costs.{IsSumOf, IsSumOfCosts, IsMakespan};
 ghost use Rattle.desk_report.specs.Report.{IsBound, IsLine, AreBounds, AreLines, IsReportOf};
 
 use crate::reports::{AgentLine, Report};
-use conflict_ledger::{Conflict, conflicts};
-use cost_ledger::{
-    Visit, blocked_visits, is_finished, is_unblocked, makespan, settle_time, sum_of, sum_of_costs,
-};
 use grid_cells::{Agent, Grid, List, MOST_AGENT, OutOfMemory};
+use mapf_rules::{
+    Conflict, Visit, blocked_visits, conflicts, is_finished, is_unblocked, makespan, settle_time,
+    sum_of, sum_of_costs,
+};
 use plan_table::{Mode, Plans, Row};
 use std::alloc::Global;
 

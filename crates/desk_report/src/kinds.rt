@@ -1,7 +1,7 @@
 ghost use Rattle.std.specs.Prelude.{◌≡◌};
 ghost use Rattle.desk_report.specs.Solves.{is_named};
 
-use conflict_ledger::Kind;
+use mapf_rules::Kind;
 
 /// Kinds of conflicts that a planner asks about: `vertex` stands for Vertex and Parked entries.
 #[derive(Clone, Copy, Debug, PartialEq, Eq)]

@@ -10,8 +10,8 @@ use crate::bytes::{Sink, WriteFailed};
 use crate::text::cycles::put_cycle;
 use crate::text::totals::put_count;
 use crate::words::{Word, put_line};
-use conflict_ledger::Conflict;
 use grid_cells::{Agent, Cell, List, Step};
+use mapf_rules::Conflict;
 
 // The line of two agents in one cell, or of one that follows the other into it.
 fn put_pair<W: Sink>(

@@ -7,8 +7,8 @@ ghost use Rattle.desk_report.specs.ReportText.{visit_line, count_line};
 use crate::bytes::{Sink, WriteFailed};
 use crate::text::totals::put_count;
 use crate::words::{Word, put_line};
-use cost_ledger::Visit;
 use grid_cells::List;
+use mapf_rules::Visit;
 
 // The line of a visit to a closed cell.
 fn put_visit<W: Sink>(sink: &mut W, visit: &Visit) -> Result<(), WriteFailed>

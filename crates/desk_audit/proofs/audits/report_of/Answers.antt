@@ -3,9 +3,9 @@ use Rattle.std.specs.Prelude.{map}
 use Rattle.plan_table.specs.Route.{tracks_of}
 use Rattle.plan_table.specs.declared.plans.Row.{Row}
 use Rattle.plan_table.proofs.Order.{EachOf-length}
-use Rattle.conflict_ledger.specs.ConflictList.{AreConflicts}
-use Rattle.cost_ledger.specs.Costs.{IsSumOf, IsSumOfCosts, IsMakespan}
-use Rattle.cost_ledger.specs.Visits.{AreVisits}
+use Rattle.mapf_rules.specs.ConflictList.{AreConflicts}
+use Rattle.mapf_rules.specs.Costs.{IsSumOf, IsSumOfCosts, IsMakespan}
+use Rattle.mapf_rules.specs.Visits.{AreVisits}
 use Rattle.desk_report.specs.Report.{AreLines, IsLine}
 use Rattle.desk_report.specs.declared.reports.AgentLine.{AgentLine}
 use Rattle.desk_audit.proofs.Merging.{all_visits}

@@ -5,7 +5,7 @@ use Rattle.plan_table.specs.Path.{place}
 use Rattle.plan_table.specs.Route.{tracks_of}
 use Rattle.plan_table.specs.declared.plans.Row.{Row}
 use Rattle.plan_table.proofs.Fleets.{row_here}
-use Rattle.conflict_ledger.proofs.PairEntries.{OnOk_then}
+use Rattle.mapf_rules.proofs.PairEntries.{OnOk_then}
 use Rattle.desk_audit.specs.Parts.{first_agent}
 use Rattle.desk_audit.specs.Seeking.{Finds, time_of}
 use Rattle.desk_audit.proofs.Finding.{finds_then, finds_none}

@@ -1,6 +1,6 @@
 use Rattle.std.proofs.Common.{take, ◌+◌, inl, inr, arith}
 use Rattle.plan_table.specs.Route.{tracks_of}
-use Rattle.conflict_ledger.specs.Naming.{IsOfPair}
+use Rattle.mapf_rules.specs.Naming.{IsOfPair}
 use Rattle.desk_audit.specs.Seeking.{IsOfMet}
 use Rattle.desk_audit.proofs.Finding.{finds_then, finds_as, met_split}
 use Rattle.desk_audit.proofs.entries.add_met.Goals as goal

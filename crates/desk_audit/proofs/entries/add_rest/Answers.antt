@@ -1,6 +1,6 @@
 use Rattle.std.proofs.Common.{◌≡◌, ◌<◌, List, Contains, sym, subst}
 use Rattle.plan_table.specs.Route.{tracks_of}
-use Rattle.conflict_ledger.proofs.PairEntries.{OnOk_then}
+use Rattle.mapf_rules.proofs.PairEntries.{OnOk_then}
 use Rattle.desk_audit.specs.Parts.{first_agent}
 use Rattle.desk_audit.specs.Seeking.{IsOfPassed, time_of}
 use Rattle.desk_audit.specs.declared.tables.Pass.{Pass}

@@ -1,8 +1,8 @@
 use Rattle.std.proofs.Common.{◌↔◌}
 use Rattle.std.specs.List.{Contains}
 use Rattle.plan_table.specs.Route.{tracks_of}
-use Rattle.conflict_ledger.specs.ConflictList.{Stands}
-use Rattle.conflict_ledger.specs.declared.entries.Conflict.{Conflict}
+use Rattle.mapf_rules.specs.ConflictList.{Stands}
+use Rattle.mapf_rules.specs.declared.entries.Conflict.{Conflict}
 use Rattle.desk_audit.specs.Parts.{IsRanked, first_agent}
 use Rattle.desk_audit.proofs.entries.entries_of.Given as goal
 

@@ -2,7 +2,7 @@ use Rattle.std.proofs.Common.{◌+◌, length}
 use Rattle.std.specs.Prelude.{IfSome}
 use Rattle.std.specs.Option.{option_map_or}
 use Rattle.plan_table.specs.Route.{tracks_of}
-use Rattle.conflict_ledger.specs.Cycles.{MovesOut}
+use Rattle.mapf_rules.specs.Cycles.{MovesOut}
 use Rattle.desk_audit.specs.Filing.{bucket_of}
 use Rattle.desk_audit.proofs.Chains.{Walked}
 use Rattle.desk_audit.proofs.Soles.{Tells}

@@ -1,5 +1,5 @@
 use Rattle.plan_table.specs.Order.{ListsAll}
-use Rattle.cost_ledger.specs.Visits.{visit_key}
+use Rattle.mapf_rules.specs.Visits.{visit_key}
 use Rattle.desk_audit.specs.Parts.{IsVisitOf}
 use Rattle.desk_audit.proofs.visits.visits_of.Given as goal
 

@@ -1,6 +1,6 @@
 use Rattle.std.proofs.Common.{◌≡◌, subst, sym}
 use Rattle.plan_table.specs.Route.{Fleet, tracks_of}
-use Rattle.conflict_ledger.specs.RingWalk.{IsSoleMover}
+use Rattle.mapf_rules.specs.RingWalk.{IsSoleMover}
 use Rattle.desk_audit.specs.Index.{Fleetwide}
 use Rattle.desk_audit.proofs.movers.IndexedMovers.sole_mover.Goals as goal
 
