@@ -7,14 +7,13 @@ use Rattle.plan_table.specs.declared.plans.Row.{Row}
 use Rattle.plan_table.specs.declared.tracks.Mode.{Mode}
 use Rattle.scene_edits.specs.Scene.{SceneState}
 use Rattle.scene_edits.specs.InOrder.{edited_all}
-use Rattle.scene_edits.specs.Following.{ChangedBy}
 use Rattle.scene_edits.specs.declared.changes.Change.{Change}
 use Rattle.scene_edits.proofs.Returning.{edits_keep_size_holds}
 use Rattle.former_rows.specs.Formers.{AreFormers}
 use Rattle.former_rows.specs.Flips.{HoldFlips}
 use Rattle.former_rows.specs.declared.agents.Former.{Former}
 use Rattle.desk_books.specs.Books.{BooksState, Keep, AreOf}
-use Rattle.desk_books.specs.Following.{AreLeft}
+use Rattle.desk_books.specs.Following.{ChangedBy, AreLeft}
 
 module _ (before scene : SceneState) (changes : List Change) (changed : ChangedBy before changes scene) where
   pub same_mode : before.mode ≡ scene.mode

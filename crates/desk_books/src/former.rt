@@ -20,5 +20,6 @@ pub(crate) fn track_of(goal: Cell, plan: &Plan, mode: Mode) -> Track<'_>
 pub(crate) fn is_same_plan(one: &Plan, other: &Plan) -> bool
     ensures { IsTrue result ↔ (one.now ≡ other.now) }
 {
-    one.cells() == other.cells()
+    let same = one.same_front(other);
+    one.last() < same && other.last() < same
 }

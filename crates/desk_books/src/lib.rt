@@ -6,6 +6,7 @@ mod builds;
 mod changing;
 mod following;
 mod former;
+mod solving;
 
 pub use books::Books;
 pub use builds::BuildCount;

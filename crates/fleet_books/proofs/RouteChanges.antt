@@ -4,7 +4,7 @@ use Rattle.std.proofs.lemmas.Bool.{eqb-true, eq-eqb}
 use Rattle.plan_table.specs.Route.{Route, Fleet}
 use Rattle.where_index.specs.Index.{with_route}
 use Rattle.conflict_ledger.specs.Kept.{HasEntries}
-use Rattle.conflict_ledger.specs.declared.entries.Conflict.{Conflict}
+use Rattle.mapf_rules.specs.declared.entries.Conflict.{Conflict}
 use Rattle.fleet_books.specs.Fleet.{FleetState, AreOf}
 use Rattle.fleet_books.specs.Laws.{RoutesFixBooks}
 

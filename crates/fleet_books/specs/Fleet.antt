@@ -3,7 +3,7 @@ use Rattle.std.specs.Prelude.{List}
 use Rattle.plan_table.specs.Route.{Fleet}
 use Rattle.where_index.specs.Index.{Contents, StandsFor}
 use Rattle.conflict_ledger.specs.Kept.{HasEntries}
-use Rattle.conflict_ledger.specs.declared.entries.Conflict.{Conflict}
+use Rattle.mapf_rules.specs.declared.entries.Conflict.{Conflict}
 
 -- what is kept of the agents' places, and the entries
 pub record FleetState : Type 0 where

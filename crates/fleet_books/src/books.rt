@@ -2,12 +2,13 @@ ghost use Rattle.std.specs.Prelude.{◌≡◌, ◌+◌, min, Some, None, IfOk, I
 ghost use Rattle.plan_table.specs.Route.{Fleet, route_of};
 ghost use Rattle.where_index.specs.Records.{nothing, records_apart};
 ghost use Rattle.where_index.specs.Index.{with_route};
-ghost use Rattle.conflict_ledger.specs.ConflictList.{AreConflicts};
+ghost use Rattle.mapf_rules.specs.ConflictList.{AreConflicts};
 ghost use Rattle.scene_edits.specs.Since.{IsSince};
 ghost use Rattle.fleet_books.specs.Fleet.{AreOf};
 
-use conflict_ledger::{Conflict, ConflictLedger};
+use conflict_ledger::ConflictLedger;
 use grid_cells::{Agent, List, OutOfMemory};
+use mapf_rules::Conflict;
 use plan_table::Track;
 use scene_edits::first_difference;
 use std::alloc::Global;
@@ -107,6 +108,13 @@ impl FleetBooks {
         ensures { IfOk result (λ entries. (fleet : Fleet) → AreOf fleet self.now → AreConflicts fleet entries) }
     {
         self.conflicts.listed()
+    }
+
+    /// The conflict entries of the fleet.
+    pub fn entries(&self) -> &ConflictLedger
+        ensures { result.now ≡ self.now.conflicts }
+    {
+        &self.conflicts
     }
 
     /// How many records of tracks were put in or taken out since the books were made, held at the

@@ -91,9 +91,11 @@ books_take grid fleet old agent goal costs aims fields are at change by_agent st
     books_changed grid fleet old agent None costs are change by_agent (stands are.costs) aims fields (aims_take fleet agent old.aims aims are.aims goal at loses) (stand are.fields) held
 
 -- a row has another plan
-pub books_planned : (grid : Chart) (fleet : Rows) (old : Prices) (agent : ℕ) (row : Row) (mid costs : Ledger) → AreOf grid fleet old → AimsAt fleet agent row.goal → ChangesRow old.costs.rows mid.rows agent None → (StandsFor old.costs grid → StandsFor mid grid) → ChangesRow mid.rows costs.rows agent (Some row) → IsByAgent costs.rows → (StandsFor mid grid → StandsFor costs grid) → AreOf grid (with_row fleet agent (Some row)) (record { costs = costs; aims = old.aims; fields = old.fields })
-books_planned grid fleet old agent row mid costs are at gone stands_mid come by_agent stands =
-    books_changed grid fleet old agent (Some row) costs are (record { this_agent = come.this_agent; other_agents = λ other apart. come.other_agents other apart ∙ gone.other_agents other apart }) by_agent (stands (stands_mid are.costs)) old.aims old.fields (aims_stay fleet agent old.aims old.aims are.aims row at) are.fields (held_of grid fleet old are)
+pub books_planned : (grid : Chart) (fleet : Rows) (old : Prices) (agent : ℕ) (row : Row) (costs : Ledger) → AreOf grid fleet old → AimsAt fleet agent row.goal → IfSome (row_of old.costs.rows agent) (λ was. ChangesRow old.costs.rows costs.rows agent (Some (record was { plan = row.plan }))) → IsByAgent costs.rows → (StandsFor old.costs grid → StandsFor costs grid) → AreOf grid (with_row fleet agent (Some row)) (record { costs = costs; aims = old.aims; fields = old.fields })
+books_planned grid fleet old agent row costs are at change by_agent stands =
+    let moves = MatchOption-at_some ⊤ (λ was. ChangesRow old.costs.rows costs.rows agent (Some (record was { plan = row.plan }))) at.row (are.rows agent ∙ at.live) change in
+    let now : ChangesRow old.costs.rows costs.rows agent (Some row) = subst (λ (g : Point). ChangesRow old.costs.rows costs.rows agent (Some (record row { goal = g }))) at.aims moves in
+    books_changed grid fleet old agent (Some row) costs are now by_agent (stands are.costs) old.aims old.fields (aims_stay fleet agent old.aims old.aims are.aims row at) are.fields (held_of grid fleet old are)
 
 -- a row has another goal
 pub books_moved : (grid : Chart) (fleet : Rows) (old : Prices) (agent : ℕ) (row : Row) (before goal : Point) (costs : Ledger) (mid aims : List Aim) (fields : List Standing) → AreOf grid fleet old → fleet agent ≡ Some row → row.goal ≡ before → before ≢ goal → IfSome (row_of old.costs.rows agent) (λ was. ChangesRow old.costs.rows costs.rows agent (Some (record was { goal = goal }))) → IsByAgent costs.rows → (StandsFor old.costs grid → StandsFor costs grid) → Gains old.aims mid (aim goal agent) → Loses mid aims (aim before agent) → StandFor grid fields → HoldAimed aims fields → AreOf grid (with_row fleet agent (Some (record row { goal = goal }))) (record { costs = costs; aims = aims; fields = fields })

@@ -5,8 +5,8 @@ use Rattle.grid_cells.specs.Cell.{Point}
 use Rattle.grid_cells.specs.Grid.{Chart, IsClosed}
 use Rattle.plan_table.specs.declared.plans.Row.{Row}
 use Rattle.cost_ledger.specs.Ledger.{Ledger, StandsFor}
-use Rattle.cost_ledger.specs.Visits.{IsVisit}
-use Rattle.cost_ledger.specs.declared.visits.Visit.{Visit}
+use Rattle.mapf_rules.specs.Visits.{IsVisit}
+use Rattle.mapf_rules.specs.declared.visits.Visit.{Visit}
 
 visit_there : (one other : Chart) (rows : List (ℕ × Row)) (visit : Visit) → ((cell : Point) → IsClosed one cell → IsClosed other cell) → IsVisit one rows visit → IsVisit other rows visit
 visit_there one other rows visit same is =

@@ -134,9 +134,8 @@ impl PriceBooks {
         ensures kept { IfOk result (λ books. (fleet : Rows) → AreOf grid.now fleet self → AimsAt fleet agent goal → AreOf grid.now (with_row fleet agent (Some (record { goal = goal; plan = plan.now }))) books) }
         ensures fields { IfOk result (λ books. books.fields ≡ self.fields) }
     {
-        let PriceBooks { mut costs, goals } = self;
-        costs.take(agent);
-        let costs = costs.put(agent, goal, plan, grid)?;
+        let PriceBooks { costs, goals } = self;
+        let costs = costs.set_plan(agent, plan, grid)?;
         Ok(PriceBooks { costs, goals })
     }
 

@@ -9,8 +9,8 @@ use Rattle.grid_cells.specs.Grid.{Chart}
 use Rattle.plan_table.specs.Plans.{row_of, IsByAgent}
 use Rattle.plan_table.specs.Order.{ComesBefore}
 use Rattle.plan_table.specs.declared.plans.Row.{Row}
-use Rattle.cost_ledger.specs.Visits.{IsBlocked, IsUnblocked, AreVisits, visit_key}
-use Rattle.cost_ledger.specs.declared.visits.Visit.{Visit}
+use Rattle.mapf_rules.specs.Visits.{IsBlocked, IsUnblocked, AreVisits, visit_key}
+use Rattle.mapf_rules.specs.declared.visits.Visit.{Visit}
 
 -- the first numbers of keys in order are in order
 key_order : (a b : Visit) → ComesBefore (visit_key a) (visit_key b) → a.agent ≤ b.agent
@@ -25,7 +25,7 @@ abbrev pub IsOf : List Visit → ℕ → ℕ → Type 0
 IsOf visits place agent = (visit : Visit) × (slice_get visits place ≡ Some visit) × (visit.agent ≡ agent)
 
 module _ (grid : Chart) (rows : List (ℕ × Row)) (visits : List Visit) (are : AreVisits grid rows visits) (agent : ℕ) (row : Row) (live : row_of rows agent ≡ Some row) where
-  no_visit : IsUnblocked grid row.plan → (visit : Visit) → Contains visits visit → visit.agent ≡ agent → ⊥
+  pub no_visit : IsUnblocked grid row.plan → (visit : Visit) → Contains visits visit → visit.agent ≡ agent → ⊥
   no_visit unblocked visit has same =
       let is = (are.exact visit).0 has in
       let rows_same : is.row ≡ row = same_Some is.row row (sym is.live ∙ ap (row_of rows) same ∙ live) in

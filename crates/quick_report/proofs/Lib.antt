@@ -1,2 +1,4 @@
 pub mod Parts
 pub mod Blocking
+pub mod Deciding
+pub mod Verdicts

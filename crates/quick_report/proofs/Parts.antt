@@ -4,7 +4,7 @@ use mathlib.Core.Bool.{false≢true}
 use Rattle.std.specs.Prelude.{map, sum, unwrap_or, All, IsSome}
 use Rattle.std.proofs.lemmas.List.{get_or-map, length-map}
 use Rattle.desk_report.specs.declared.reports.AgentLine.{AgentLine}
-use Rattle.cost_ledger.proofs.Adding.{given_more, sum_more}
+use Rattle.mapf_rules.proofs.Adding.{given_more, sum_more}
 
 module _ (part : AgentLine → Option ℕ) (lines : List AgentLine) (i : ℕ) (line : AgentLine) (within : i < length lines) (there : line ≡ get_or lines i line) where
   part_within : i < length (map part lines)

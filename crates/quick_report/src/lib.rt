@@ -5,7 +5,9 @@
 mod bounds;
 mod lines;
 mod reports;
+mod solving;
 mod totals;
 mod visitors;
 
 pub use reports::quick_report;
+pub use solving::quick_solves;

@@ -1,16 +1,16 @@
 ghost use Rattle.std.specs.Prelude.{◌↔◌, ◌+◌, ◌≤◌, IfOk, IsTrue, length};
 ghost use Rattle.grid_cells.specs.Grid.{Chart};
 ghost use Rattle.goal_fields.specs.Held.{StandFor};
-ghost use Rattle.cost_ledger.specs.Visits.{AreVisits, IsUnblocked};
+ghost use Rattle.mapf_rules.specs.Visits.{AreVisits, IsUnblocked};
 ghost use Rattle.desk_report.specs.Report.{IsBound, IsLine, AreLines};
 ghost use Rattle.quick_report.specs.Rows.{HaveFields, HavePathsOn};
 
 use crate::bounds::bound;
 use crate::visitors::{first_from, is_of};
-use cost_ledger::{Visit, is_finished, settle_time};
 use desk_report::AgentLine;
 use goal_fields::Fields;
 use grid_cells::{Agent, MOST_AGENT, OutOfMemory};
+use mapf_rules::{Visit, is_finished, settle_time};
 use plan_table::{Plans, Row};
 use std::alloc::Global;
 

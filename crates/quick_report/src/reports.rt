@@ -1,6 +1,6 @@
 ghost use Rattle.std.specs.Prelude.{◌≡◌, IfOk};
 ghost use Rattle.plan_table.specs.Route.{tracks_of};
-ghost use Rattle.conflict_ledger.specs.ConflictList.{AreConflicts};
+ghost use Rattle.mapf_rules.specs.ConflictList.{AreConflicts};
 ghost use Rattle.cost_ledger.specs.Ledger.{StandsFor};
 ghost use Rattle.goal_fields.specs.Held.{StandFor};
 ghost use Rattle.desk_report.specs.Report.{IsReportOf};
@@ -8,11 +8,11 @@ ghost use Rattle.quick_report.specs.Rows.{HaveFields, HavePathsOn};
 
 use crate::lines::lines;
 use crate::totals::{sum_of_bounds, sum_of_gaps};
-use conflict_ledger::Conflict;
 use cost_ledger::CostLedger;
 use desk_report::Report;
 use goal_fields::Fields;
 use grid_cells::{Grid, List, OutOfMemory};
+use mapf_rules::Conflict;
 use plan_table::{Mode, Plans};
 use std::alloc::Global;
 

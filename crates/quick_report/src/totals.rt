@@ -1,5 +1,5 @@
 ghost use Rattle.std.specs.Prelude.{◌≡◌, ◌+◌, ◌<◌, ◌≤◌, ◌^◌, length, map};
-ghost use Rattle.cost_ledger.specs.Costs.{IsSumOf};
+ghost use Rattle.mapf_rules.specs.Costs.{IsSumOf};
 
 use desk_report::AgentLine;
 use grid_cells::MOST_AGENT;

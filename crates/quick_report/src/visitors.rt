@@ -1,9 +1,9 @@
 ghost use Rattle.std.specs.Prelude.{◌≡◌, ◌↔◌, ℕ, ◌<◌, ◌≤◌, IsTrue, Some, length, slice_get};
 ghost use Rattle.std.specs.List.{slice_index_or};
-ghost use Rattle.cost_ledger.specs.declared.visits.Visit.{Visit};
+ghost use Rattle.mapf_rules.specs.declared.visits.Visit.{Visit};
 
-use cost_ledger::Visit;
 use grid_cells::Agent;
+use mapf_rules::Visit;
 
 /// The first place, from that one on, whose visit is of the agent or of one after it; the end of
 /// the list, if there is none.

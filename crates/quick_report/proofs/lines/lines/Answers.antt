@@ -6,7 +6,7 @@ use Rattle.plan_table.specs.Plans.{row_of}
 use Rattle.plan_table.specs.declared.plans.Row.{Row}
 use Rattle.plan_table.proofs.Fleets.{row_here}
 use Rattle.plan_table.proofs.Order.{EachOf-push}
-use Rattle.cost_ledger.specs.Visits.{IsUnblocked}
+use Rattle.mapf_rules.specs.Visits.{IsUnblocked}
 use Rattle.desk_report.specs.Report.{IsBound, IsLine}
 use Rattle.quick_report.proofs.Blocking.{unblocked_where, before_agent, passed_more}
 use Rattle.quick_report.proofs.lines.lines.Goals as goal

@@ -1,7 +1,7 @@
 use Rattle.std.proofs.Common.{◌≡◌, ◌≤◌, length, take}
 use Rattle.grid_cells.specs.Grid.{Chart}
 use Rattle.goal_fields.specs.Held.{StandFor}
-use Rattle.cost_ledger.specs.Visits.{AreVisits}
+use Rattle.mapf_rules.specs.Visits.{AreVisits}
 use Rattle.desk_report.specs.Report.{AreLines}
 use Rattle.quick_report.specs.Rows.{HavePathsOn}
 use Rattle.quick_report.proofs.Blocking.{Passed}

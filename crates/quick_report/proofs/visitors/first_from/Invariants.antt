@@ -1,6 +1,6 @@
 use Rattle.std.proofs.Common.{ℕ, ◌<◌, ◌≤◌}
 use Rattle.std.specs.List.{slice_index_or}
-use Rattle.cost_ledger.specs.declared.visits.Visit.{Visit}
+use Rattle.mapf_rules.specs.declared.visits.Visit.{Visit}
 use Rattle.quick_report.proofs.visitors.first_from.Given as goal
 
 abbrev pub invariant-loop-place : goal.invariant-loop-place

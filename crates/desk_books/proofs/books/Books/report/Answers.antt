@@ -2,7 +2,7 @@ use Rattle.std.proofs.Common.{◌≡◌, refl}
 use Rattle.std.proofs.lemmas.Result.{IfOk-weaker}
 use Rattle.plan_table.specs.Route.{tracks_of}
 use Rattle.plan_table.proofs.OneTable.{one_table_holds}
-use Rattle.conflict_ledger.specs.ConflictList.{AreConflicts}
+use Rattle.mapf_rules.specs.ConflictList.{AreConflicts}
 use Rattle.quick_report.specs.Rows.{HavePathsOn}
 use Rattle.desk_books.proofs.books.Books.report.Goals as goal
 

@@ -1,0 +1,16 @@
+-- Entries of the kinds that are asked about (this project's choice of words).
+use Rattle.std.specs.Prelude.{◌≡◌, List, IsTrue, Contains}
+use Rattle.mapf_rules.specs.ConflictList.{kind_of}
+use Rattle.conflict_ledger.specs.Kept.{HasKind}
+use Rattle.mapf_rules.specs.declared.entries.Conflict.{Conflict}
+use Rattle.mapf_rules.specs.declared.entries.Kind.{Kind}
+use Rattle.desk_report.specs.Solves.{is_named}
+use Rattle.desk_report.specs.declared.kinds.Kinds.{Kinds}
+
+-- the kind is asked about, and an entry is of it
+abbrev pub HasAsked : Kinds → Kind → List Conflict → Type 0
+HasAsked kinds kind entries = IsTrue (is_named kinds kind) × HasKind kind entries
+
+-- an entry is of a kind that is asked about
+abbrev pub HasNamed : Kinds → List Conflict → Type 0
+HasNamed kinds entries = (kind : Kind) × HasAsked kinds kind entries
