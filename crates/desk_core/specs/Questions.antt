@@ -1,5 +1,5 @@
 -- What a desk tells when it is asked: a report, a distance, a copy of its scene.
-use Rattle.std.specs.Prelude.{◌≡◌, ℕ, Option, Some, None, IsSome, Result, Ok, Err, List}
+use Rattle.std.specs.Prelude.{◌≡◌, ◌↔◌, ℕ, Bool, Option, Some, None, IsSome, IsTrue, Result, Ok, Err, List}
 use Rattle.grid_cells.specs.Cell.{Point}
 use Rattle.grid_cells.specs.Size.{Holds}
 use Rattle.grid_cells.specs.Grid.{Chart}
@@ -7,10 +7,12 @@ use Rattle.grid_cells.specs.Walks.{IsDistance}
 use Rattle.plan_table.specs.Order.{EachOf}
 use Rattle.plan_table.specs.Plans.{row_of}
 use Rattle.plan_table.specs.declared.plans.Row.{Row}
-use Rattle.cost_ledger.specs.Costs.{IsFinished}
-use Rattle.cost_ledger.specs.Visits.{IsUnblocked}
+use Rattle.mapf_rules.specs.Costs.{IsFinished}
+use Rattle.mapf_rules.specs.Visits.{IsUnblocked}
 use Rattle.desk_report.specs.Laws.{HasBoundAndGap}
 use Rattle.desk_report.specs.Report.{IsReportOf}
+use Rattle.desk_report.specs.Solves.{Solves}
+use Rattle.desk_report.specs.declared.kinds.Kinds.{Kinds}
 use Rattle.desk_report.specs.declared.reports.AgentLine.{AgentLine}
 use Rattle.scene_edits.specs.Scene.{SceneState}
 use Rattle.desk_core.specs.State.{DeskState, version_of}
@@ -28,6 +30,12 @@ pub record Shows (desk : DeskState) (reading : Reading) : Type 0 where
   pub version : reading.version ≡ version_of desk
   pub report : IsReportOf desk.scene.grid desk.scene.mode desk.scene.rows reading.report
   pub priced : ArePriced desk.scene.grid desk.scene.rows reading.report.lines
+
+-- the answer says whether a reading of the desk solves by those kinds
+pub record Judges (desk : DeskState) (kinds : Kinds) (answer : Bool) : Type 0 where
+  pub reading : Reading
+  pub shown : Shows desk reading
+  pub says : IsTrue answer ↔ Solves reading.report kinds
 
 -- the distance of the cell to the agent's goal on the scene's map, or the first fault of the question
 abbrev pub Tells : SceneState → ℕ → Point → Result (Option ℕ) AskFault → Type 0

@@ -1,19 +1,17 @@
-ghost use Rattle.std.specs.Prelude.{◌≡◌, ◌≤◌, length, IfOk, IfSome, IfNone};
+ghost use Rattle.std.specs.Prelude.{◌≡◌, ◌≤◌, length, IfOk};
 ghost use Rattle.desk_core.specs.State.{opening, version_of};
-ghost use Rattle.desk_core.specs.Commits.{IsCurrent, Refuses, Committed};
-ghost use Rattle.desk_core.specs.Questions.{Shows, Tells, Copies};
+ghost use Rattle.desk_core.specs.Questions.{Shows, Judges, Tells, Copies};
 ghost use Rattle.desk_books.specs.Books.{AreOf};
 
-use crate::answers::{AskFault, Reading, Refusal, Snapshot};
+use crate::answers::{AskFault, Reading, Snapshot};
 use crate::commits::Commit;
 use crate::limits::Limit;
-use crate::questions::{goal_asked, report};
-use crate::shelves::Shelf;
-use crate::stale::stale;
-use crate::stamps::{Stamps, with_entry};
+use crate::questions::{goal_asked, report, solves};
+use crate::stamps::Stamps;
 use desk_books::{Books, BuildCount};
+use desk_report::Kinds;
 use grid_cells::{Agent, Cell, OutOfMemory};
-use scene_edits::{EditsFault, Scene};
+use scene_edits::Scene;
 use std::alloc::Global;
 use std::fmt::{Debug, Error, Formatter, Write};
 use std::marker::Model;
@@ -21,12 +19,12 @@ use std::marker::Model;
 /// A scene, and the journal of the commits that made it of the scene at the opening.
 #[derive(Drop)]
 pub struct Desk {
-    alloc: Global,
-    scene: Scene,
-    journal: Vec<Commit>,
-    limit: Limit,
-    stamps: Option<Stamps>,
-    books: Option<Books>,
+    pub(crate) alloc: Global,
+    pub(crate) scene: Scene,
+    pub(crate) journal: Vec<Commit>,
+    pub(crate) limit: Limit,
+    pub(crate) stamps: Option<Stamps>,
+    pub(crate) books: Option<Books>,
     builds: BuildCount,
 }
 
@@ -98,22 +96,6 @@ impl Desk {
         &self.scene
     }
 
-    /// Applies the edits of the commit, all or none, and answers the new version.
-    ///
-    /// # Errors
-    ///
-    /// The first reason to refuse the commit, and the commit as it was handed in. The scene and
-    /// the journal are then as they were.
-    pub fn commit(&mut self, commit: Commit) -> Result<u64, (Refusal, Commit)>
-        ensures { Committed self.old commit result self.new }
-    {
-        if let Some(refusal) = self.not_current(&commit) {
-            return Err((refusal, commit));
-        }
-        self.make_stamps();
-        self.accept(commit)
-    }
-
     /// The report of the scene, at the desk's version.
     pub fn reading(&mut self) -> Result<Reading, OutOfMemory>
         ensures same { self.new ≡ self.old }
@@ -127,6 +109,21 @@ impl Desk {
             Ok(report) => Ok(Reading { version, report }),
             Err(refused) => Err(refused),
         }
+    }
+
+    /// Whether the plans of the scene solve by those kinds: what a reading says of them.
+    ///
+    /// # Errors
+    ///
+    /// Want of memory, where the books of the scene have to be made.
+    pub fn solves(&mut self, kinds: Kinds) -> Result<bool, OutOfMemory>
+        ensures same { self.new ≡ self.old }
+        ensures told { IfOk result (Judges self.old kinds) }
+    {
+        let books = self.take_books()?;
+        let answer = solves(&books, &self.scene, kinds);
+        self.books = Some(books);
+        Ok(answer)
     }
 
     /// The distance in steps of the cell to the agent's goal on the present map, if there is one.
@@ -155,28 +152,6 @@ impl Desk {
         })
     }
 
-    // The first reason to refuse the commit that doesn't look at what its edits do.
-    fn not_current(&self, commit: &Commit) -> Option<Refusal>
-        ensures refused { IfSome result (Refuses self.now commit.now) }
-        ensures current { IfNone result (IsCurrent self.now commit.now) }
-    {
-        let now = self.version();
-        let limit = self.limit.entries();
-        if now >= u64::from(limit) {
-            return Some(Refusal::JournalFull { limit });
-        }
-        if commit.base() > now {
-            return Some(Refusal::Ahead { now });
-        }
-        if commit.edits().is_empty() {
-            return Some(Refusal::NoEdits);
-        }
-        match stale(&self.journal, self.stamps.as_ref(), commit) {
-            Some((thing, at)) => Some(Refusal::Stale { now, thing, at }),
-            None => None,
-        }
-    }
-
     /// How often the books of the scene were made whole, the first time counted, held at the greatest
     /// u64. A commit changes them by what it changes, so they are made anew only after want of memory.
     pub fn rebuilds(&self) -> u64 {
@@ -195,50 +170,6 @@ impl Desk {
                 self.builds.count_one();
                 Ok(books)
             }
-        }
-    }
-
-    // Makes the stamps where they don't stand, if there is memory for them.
-    fn make_stamps(&mut self)
-        ensures { self.new ≡ self.old }
-    {
-        if self.stamps.is_some() {
-            return;
-        }
-        let _most = self.limit.entries();
-        let size = self.scene.grid().size();
-        if let Ok(stamps) = Stamps::of(self.alloc, size, &self.journal) {
-            self.stamps = Some(stamps);
-        }
-    }
-
-    // Applies the edits of a commit that is current, and puts it into the journal.
-    fn accept(&mut self, commit: Commit) -> Result<u64, (Refusal, Commit)>
-        requires { IsCurrent self.old commit }
-        ensures { Committed self.old commit result self.new }
-    {
-        if self.journal.reserve(1).is_err() {
-            return Err((Refusal::OutOfMemory, commit));
-        }
-        let mut shelf = Shelf {
-            books: self.books.take(),
-        };
-        let applied = self.scene.apply_all_with(commit.edits(), &mut shelf);
-        self.books = shelf.books;
-        match applied {
-            Ok(_) => {}
-            Err(EditsFault::Faulty { index, why }) => {
-                return Err((Refusal::Faulty { index, why }, commit));
-            }
-            Err(EditsFault::OutOfMemory) => return Err((Refusal::OutOfMemory, commit)),
-        }
-        let _most = self.limit.entries();
-        let size = self.scene.grid().size();
-        let stamps = self.stamps.take();
-        self.stamps = with_entry(size, stamps, &self.journal, &commit);
-        match self.journal.push(commit) {
-            Ok(()) => Ok(self.journal.len() as u64),
-            Err(_) => unreachable!(),
         }
     }
 }

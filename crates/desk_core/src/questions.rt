@@ -1,13 +1,14 @@
 //! What is told of a scene, by the books that are kept of it.
-ghost use Rattle.std.specs.Prelude.{IfOk, IfErr, Err};
+ghost use Rattle.std.specs.Prelude.{◌≡◌, IfOk, IfErr, Err};
 ghost use Rattle.desk_report.specs.Report.{IsReportOf};
 ghost use Rattle.desk_books.specs.Books.{AreOf};
 ghost use Rattle.desk_core.specs.Goals.{IsAsked};
-ghost use Rattle.desk_core.specs.Questions.{ArePriced, Tells};
+ghost use Rattle.desk_core.specs.Questions.{ArePriced, Judges, Tells};
+ghost use Rattle.desk_core.specs.State.{DeskState};
 
 use crate::answers::AskFault;
 use desk_books::Books;
-use desk_report::{Report, settle_is_bound_and_gap};
+use desk_report::{Kinds, Report, settle_is_bound_and_gap};
 use grid_cells::{Agent, Cell, OutOfMemory};
 use scene_edits::Scene;
 
@@ -24,6 +25,16 @@ pub(crate) fn report(books: &Books, scene: &Scene) -> Result<Report, OutOfMemory
         Ok(report) => Ok(report),
         Err(refused) => Err(refused),
     }
+}
+
+// Whether the scene's plans solve by those kinds: what a reading of a desk that has the scene says.
+pub(crate) fn solves(books: &Books, scene: &Scene, kinds: Kinds) -> bool
+    requires { AreOf scene.now books.now }
+    ensures { (desk : DeskState) → desk.scene ≡ scene.now → Judges desk kinds result }
+{
+    settle_is_bound_and_gap();
+    let _plans = scene.plans();
+    books.solves(scene, kinds)
 }
 
 // The goal of the agent that is asked of a cell, or the first fault of the question.

@@ -7,28 +7,20 @@ use Rattle.desk_core.specs.Entries.{Entry}
 use Rattle.desk_core.specs.State.{DeskState}
 use Rattle.desk_core.specs.Stamps.{AreOnMap, WhereTheyStand}
 use Rattle.desk_core.proofs.Stamping.{all_on, same_size_all, on_map_push}
-use Rattle.desk_core.proofs.Refusing.{refused_same}
 use Rattle.desk_core.proofs.desks.Desk.accept.Goals as goal
 
 pub with_entry-requires-clause-on_map : goal.with_entry-requires-clause-on_map
 with_entry-requires-clause-on_map c =
     let allowed : AreAllowed c.self.inside.scene c.args.commit.edits = rw c.edits.ensures.is at c.in-Ok.ensures.applied.0 in
-    let new : c.apply_all_with-applied.new.self ≡ edited_all c.self.inside.scene c.args.commit.edits = rw c.edits.ensures.is at c.in-Ok.ensures.applied.2 in
-    let size : c.size-size.result ≡ c.self.inside.scene.grid.size = c.size-size.ensures.is ∙ ap (λ (g : Chart). g.size) c.grid.ensures.grid ∙ ap (λ (s : SceneState). s.grid.size) new ∙ same_size_all c.self.inside.scene c.args.commit.edits in
+    let size : c.size-size.result ≡ c.self.inside.scene.grid.size = c.size-size.ensures.is ∙ ap (λ (g : Chart). g.size) c.grid.ensures.grid in
     rw size (all_on c.self.inside.scene c.args.commit.edits allowed)
-
-pub with_entry-requires-clause-stand : goal.with_entry-requires-clause-stand
-with_entry-requires-clause-stand c = λ x there.
-    let new : c.apply_all_with-applied.new.self ≡ edited_all c.self.inside.scene c.args.commit.edits = rw c.edits.ensures.is at c.in-Ok.ensures.applied.2 in
-    let size : c.size-size.result ≡ c.self.inside.scene.grid.size = c.size-size.ensures.is ∙ ap (λ (g : Chart). g.size) c.grid.ensures.grid ∙ ap (λ (s : SceneState). s.grid.size) new ∙ same_size_all c.self.inside.scene c.args.commit.edits in
-    rw (size, c.deref.ensures.value, c.reserve.ensures.items) (c.self.invariant.stamped x (sym c.take-stamps.ensures.value ∙ there))
 
 pub invariant_of-self-2 : goal.invariant_of-self-2
 invariant_of-self-2 c =
     let allowed : AreAllowed c.self.inside.scene c.args.commit.edits = rw c.edits.ensures.is at c.in-Ok.ensures.applied.0 in
-    let new : c.apply_all_with-applied.new.self ≡ edited_all c.self.inside.scene c.args.commit.edits = rw c.edits.ensures.is at c.in-Ok.ensures.applied.2 in
-    let same : c.apply_all_with-applied.new.self.grid.size ≡ c.self.inside.scene.grid.size = ap (λ (s : SceneState). s.grid.size) new ∙ same_size_all c.self.inside.scene c.args.commit.edits in
-    let size : c.size-size.result ≡ c.apply_all_with-applied.new.self.grid.size = c.size-size.ensures.is ∙ ap (λ (g : Chart). g.size) c.grid.ensures.grid in
+    let new : c.apply_all.new.self ≡ edited_all c.self.inside.scene c.args.commit.edits = rw c.edits.ensures.is at c.in-Ok.ensures.applied.2 in
+    let same : c.apply_all.new.self.grid.size ≡ c.self.inside.scene.grid.size = ap (λ (s : SceneState). s.grid.size) new ∙ same_size_all c.self.inside.scene c.args.commit.edits in
+    let size : c.size-size.result ≡ c.apply_all.new.self.grid.size = c.size-size.ensures.is ∙ ap (λ (g : Chart). g.size) c.grid.ensures.grid ∙ sym same in
     let journal : c.deref.result.now ≡ c.self.inside.journal.items = c.deref.ensures.value ∙ c.reserve.ensures.items in
     let items : c.push.new.self.items ≡ c.self.inside.journal.items ++ c.args.commit ∷ [] = c.in-Ok-push.ensures.items ∙ ap (λ (j : List Entry). j ++ c.args.commit ∷ []) c.reserve.ensures.items in
     let many = ap length items in
@@ -36,21 +28,10 @@ invariant_of-self-2 c =
     let most : c.self.inside.limit ≡ c.args.self.now.limit = ap (λ (d : DeskState). d.limit) c.self.view_is in
     let old = ap length before in
     let on : AreOnMap c.self.inside.scene.grid.size (c.self.inside.journal.items ++ c.args.commit ∷ []) = on_map_push c.self.inside.scene.grid.size c.self.inside.journal.items c.args.commit c.self.invariant.on_map (all_on c.self.inside.scene c.args.commit.edits allowed) in
-    let stand : WhereTheyStand c.apply_all_with-applied.new.self.grid.size (c.self.inside.journal.items ++ c.args.commit ∷ []) c.with_entry.result = rw (← size, ← journal) c.with_entry.ensures in
+    let stand : WhereTheyStand c.apply_all.new.self.grid.size (c.self.inside.journal.items ++ c.args.commit ∷ []) c.with_entry.result = rw (← size, ← journal) c.with_entry.ensures in
     record {
       within = omega (arith, many, old, most, length_push c.self.inside.journal.items c.args.commit, c.requires.in_order.room);
       on_map = rw (same, items) on;
       stamped = rw items stand;
-      booked = c.in-Ok.ensures.followed;
-    }
-
-pub invariant_of-self-in-Err-OutOfMemory : goal.invariant_of-self-in-Err-OutOfMemory
-invariant_of-self-in-Err-OutOfMemory c =
-    let applied = c.apply_all_with-applied.ensures.applied in
-    let same : c.apply_all_with-applied.new.self ≡ c.self.inside.scene = refused_same c.self.inside.scene c.apply_all_with-applied.new.self c.edits.result.now c.apply_all_with-applied.result c.in-Err-OutOfMemory.field-0 c.in-Err-OutOfMemory.is applied in
-    record {
-      within = rw c.reserve.ensures.items c.self.invariant.within;
-      on_map = rw (same, c.reserve.ensures.items) c.self.invariant.on_map;
-      stamped = rw (same, c.reserve.ensures.items) c.self.invariant.stamped;
-      booked = c.apply_all_with-applied.ensures.followed;
+      booked = c.followed.ensures;
     }
