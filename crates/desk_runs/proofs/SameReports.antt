@@ -7,11 +7,11 @@ use Rattle.std.specs.Cmp.Lexicographic.{pointwise_decides}
 use Rattle.std.specs.Option.{option_eq}
 use Rattle.grid_cells.specs.Cell.{Point}
 use Rattle.grid_cells.specs.contracts.cells.CellPartialEq.TheImpl as cells
-use Rattle.conflict_ledger.specs.declared.entries.Conflict.{Conflict}
-use Rattle.conflict_ledger.specs.declared.entries.Conflict.TheVariants.{Vertex, Parked, Edge, Following, Swapping, Cycle}
-use Rattle.conflict_ledger.specs.contracts.entries.ConflictPartialEq.TheImpl as conflicts
-use Rattle.cost_ledger.specs.declared.visits.Visit.{Visit}
-use Rattle.cost_ledger.specs.contracts.visits.VisitPartialEq.TheImpl as visits
+use Rattle.mapf_rules.specs.declared.entries.Conflict.{Conflict}
+use Rattle.mapf_rules.specs.declared.entries.Conflict.TheVariants.{Vertex, Parked, Edge, Following, Swapping, Cycle}
+use Rattle.mapf_rules.specs.contracts.entries.ConflictPartialEq.TheImpl as conflicts
+use Rattle.mapf_rules.specs.declared.visits.Visit.{Visit}
+use Rattle.mapf_rules.specs.contracts.visits.VisitPartialEq.TheImpl as visits
 use Rattle.desk_report.specs.declared.reports.AgentLine.{AgentLine}
 use Rattle.desk_report.specs.contracts.reports.AgentLinePartialEq.TheImpl as agent_lines
 use Rattle.desk_report.specs.declared.reports.Report.{Report}

@@ -1,7 +1,9 @@
 -- What a counter answers: each call is a relation between the counter before it, the answer, and the counter after it.
-use Rattle.std.specs.Prelude.{◌≡◌, ℕ, Option, Result, IfOk}
+use Rattle.std.specs.Prelude.{◌≡◌, ◌↔◌, ℕ, Bool, Option, Result, Ok, Err, IsTrue, IfOk}
 use Rattle.grid_cells.specs.Cell.{Point}
 use Rattle.grid_cells.specs.declared.memory.OutOfMemory.{OutOfMemory}
+use Rattle.desk_report.specs.Solves.{Solves}
+use Rattle.desk_report.specs.declared.kinds.Kinds.{Kinds}
 use Rattle.desk_core.specs.Entries.{Entry}
 use Rattle.desk_core.specs.State.{DeskState, version_of}
 use Rattle.desk_core.specs.Commits.{Committed}
@@ -17,6 +19,11 @@ pub record Counting (S : Type 0) : Type 1 where
   pub commits : S → Entry → Result ℕ (Refusal × Entry) → S → Type 0
   pub reads : S → Result Reading OutOfMemory → S → Type 0
   pub tells : S → ℕ → Point → Result (Option ℕ) AskFault → S → Type 0
+
+-- whether a reading of the counter solves by those kinds, where the reading finds memory
+abbrev pub Judging : {S : Type 0} → Counting S → S → Kinds → Result Bool OutOfMemory → S → Type 0
+Judging c old kinds (Ok answer) new = (reading : Reading) × c.reads old (Ok reading) new × (IsTrue answer ↔ Solves reading.report kinds)
+Judging c old kinds (Err refused) new = c.reads old (Err refused) new
 
 -- a desk counts for planner 0, and each call is one call of the desk: only an accepted commit changes it
 abbrev pub desk_counting : Counting DeskState

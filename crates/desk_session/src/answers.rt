@@ -26,8 +26,8 @@ fn report<C: Counter>(counter: &mut C) -> Reply
 fn solves<C: Counter>(counter: &mut C, kinds: Kinds) -> Reply
     ensures { TellsSolves C.counting counter.old kinds result counter.new }
 {
-    match counter.reading() {
-        Ok(reading) => Reply::Solves(reading.report.solves(kinds)),
+    match counter.solves(kinds) {
+        Ok(answer) => Reply::Solves(answer),
         Err(OutOfMemory) => Reply::NoMemory,
     }
 }

@@ -1,7 +1,8 @@
 ghost use Rattle.std.specs.Prelude.{◌≡◌, IfErr, ℕ, Result, Option};
-ghost use Rattle.desk_session.specs.Counting.{Counting, desk_counting};
+ghost use Rattle.desk_session.specs.Counting.{Counting, Judging, desk_counting};
 
 use desk_core::{AskFault, Commit, Desk, Reading, Refusal};
+use desk_report::Kinds;
 use grid_cells::{Agent, Cell, OutOfMemory, Planner};
 
 /// What a session puts its questions and commits to, in the name of one planner.
@@ -33,6 +34,14 @@ pub trait Counter {
     fn reading(&mut self) -> Result<Reading, OutOfMemory>
         ensures { counting.reads self.old result self.new };
 
+    /// Whether a reading solves by those kinds, at the counter's version.
+    ///
+    /// # Errors
+    ///
+    /// Want of memory.
+    fn solves(&mut self, kinds: Kinds) -> Result<bool, OutOfMemory>
+        ensures { Judging counting self.old kinds result self.new };
+
     /// The distance in steps of the cell to the agent's goal, if there is one.
     ///
     /// # Errors
@@ -63,6 +72,13 @@ impl Counter for Desk {
 
     fn reading(&mut self) -> Result<Reading, OutOfMemory> {
         Desk::reading(self)
+    }
+
+    fn solves(&mut self, kinds: Kinds) -> Result<bool, OutOfMemory> {
+        match Desk::solves(self, kinds) {
+            Ok(answer) => Ok(answer),
+            Err(refused) => Err(refused),
+        }
     }
 
     fn distance(&mut self, agent: Agent, cell: Cell) -> Result<Option<u32>, AskFault> {

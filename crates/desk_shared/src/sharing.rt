@@ -1,5 +1,5 @@
 ghost use Rattle.std.specs.Prelude.{◌≡◌, true, IfOk, IfErr};
-ghost use Rattle.desk_core.specs.Questions.{Shows, Tells, Copies};
+ghost use Rattle.desk_core.specs.Questions.{Shows, Judges, Tells, Copies};
 ghost use Rattle.desk_shared.specs.Passes.{Owns};
 ghost use Rattle.desk_shared.specs.declared.faults.SplitFault.TheVariants.{PassesFull};
 ghost use Rattle.desk_shared.specs.Calls.{MayShare, Unshared, IsFirst, CommitsBy, IsLastSeen, AsksBy, IsFront, KeepsNone, IsSplit, IsJoined, IsClosed};
@@ -12,6 +12,7 @@ use crate::plays::{Aside, Compare, Front, Give, Merge};
 use crate::steps::{free, grow, reach, win};
 use atomic_table::Table;
 use desk_core::{AskFault, Commit, Desk, Reading, Refusal, Snapshot};
+use desk_report::Kinds;
 use grid_cells::{Agent, Cell, OutOfMemory, Planner};
 use std::alloc::{AllocError, Global};
 use std::marker::Model;
@@ -136,6 +137,28 @@ impl SharedDesk {
         let reading = desk.reading();
         free(top, &mut pass.place, desk);
         reading
+    }
+
+    /// Whether the plans of the desk's scene solve by those kinds, in the pass's turn. It may wait.
+    ///
+    /// # Errors
+    ///
+    /// Want of memory.
+    pub fn solves<R: Wait>(
+        &self,
+        rt: &R,
+        pass: &mut Pass,
+        kinds: Kinds,
+    ) -> Result<bool, OutOfMemory>
+        requires owned { Owns self.now pass.old }
+        ensures owned { Owns self.now pass.new }
+        ensures answer { AsksBy pass.old.known (λ desk. IfOk result (Judges desk kinds)) pass.new.known }
+    {
+        let top = &self.table.shared;
+        let mut desk = win(rt, top, &mut pass.place);
+        let answer = desk.solves(kinds);
+        free(top, &mut pass.place, desk);
+        answer
     }
 
     /// The distance in steps of the cell to the agent's goal on the desk's map, if there is one, in

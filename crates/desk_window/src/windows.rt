@@ -3,6 +3,7 @@ ghost use Rattle.desk_shared.specs.Passes.{Owns};
 ghost use Rattle.desk_window.specs.Windows.{window_on};
 
 use desk_core::{AskFault, Commit, Reading, Refusal};
+use desk_report::Kinds;
 use desk_session::Counter;
 use desk_shared::{Pass, SharedDesk};
 use grid_cells::{Agent, Cell, OutOfMemory, Planner};
@@ -73,6 +74,13 @@ impl<'a, R: Wait> Counter for Window<'a, R> {
 
     fn reading(&mut self) -> Result<Reading, OutOfMemory> {
         self.desk.reading(self.rt, &mut self.pass)
+    }
+
+    fn solves(&mut self, kinds: Kinds) -> Result<bool, OutOfMemory> {
+        match self.desk.solves(self.rt, &mut self.pass, kinds) {
+            Ok(answer) => Ok(answer),
+            Err(refused) => Err(refused),
+        }
     }
 
     fn distance(&mut self, agent: Agent, cell: Cell) -> Result<Option<u32>, AskFault> {

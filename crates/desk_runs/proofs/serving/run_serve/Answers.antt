@@ -1,5 +1,6 @@
 use Rattle.std.proofs.Common.{Ok, Err}
 use Rattle.desk_runs.proofs.Running.{ran}
+use Rattle.desk_runs.proofs.Unserved.{session_told}
 use Rattle.desk_runs.proofs.serving.run_serve.Goals as goal
 
 pub returns-in-Ok-clause-runs : goal.returns-in-Ok-clause-runs
@@ -10,3 +11,8 @@ returns-in-Ok-clause-runs g c =
 
 pub returns-clause-runs : goal.returns-clause-runs
 returns-clause-runs g c = ran _ _ _ _ _ _ _ _ _ (Err c.in-Err.fault) c.in-Err.ensures.sits
+
+pub returns-in-Ok-clause-reads : goal.returns-in-Ok-clause-reads
+returns-in-Ok-clause-reads g c =
+    let read = rw c.in-Err-ended.is at c.in-Ok.ensures.reads in
+    rw c.from.ensures (rw (session_told c.in-Err-ended.fault).0 read)
