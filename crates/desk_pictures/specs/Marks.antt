@@ -1,15 +1,15 @@
 -- The marks of a report's entries and of its blocked visits: each has the report's line for its title (this project's choice).
-use Rattle.std.specs.Prelude.{ℕ, List, [], ◌∷◌, ◌++◌, Option, Some, None, Bool, true, false, ◌==◌, codes}
+use Rattle.std.specs.Prelude.{ℕ, List, [], ◌∷◌, ◌++◌, Option, Some, None, Bool, true, false, ◌==◌, if◌then◌else◌, codes, decimal}
 use Rattle.std.specs.List.{flat_map}
 use Rattle.plan_table.specs.Route.{Fleet, tracks_of}
 use Rattle.scene_edits.specs.Scene.{SceneState}
-use Rattle.conflict_ledger.specs.declared.entries.Conflict.{Conflict}
-use Rattle.cost_ledger.specs.declared.visits.Visit.{Visit}
+use Rattle.mapf_rules.specs.declared.entries.Conflict.{Conflict}
+use Rattle.mapf_rules.specs.declared.visits.Visit.{Visit}
 use Rattle.desk_report.specs.EntryText.{entry_line}
 use Rattle.desk_report.specs.ReportText.{visit_line}
 use Rattle.desk_report.specs.declared.reports.Report.{Report}
 use Rattle.desk_pictures.specs.Pieces.{half_text, seconds_text, joined}
-use Rattle.desk_pictures.specs.Spots.{between, spot_of, symbol_of, time_of}
+use Rattle.desk_pictures.specs.Spots.{spot_of, symbol_of, time_of}
 use Rattle.desk_pictures.specs.declared.spots.Spot.{Spot}
 
 -- whether the picture is a still one of that time
@@ -21,33 +21,53 @@ abbrev pub moves : Option ℕ → Bool
 moves (Some now) = false
 moves None = true
 
--- in a still picture the marks of its time are lit
+-- in a still picture what is of its time is lit
 abbrev pub class_text : Bool → List ℕ
-class_text true = codes "' class='lit"
+class_text true = codes " class='lit'"
 class_text false = []
 
--- a mark up to its title
-unfoldable pub opening_text : List ℕ → Spot → Bool → List ℕ
-opening_text symbol spot lit = joined (codes "<use href='#" ∷ symbol ∷ class_text lit ∷ codes "' x='" ∷ half_text spot.across ∷ codes "' y='" ∷ half_text spot.down ∷ codes "'><title>" ∷ [])
-
--- a mark behind its title: in a moving picture it is lit from its time on
-abbrev pub closing_text : Bool → ℕ → List ℕ
-closing_text true time = joined (codes "</title><set attributeName='opacity' to='1' begin='" ∷ seconds_text time ∷ codes "s'/></use>" ∷ [])
-closing_text false time = codes "</title></use>"
+-- the mark of an entry up to its title
+unfoldable pub opening_text : List ℕ → Spot → List ℕ
+opening_text symbol spot = joined (codes "<use href='#" ∷ symbol ∷ codes "' x='" ∷ half_text spot.across ∷ codes "' y='" ∷ half_text spot.down ∷ codes "'><title>" ∷ [])
 
 -- the mark of an entry, titled by the entry's line in a report
-unfoldable pub mark_text : Option ℕ → Fleet → Conflict → List ℕ
-mark_text at fleet entry = opening_text (symbol_of entry) (spot_of fleet entry) (is_at at (time_of entry)) ++ entry_line entry ++ closing_text (moves at) (time_of entry)
+unfoldable pub mark_text : Fleet → Conflict → List ℕ
+mark_text fleet entry = opening_text (symbol_of entry) (spot_of fleet entry) ++ entry_line entry ++ codes "</title></use>"
+
+-- the beginning of a group of marks of one time: in a moving picture they are lit from then on
+abbrev pub group_text : Bool → Bool → ℕ → List ℕ
+group_text true lit time = joined (codes "<g><set attributeName='opacity' to='1' begin='" ∷ seconds_text time ∷ codes "s'/>\n" ∷ [])
+group_text false true time = codes "<g class='lit'>\n"
+group_text false false time = codes "<g>\n"
+
+-- the end of the group of a mark, if there is one before
+abbrev pub end_text : Option ℕ → List ℕ
+end_text (Some before) = codes "</g>\n"
+end_text None = []
+
+-- before a mark of the time, behind one of another time or none: a new group
+abbrev pub turn_text : Option ℕ → Option ℕ → ℕ → List ℕ
+turn_text at None time = group_text (moves at) (is_at at time) time
+turn_text at (Some before) time = if before == time then [] else codes "</g>\n" ++ group_text (moves at) (is_at at time) time
+
+-- the marks of the entries, in groups of those of one time that follow one another, behind a mark of that time or none
+abbrev pub marks_behind : Option ℕ → Fleet → Option ℕ → List Conflict → List ℕ
+marks_behind at fleet before [] = end_text before
+marks_behind at fleet before (entry ∷ rest) = turn_text at before (time_of entry) ++ mark_text fleet entry ++ marks_behind at fleet (Some (time_of entry)) rest
+
+-- the mark of a visit up to its title
+unfoldable pub cross_opening_text : Bool → ℕ → ℕ → List ℕ
+cross_opening_text lit x y = joined (codes "<rect" ∷ class_text lit ∷ codes " x='" ∷ decimal x ∷ codes "' y='" ∷ decimal y ∷ codes "'><title>" ∷ [])
 
 -- the mark of a visit, titled by the visit's line in a report; a moving picture has it at all times
 unfoldable pub cross_text : Option ℕ → Visit → List ℕ
-cross_text at visit = opening_text (codes "X") (between visit.cell visit.cell) (is_at at visit.time) ++ visit_line visit ++ closing_text false visit.time
+cross_text at visit = cross_opening_text (is_at at visit.time) visit.cell.x visit.cell.y ++ visit_line visit ++ codes "</title></rect>"
 
 unfoldable pub crosses_text : Option ℕ → List Visit → List ℕ
 crosses_text at visits = codes "<g id='visits'>\n" ++ flat_map (cross_text at) visits ++ codes "</g>\n"
 
 unfoldable pub marks_text : Option ℕ → Fleet → List Conflict → List ℕ
-marks_text at fleet entries = codes "<g id='entries'>\n" ++ flat_map (mark_text at fleet) entries ++ codes "</g>\n"
+marks_text at fleet entries = codes "<g id='entries'>\n" ++ marks_behind at fleet None entries ++ codes "</g>\n"
 
 -- a mark for each visit and each entry of the report, in the report's order, and no other
 abbrev pub findings_text : Option ℕ → SceneState → Report → List ℕ

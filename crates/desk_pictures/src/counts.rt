@@ -3,8 +3,8 @@ ghost use Rattle.std.specs.Prelude.{OnOk, ◌≡◌, ◌||◌, is_err};
 ghost use Rattle.desk_pictures.specs.Growth.{Grows};
 
 use crate::pieces::{Piece, put_letters, put_some, put_total};
-use conflict_ledger::Kind;
 use desk_report::{Report, Sink, WriteFailed};
+use mapf_rules::Kind;
 
 // How many entries of the kind there are.
 fn count_of(report: &Report, kind: Kind) -> u64 {

@@ -1,5 +1,5 @@
 ghost use Rattle.std.specs.Prelude.{◌≡◌};
-ghost use Rattle.desk_pictures.specs.Marks.{is_at, moves};
+ghost use Rattle.desk_pictures.specs.Marks.{is_at, moves, class_text};
 
 use grid_cells::{Agent, Step};
 
@@ -41,4 +41,11 @@ impl Frame {
             None => true,
         }
     }
+}
+
+/// The class of what is lit, or none.
+pub fn class_text(lit: bool) -> &'static [u8]
+    ensures { result.now ≡ class_text lit }
+{
+    if lit { b" class='lit'" } else { b"" }
 }

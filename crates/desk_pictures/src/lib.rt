@@ -4,6 +4,7 @@
 
 mod agents;
 mod counts;
+mod crosses;
 mod frames;
 mod ground;
 mod legend;
@@ -15,6 +16,7 @@ mod rings;
 mod routes;
 mod rulers;
 mod sheet;
+mod signs;
 mod spots;
 mod styles;
 mod titles;

@@ -1,43 +1,29 @@
-//! The marks of the report's entries and visits, each titled by the report's line.
-ghost use Rattle.std.specs.Prelude.{◌≡◌, codes, OnOk, ◌||◌, is_err};
-ghost use Rattle.std.specs.List.{flat_map};
+//! The marks of the report's entries, each titled by the report's line.
+ghost use Rattle.std.specs.Prelude.{◌≡◌, OnOk, ◌||◌, is_err, None};
 ghost use Rattle.std.specs.Io.KnownBytes.{Appends};
 ghost use Rattle.plan_table.specs.Route.{tracks_of};
-ghost use Rattle.desk_pictures.specs.Marks.{is_at, moves, class_text, opening_text, closing_text, mark_text, cross_text, crosses_text, marks_text, findings_text};
+ghost use Rattle.desk_pictures.specs.Marks.{opening_text, mark_text, group_text, end_text, turn_text, marks_behind, marks_text, findings_text};
 
+use crate::crosses::put_crosses;
 use crate::frames::Frame;
 use crate::pieces::{Piece, put_pieces};
-use crate::spots::{Spot, middle, spot_of, symbol_of, time_of};
-use crate::titles::{put_entry, put_visit};
-use conflict_ledger::Conflict;
-use cost_ledger::Visit;
+use crate::spots::{Spot, spot_of, symbol_of, time_of};
+use crate::titles::put_entry;
 use desk_report::{Report, Sink, WriteFailed, put_all};
 use grid_cells::Step;
+use mapf_rules::Conflict;
 use plan_table::{Mode, Plans};
 use scene_edits::Scene;
 
-// The class of a mark that is lit, or none.
-fn class_text(lit: bool) -> &'static [u8]
-    ensures { result.now ≡ class_text lit }
-{
-    if lit { b"' class='lit" } else { b"" }
-}
-
-// A mark at the spot, up to its title. In a still picture of the mark's time it is lit.
+// The mark of an entry at the spot, up to its title.
 #[tactic(auto, unfolding(crate::specs::Marks::opening_text))]
-fn put_opening<'a, W: Sink>(
-    sink: &mut W,
-    symbol: &'a [u8],
-    spot: Spot,
-    lit: bool,
-) -> Result<(), WriteFailed>
-    ensures ok { OnOk result (Appends (W.held sink.old) (W.held sink.new) (opening_text symbol.now spot lit)) }
+fn put_opening<'a, W: Sink>(sink: &mut W, symbol: &'a [u8], spot: Spot) -> Result<(), WriteFailed>
+    ensures ok { OnOk result (Appends (W.held sink.old) (W.held sink.new) (opening_text symbol.now spot)) }
     ensures broken { W.broken sink.new ≡ (W.broken sink.old || is_err result) }
 {
     let pieces = [
         Piece::Text(b"<use href='#"),
         Piece::Text(symbol),
-        Piece::Text(class_text(lit)),
         Piece::Text(b"' x='"),
         Piece::Half(u64::from(spot.across)),
         Piece::Text(b"' y='"),
@@ -47,53 +33,76 @@ fn put_opening<'a, W: Sink>(
     put_pieces(sink, &pieces)
 }
 
-// A mark behind its title. In a moving picture it is lit from its time on.
-fn put_closing<W: Sink>(sink: &mut W, moving: bool, time: Step) -> Result<(), WriteFailed>
-    ensures ok { OnOk result (Appends (W.held sink.old) (W.held sink.new) (closing_text moving time)) }
-    ensures broken { W.broken sink.new ≡ (W.broken sink.old || is_err result) }
-{
-    if !moving {
-        return put_all(sink, b"</title></use>");
-    }
-    let pieces = [
-        Piece::Text(b"</title><set attributeName='opacity' to='1' begin='"),
-        Piece::Seconds(time.number()),
-        Piece::Text(b"s'/></use>"),
-    ];
-    put_pieces(sink, &pieces)
-}
-
 // The mark of an entry.
 #[tactic(auto, using(crate::proofs::Growth::texts), unfolding(crate::specs::Marks::mark_text))]
 fn put_mark<W: Sink>(
     sink: &mut W,
-    frame: &Frame,
     plans: &Plans,
     mode: Mode,
     entry: &Conflict,
 ) -> Result<(), WriteFailed>
-    ensures ok { OnOk result (Appends (W.held sink.old) (W.held sink.new) (mark_text frame.now.at (tracks_of mode plans.now.rows) entry.now)) }
+    ensures ok { OnOk result (Appends (W.held sink.old) (W.held sink.new) (mark_text (tracks_of mode plans.now.rows) entry.now)) }
     ensures broken { W.broken sink.new ≡ (W.broken sink.old || is_err result) }
 {
-    let time = time_of(entry);
     let spot = spot_of(plans, mode, entry);
-    put_opening(sink, symbol_of(entry), spot, frame.is_at(time))?;
+    put_opening(sink, symbol_of(entry), spot)?;
     put_entry(sink, entry)?;
-    put_closing(sink, frame.moves(), time)
+    put_all(sink, b"</title></use>")
 }
 
-// The mark of a visit, which a moving picture has at all times.
-#[tactic(auto, using(crate::proofs::Growth::texts), unfolding(crate::specs::Marks::cross_text))]
-fn put_cross<W: Sink>(sink: &mut W, frame: &Frame, visit: &Visit) -> Result<(), WriteFailed>
-    ensures ok { OnOk result (Appends (W.held sink.old) (W.held sink.new) (cross_text frame.now.at visit.now)) }
+// The beginning of a group of marks of the time. In a moving picture they are lit from then on.
+fn put_group<W: Sink>(sink: &mut W, moving: bool, lit: bool, time: Step) -> Result<(), WriteFailed>
+    ensures ok { OnOk result (Appends (W.held sink.old) (W.held sink.new) (group_text moving lit time)) }
     ensures broken { W.broken sink.new ≡ (W.broken sink.old || is_err result) }
 {
-    let spot = middle(visit.cell, visit.cell);
-    put_opening(sink, b"X", spot, frame.is_at(visit.time))?;
-    put_visit(sink, visit)?;
-    put_closing(sink, false, visit.time)
+    if !moving {
+        if lit {
+            return put_all(sink, b"<g class='lit'>\n");
+        }
+        return put_all(sink, b"<g>\n");
+    }
+    let pieces = [
+        Piece::Text(b"<g><set attributeName='opacity' to='1' begin='"),
+        Piece::Seconds(time.number()),
+        Piece::Text(b"s'/>\n"),
+    ];
+    put_pieces(sink, &pieces)
 }
 
+// The end of the group of a mark, if there is one before.
+fn put_end<W: Sink>(sink: &mut W, before: Option<Step>) -> Result<(), WriteFailed>
+    ensures ok { OnOk result (Appends (W.held sink.old) (W.held sink.new) (end_text before)) }
+    ensures broken { W.broken sink.new ≡ (W.broken sink.old || is_err result) }
+{
+    match before {
+        Some(_) => put_all(sink, b"</g>\n"),
+        None => Ok(()),
+    }
+}
+
+// What stands before a mark of the time, behind one of that other time or none.
+#[tactic(auto, using(crate::proofs::Growth::texts))]
+fn put_turn<W: Sink>(
+    sink: &mut W,
+    frame: &Frame,
+    before: Option<Step>,
+    time: Step,
+) -> Result<(), WriteFailed>
+    ensures ok { OnOk result (Appends (W.held sink.old) (W.held sink.new) (turn_text frame.now.at before time)) }
+    ensures broken { W.broken sink.new ≡ (W.broken sink.old || is_err result) }
+{
+    let lit = frame.is_at(time);
+    match before {
+        None => put_group(sink, frame.moves(), lit, time),
+        Some(before) if before.number() == time.number() => Ok(()),
+        Some(_) => {
+            put_all(sink, b"</g>\n")?;
+            put_group(sink, frame.moves(), lit, time)
+        }
+    }
+}
+
+// The marks of the entries, in groups of those of one time that follow one another.
 #[tactic(auto, using(crate::proofs::Growth::texts))]
 fn put_each_mark<W: Sink>(
     sink: &mut W,
@@ -102,24 +111,17 @@ fn put_each_mark<W: Sink>(
     mode: Mode,
     entries: &[Conflict],
 ) -> Result<(), WriteFailed>
-    ensures ok { OnOk result (Appends (W.held sink.old) (W.held sink.new) (flat_map (mark_text frame.now.at (tracks_of mode plans.now.rows)) entries.now)) }
+    ensures ok { OnOk result (Appends (W.held sink.old) (W.held sink.new) (marks_behind frame.now.at (tracks_of mode plans.now.rows) None entries.now)) }
     ensures broken { W.broken sink.new ≡ (W.broken sink.old || is_err result) }
 {
+    let mut before = None;
     for entry in entries {
-        put_mark(sink, frame, plans, mode, entry)?;
+        let time = time_of(entry);
+        put_turn(sink, frame, before, time)?;
+        put_mark(sink, plans, mode, entry)?;
+        before = Some(time);
     }
-    Ok(())
-}
-
-#[tactic(auto, using(crate::proofs::Growth::texts))]
-fn put_each_cross<W: Sink>(sink: &mut W, frame: &Frame, visits: &[Visit]) -> Result<(), WriteFailed>
-    ensures ok { OnOk result (Appends (W.held sink.old) (W.held sink.new) (flat_map (cross_text frame.now.at) visits.now)) }
-    ensures broken { W.broken sink.new ≡ (W.broken sink.old || is_err result) }
-{
-    for visit in visits {
-        put_cross(sink, frame, visit)?;
-    }
-    Ok(())
+    put_end(sink, before)
 }
 
 // The group of the entries' marks, in the report's order.
@@ -136,17 +138,6 @@ fn put_marks<W: Sink>(
 {
     put_all(sink, b"<g id='entries'>\n")?;
     put_each_mark(sink, frame, plans, mode, entries)?;
-    put_all(sink, b"</g>\n")
-}
-
-// The group of the visits' marks, in the report's order.
-#[tactic(auto, using(crate::proofs::Growth::texts), unfolding(crate::specs::Marks::crosses_text))]
-fn put_crosses<W: Sink>(sink: &mut W, frame: &Frame, visits: &[Visit]) -> Result<(), WriteFailed>
-    ensures ok { OnOk result (Appends (W.held sink.old) (W.held sink.new) (crosses_text frame.now.at visits.now)) }
-    ensures broken { W.broken sink.new ≡ (W.broken sink.old || is_err result) }
-{
-    put_all(sink, b"<g id='visits'>\n")?;
-    put_each_cross(sink, frame, visits)?;
     put_all(sink, b"</g>\n")
 }
 

@@ -4,9 +4,9 @@ ghost use Rattle.desk_pictures.specs.Growth.{Grows};
 
 use crate::frames::Frame;
 use crate::pieces::{Piece, put_letters, put_some};
-use conflict_ledger::{Conflict, position};
 use desk_report::{Sink, WriteFailed};
 use grid_cells::{Agent, Step};
+use mapf_rules::{Conflict, position};
 use plan_table::{Mode, Plans};
 
 // How the line comes to the corner at that index.

@@ -5,6 +5,7 @@ ghost use Rattle.desk_pictures.specs.Growth.{Grows};
 use crate::agents::put_group;
 use crate::frames::Frame;
 use crate::pieces::{Piece, put_letters, put_some};
+use crate::ways::put_offset;
 use desk_report::{Sink, WriteFailed};
 use grid_cells::{Agent, Cell, Step};
 use plan_table::{Plans, Row};
@@ -33,56 +34,49 @@ fn way_to(cell: Cell, next: Cell) -> Option<Way> {
     }
 }
 
-// The line up to the cell, which it comes to that way.
+// The line straight on to the cell, if that is another one.
 #[tactic(auto, using(crate::proofs::Growth::growths))]
-fn put_reach<W: Sink>(sink: &mut W, way: Option<Way>, cell: Cell) -> Result<(), WriteFailed>
+fn put_stroke<W: Sink>(sink: &mut W, from: Cell, cell: Cell) -> Result<(), WriteFailed>
     ensures ok { OnOk result (Grows (W.held sink.old) (W.held sink.new)) }
     ensures broken { W.broken sink.new ≡ (W.broken sink.old || is_err result) }
 {
-    match way {
-        None => Ok(()),
-        Some(Way::Left | Way::Right) => put_some(
-            sink,
-            &[Piece::Text(b"H"), Piece::Number(u64::from(cell.x()))],
-        ),
-        Some(Way::Up | Way::Down) => put_some(
-            sink,
-            &[Piece::Text(b"V"), Piece::Number(u64::from(cell.y()))],
-        ),
-    }
-}
-
-// The line up to the cell, where it turns there.
-#[tactic(auto, using(crate::proofs::Growth::growths))]
-fn put_turn<W: Sink>(
-    sink: &mut W,
-    way: Option<Way>,
-    next: Option<Way>,
-    cell: Cell,
-) -> Result<(), WriteFailed>
-    ensures ok { OnOk result (Grows (W.held sink.old) (W.held sink.new)) }
-    ensures broken { W.broken sink.new ≡ (W.broken sink.old || is_err result) }
-{
-    if next.is_none() || next == way {
+    if from == cell {
         return Ok(());
     }
-    put_reach(sink, way, cell)
+    if from.y() == cell.y() {
+        put_letters(sink, b"h")?;
+        return put_offset(sink, from.x(), cell.x());
+    }
+    put_letters(sink, b"v")?;
+    put_offset(sink, from.y(), cell.y())
+}
+
+// Where the line has turned last: at the cell, where it goes on another way there, or where it had before.
+fn turned_at(turned: Cell, way: Option<Way>, next: Option<Way>, cell: Cell) -> Cell {
+    if next.is_none() || next == way {
+        turned
+    } else {
+        cell
+    }
 }
 
 // The line along the cells: waits don't show, and a straight run is one stroke.
 #[tactic(auto, using(crate::proofs::Growth::growths))]
-fn put_strokes<W: Sink>(sink: &mut W, cells: &[Cell]) -> Result<(), WriteFailed>
+fn put_strokes<W: Sink>(sink: &mut W, start: Cell, cells: &[Cell]) -> Result<(), WriteFailed>
     ensures ok { OnOk result (Grows (W.held sink.old) (W.held sink.new)) }
     ensures broken { W.broken sink.new ≡ (W.broken sink.old || is_err result) }
 {
+    let mut turned = start;
     let mut way = None;
     for at in 1..cells.len() {
         let next = way_to(cells[at - 1], cells[at]);
-        put_turn(sink, way, next, cells[at - 1])?;
+        let corner = turned_at(turned, way, next, cells[at - 1]);
+        put_stroke(sink, turned, corner)?;
+        turned = corner;
         way = next.or(way);
     }
     match cells {
-        [.., last] => put_reach(sink, way, *last),
+        [.., last] => put_stroke(sink, turned, *last),
         [] => Ok(()),
     }
 }
@@ -154,7 +148,7 @@ fn put_route<W: Sink>(sink: &mut W, agent: Agent, row: &Row) -> Result<(), Write
     put_group(sink, agent)?;
     put_lack(sink, rest, row.goal)?;
     put_start(sink, start)?;
-    put_strokes(sink, row.plan.cells())?;
+    put_strokes(sink, start, row.plan.cells())?;
     put_letters(sink, b"'/>")?;
     put_sign(sink, b"start", start)?;
     put_sign(sink, b"goal", row.goal)?;

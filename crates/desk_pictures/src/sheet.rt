@@ -9,7 +9,7 @@ use grid_cells::Size;
 // The greater side of the drawn map.
 const MAP_SIDE: u32 = 960;
 // The room beside the map, for the key.
-const KEY_ROOM: u32 = 384;
+const KEY_ROOM: u32 = 480;
 /// The room above the map and at its left, for the numbers of columns and rows.
 pub const EDGE: u32 = 36;
 // The height of the key.

@@ -3,8 +3,8 @@ ghost use Rattle.std.specs.Prelude.{◌≡◌, ◌/◌, ◌==◌, if◌then◌el
 ghost use Rattle.plan_table.specs.Route.{tracks_of};
 ghost use Rattle.desk_pictures.specs.Spots.{between, between_given, time_of, cell_in, spot_of, symbol_of};
 
-use conflict_ledger::{Conflict, position};
 use grid_cells::{Agent, Cell, Step};
+use mapf_rules::{Conflict, position};
 use plan_table::{Mode, Plans};
 
 /// A point of the picture, in halves of a cell: a cell's middle has twice its column and row.

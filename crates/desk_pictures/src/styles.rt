@@ -1,10 +1,11 @@
-//! Colours, widths and signs. The colours are those of Okabe and Ito, which people with colour
+//! Colours, widths and sizes. The colours are those of Okabe and Ito, which people with colour
 //! blindness tell apart.
 ghost use Rattle.std.specs.Prelude.{OnOk, ◌≡◌, ◌||◌, is_err};
 ghost use Rattle.desk_pictures.specs.Growth.{Grows};
 
 use crate::pieces::{Piece, put_letters, put_some};
 use crate::sheet::Sheet;
+use crate::signs::put_signs;
 use desk_report::{Sink, WriteFailed};
 
 const COLOURS: &[u8] = b"\
@@ -24,8 +25,8 @@ text{font-family:sans-serif}
 #routes path,#rings path{fill:none;stroke-linejoin:round;stroke-linecap:round}
 #routes path{stroke:currentColor}
 #rings path{stroke:#d55e00}
-#entries use,#rings path{opacity:.2}
-#visits use{opacity:.5}
+#entries>g,#rings path{opacity:.2}
+#visits rect{fill:url(#X);opacity:.5}
 #entries .lit,#visits .lit,#rings .lit{opacity:1}
 #agents text{text-anchor:middle;dominant-baseline:central;fill:#fff}
 #agents .c1 text,#agents .c3 text,#agents .c4 text{fill:#000}
@@ -34,24 +35,9 @@ text{font-family:sans-serif}
 #key text{font-size:17px;fill:#222}
 #key .n{text-anchor:end;font-weight:bold}
 #key .none{fill:#999;opacity:.6}
-#key .head{font-size:22px;font-weight:bold}
+#key .head{font-size:18px;font-weight:bold}
 #key .good{font-size:20px;font-weight:bold;fill:#007a5a}
 #key .bad{font-size:20px;font-weight:bold;fill:#b84f00}
-";
-
-const SIGNS: &[u8] = b"\
-<g id='v'><circle class='back' r='.6'/><circle class='sign ring' r='.6'/></g>
-<g id='p'><path class='back' d='M-.56-.56H.56V.56H-.56z'/><path class='sign ring' d='M-.56-.56H.56V.56H-.56z'/></g>
-<g id='e'><path class='back' d='M-.5-.17H.5M-.5.17H.5'/><path class='sign' d='M-.5-.17H.5M-.5.17H.5'/></g>
-<g id='d'><path class='back' d='M-.17-.5V.5M.17-.5V.5'/><path class='sign' d='M-.17-.5V.5M.17-.5V.5'/></g>
-<g id='f'><path class='back' d='M0-.7L.6.36H-.6z'/><path class='soft' d='M0-.7L.6.36H-.6z'/></g>
-<path id='s' class='solid' d='M-.1-.32V.32L-.58 0zM.1-.32V.32L.58 0z'/>
-<path id='t' class='solid' d='M-.32-.1H.32L0-.58zM-.32.1H.32L0 .58z'/>
-<g id='c'><path class='back' d='M.5 0A.5.5 0 1 1 0-.5'/><path class='sign' d='M.5 0A.5.5 0 1 1 0-.5'/><path class='solid' d='M0-.8L.42-.5L0-.2z'/></g>
-<g id='x'><path class='back' d='M-.4-.4L.4.4M-.4.4L.4-.4'/><path class='shut' d='M-.4-.4L.4.4M-.4.4L.4-.4'/></g>
-<circle id='a' class='body' r='.38'/>
-<circle id='o' class='spot' r='.2'/>
-<path id='g' class='spot' d='M-.32-.32H.32V.32H-.32z'/>
 ";
 
 // The colour of agents, and how far their drawings are beside those of others.
@@ -127,47 +113,24 @@ fn put_lines<W: Sink>(sink: &mut W, sheet: Sheet) -> Result<(), WriteFailed>
     put_some(sink, &pieces)
 }
 
-// A sign of that name in the size for the map, which has another name.
+// The size of visits' marks, whose middles are to be where their cells' are.
 #[tactic(auto, using(crate::proofs::Growth::growths))]
-fn put_sized<'a, W: Sink>(
-    sink: &mut W,
-    sheet: Sheet,
-    name: &'a [u8],
-    sign: &'a [u8],
-) -> Result<(), WriteFailed>
+fn put_squares<W: Sink>(sink: &mut W, sheet: Sheet) -> Result<(), WriteFailed>
     ensures ok { OnOk result (Grows (W.held sink.old) (W.held sink.new)) }
     ensures broken { W.broken sink.new ≡ (W.broken sink.old || is_err result) }
 {
     let pieces = [
-        Piece::Text(b"<g id='"),
-        Piece::Text(name),
-        Piece::Text(b"' transform='scale("),
+        Piece::Text(b"#visits{transform:translate(-"),
+        sheet.part(50),
+        Piece::Text(b"px,-"),
+        sheet.part(50),
+        Piece::Text(b"px)}\n#visits rect{width:"),
         sheet.part(100),
-        Piece::Text(b")'><use href='#"),
-        Piece::Text(sign),
-        Piece::Text(b"'/></g>\n"),
+        Piece::Text(b"px;height:"),
+        sheet.part(100),
+        Piece::Text(b"px}\n"),
     ];
     put_some(sink, &pieces)
-}
-
-#[tactic(auto, using(crate::proofs::Growth::growths))]
-fn put_signs<W: Sink>(sink: &mut W, sheet: Sheet) -> Result<(), WriteFailed>
-    ensures ok { OnOk result (Grows (W.held sink.old) (W.held sink.new)) }
-    ensures broken { W.broken sink.new ≡ (W.broken sink.old || is_err result) }
-{
-    put_letters(sink, SIGNS)?;
-    put_sized(sink, sheet, b"V", b"v")?;
-    put_sized(sink, sheet, b"P", b"p")?;
-    put_sized(sink, sheet, b"E", b"e")?;
-    put_sized(sink, sheet, b"D", b"d")?;
-    put_sized(sink, sheet, b"F", b"f")?;
-    put_sized(sink, sheet, b"S", b"s")?;
-    put_sized(sink, sheet, b"T", b"t")?;
-    put_sized(sink, sheet, b"C", b"c")?;
-    put_sized(sink, sheet, b"X", b"x")?;
-    put_sized(sink, sheet, b"body", b"a")?;
-    put_sized(sink, sheet, b"start", b"o")?;
-    put_sized(sink, sheet, b"goal", b"g")
 }
 
 // The rule that hides the numbers of many agents.
@@ -193,6 +156,7 @@ pub fn put_styles<W: Sink>(sink: &mut W, sheet: Sheet, many: bool) -> Result<(),
     put_letters(sink, COLOURS)?;
     put_colours(sink, sheet)?;
     put_lines(sink, sheet)?;
+    put_squares(sink, sheet)?;
     put_numbering(sink, many)?;
     put_letters(sink, b"</style>\n<defs>\n")?;
     put_signs(sink, sheet)?;

@@ -6,10 +6,9 @@ ghost use Rattle.desk_report.specs.LineText.{line_text, cell_text};
 ghost use Rattle.desk_report.specs.EntryText.{entry_line};
 ghost use Rattle.desk_report.specs.ReportText.{visit_line};
 
-use conflict_ledger::Conflict;
-use cost_ledger::Visit;
 use desk_report::{Sink, Word, WriteFailed, put_all, put_line, put_next};
 use grid_cells::{Agent, Cell, Step};
+use mapf_rules::{Conflict, Visit};
 
 // The line of two agents in one cell, or of one that follows the other into it.
 fn put_pair<W: Sink>(

@@ -44,9 +44,9 @@ fn put_comma<W: Sink>(sink: &mut W, at: usize) -> Result<(), WriteFailed>
     put_letters(sink, b";")
 }
 
-// How far the place is from the start.
+/// Puts how far the place is from the start.
 #[tactic(auto, using(crate::proofs::Growth::growths))]
-fn put_offset<W: Sink>(sink: &mut W, start: u32, place: u32) -> Result<(), WriteFailed>
+pub fn put_offset<W: Sink>(sink: &mut W, start: u32, place: u32) -> Result<(), WriteFailed>
     ensures ok { OnOk result (Grows (W.held sink.old) (W.held sink.new)) }
     ensures broken { W.broken sink.new ≡ (W.broken sink.old || is_err result) }
 {

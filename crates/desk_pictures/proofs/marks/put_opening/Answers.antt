@@ -3,4 +3,4 @@ use Rattle.desk_pictures.proofs.marks.put_opening.Goals as goal
 
 pub returns-clause-ok : goal.returns-clause-ok
 unfolding opening_text
-returns-clause-ok g c = rw c.from-2.ensures at (rw c.from.ensures at (rw c.class_text.ensures at c.put_pieces.ensures.ok))
+returns-clause-ok g c = rw c.from-2.ensures at (rw c.from.ensures at c.put_pieces.ensures.ok)

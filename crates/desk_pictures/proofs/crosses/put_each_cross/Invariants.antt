@@ -2,7 +2,7 @@ use Rattle.std.proofs.Common.{◌≡◌, take}
 use Rattle.std.specs.List.{flat_map}
 use Rattle.std.specs.Io.KnownBytes.{Appends}
 use Rattle.desk_pictures.specs.Marks.{cross_text}
-use Rattle.desk_pictures.proofs.marks.put_each_cross.Given as goal
+use Rattle.desk_pictures.proofs.crosses.put_each_cross.Given as goal
 
 abbrev pub invariant-loop-visit : goal.invariant-loop-visit
 invariant-loop-visit g l = record {
