@@ -1,7 +1,10 @@
 //! What words are read as, in a line. What is as it is where no word names it is left out.
 use clap::Error;
 use desk_report::Kinds;
-use desk_words::{Asked, AuditWords, CheckWords, DrillWords, ServeWords, Words};
+use desk_words::{
+    Asked, AuditWords, CheckWords, DrawWords, DrillWords, HostWords, ServeWords, Words,
+};
+use grid_cells::Agent;
 use plan_table::Mode;
 use solver_paths::Form;
 use std::alloc::{AllocError, Global};
@@ -38,12 +41,18 @@ fn put_words(text: &mut String, words: &Words<'_>) -> Result<(), AllocError> {
         Words::Serve(serve) => put_serve(text, serve),
         Words::Audit(audit) => put_audit(text, audit),
         Words::Drill(drill) => put_drill(text, drill),
+        Words::Host(host) => put_host(text, host),
         Words::Check(check) => put_check(text, check),
+        Words::Draw(draw) => put_draw(text, draw),
     }
 }
 
 fn put_serve(text: &mut String, words: &ServeWords<'_>) -> Result<(), AllocError> {
     text.push_str("serve")?;
+    put_desk(text, words)
+}
+
+fn put_desk(text: &mut String, words: &ServeWords<'_>) -> Result<(), AllocError> {
     put_file(text, "map", words.map)?;
     put_file(text, "scen", words.scen)?;
     put_number(text, "agents", words.agents, 0)?;
@@ -76,15 +85,23 @@ fn put_drill(text: &mut String, words: &DrillWords<'_>) -> Result<(), AllocError
     Ok(())
 }
 
+fn put_host(text: &mut String, words: &HostWords<'_>) -> Result<(), AllocError> {
+    text.push_str("host")?;
+    put_desk(text, &words.desk)?;
+    put_given(text, "wait", words.wait)?;
+    put_number(text, "workers", words.workers, 4)?;
+    for name in words.names.as_slice() {
+        put_file(text, "name", Some(*name))?;
+    }
+    Ok(())
+}
+
 fn put_check(text: &mut String, words: &CheckWords<'_>) -> Result<(), AllocError> {
-    let alloc = *text.allocator();
     text.push_str("check")?;
     put_file(text, "map", Some(words.map))?;
     put_file(text, "paths", Some(words.paths))?;
     put_file(text, "scen", words.scen)?;
-    if let Some(agents) = words.agents {
-        text.push_str(format!(in alloc; " agents={agents}")?.as_str())?;
-    }
+    put_given(text, "agents", words.agents)?;
     put_mode(text, words.mode)?;
     put_form(text, words.form)?;
     put_kinds(text, words.kinds)?;
@@ -93,6 +110,35 @@ fn put_check(text: &mut String, words: &CheckWords<'_>) -> Result<(), AllocError
         text.push_str(" quiet")?;
     }
     Ok(())
+}
+
+fn put_draw(text: &mut String, words: &DrawWords<'_>) -> Result<(), AllocError> {
+    text.push_str("draw")?;
+    put_file(text, "map", Some(words.map))?;
+    put_file(text, "scen", words.scen)?;
+    put_given(text, "agents", words.agents)?;
+    put_mode(text, words.mode)?;
+    put_file(text, "journal", words.journal)?;
+    put_file(text, "paths", words.paths)?;
+    put_given(text, "at", words.at)?;
+    put_shown(text, words.shown)
+}
+
+fn put_shown(text: &mut String, shown: Option<(Agent, Agent)>) -> Result<(), AllocError> {
+    let alloc = *text.allocator();
+    let Some((least, greatest)) = shown else {
+        return Ok(());
+    };
+    let (least, greatest) = (least.number(), greatest.number());
+    text.push_str(format!(in alloc; " shown={least}-{greatest}")?.as_str())
+}
+
+fn put_given(text: &mut String, name: &str, number: Option<u32>) -> Result<(), AllocError> {
+    let alloc = *text.allocator();
+    match number {
+        None => Ok(()),
+        Some(number) => text.push_str(format!(in alloc; " {name}={number}")?.as_str()),
+    }
 }
 
 fn put_form(text: &mut String, form: Option<Form>) -> Result<(), AllocError> {

@@ -74,8 +74,22 @@ pub fn paths_argument<'a>(alloc: Global) -> Arg<'a> {
     Arg::new(alloc, "paths")
         .long("paths")
         .value_name("F")
-        .required(true)
         .help("The paths, as a solver wrote them")
+}
+
+pub fn at_argument<'a>(alloc: Global) -> Arg<'a> {
+    Arg::new(alloc, "at")
+        .long("at")
+        .value_name("T")
+        .value_parser(value_parser!(u32))
+        .help("The time of a still picture, in steps; without it the agents move")
+}
+
+pub fn shown_argument<'a>(alloc: Global) -> Arg<'a> {
+    Arg::new(alloc, "agents-shown")
+        .long("agents-shown")
+        .value_name("A-B")
+        .help("The agents that are drawn, as 0-9; all where it isn't given")
 }
 
 pub fn form_argument<'a>(alloc: Global) -> Arg<'a> {
@@ -117,6 +131,26 @@ pub fn scripts_argument<'a>(alloc: Global) -> Arg<'a> {
         .num_args(1..)
         .required(true)
         .help("A planner's session, one file for each planner, from 1 to 255 of them")
+}
+
+pub fn wait_argument<'a>(alloc: Global) -> Arg<'a> {
+    Arg::new(alloc, "wait")
+        .long("wait")
+        .value_name("S")
+        .value_parser(value_parser!(u32).range(0..=86_400))
+        .help(
+            "How many seconds a planner may take to come, from 0 to 86400; for ever where it isn't given",
+        )
+}
+
+pub fn names_argument<'a>(alloc: Global) -> Arg<'a> {
+    Arg::new(alloc, "name")
+        .value_name("NAME")
+        .num_args(1..)
+        .required(true)
+        .help(
+            "A planner, who writes lines to NAME.in and reads answers from NAME.out; 1 to 255 of them",
+        )
 }
 
 pub fn verbose_argument<'a>(alloc: Global) -> Arg<'a> {

@@ -15,8 +15,9 @@ map's agents and paths, and reports conflicts, costs and bounds that are always 
 
 pub const PROGRAM_HELP: &str = "\
 serve answers a planner's lines, one by one; audit makes a report from scratch, in threads; drill
-runs planners' scripts at once over one shared desk, and audits what they leave; check gives a
-verdict on the paths that a solver wrote. With no words, mapf_desk is mapf_desk serve: a map stands
+runs planners' scripts at once over one shared desk, and audits what they leave; host shares a desk
+among planners that are programs of their own; check gives a verdict on the paths that a solver
+wrote; draw makes a picture for a browser. With no words, mapf_desk is mapf_desk serve: a map stands
 first on standard input, and a session follows it.
 
 Three lines of a session, and what they are answered:
@@ -24,7 +25,7 @@ Three lines of a session, and what they are answered:
   path 0 0,0 1,0 2,0         version 2
   solves vertex swap         solves yes
 
-Statuses: 0 done; 1 the paths that were checked solve nothing, or the drill's audit differs; 2 a
+Statuses: 0 done; 1 the paths that were checked solve nothing, or an audit differs; 2 a
 fault, told on standard error in one line, or in two with --verbose where more is known of it.
 All lines, files and faults: docs/FORMATS.md, byte for byte; the rules: docs/RULES.md.
 
@@ -71,6 +72,21 @@ Statuses: 0 audit same; 1 audit differs; 2 a fault, told on standard error.
 Example:
   mapf_desk drill --map demo/corridor.map demo/east.script demo/west.script";
 
+pub const HOST_HELP: &str = "\
+Each planner is a program of its own, in any language. It writes lines to NAME.in, as serve takes
+them, and reads their answers from NAME.out: two pipes that were made by mkfifo, or any files. The
+first is planner 1. Standard input and output are the operator's session, planner 0. An answer goes
+out before more is read. A planner that breaks off, also within a line, harms nobody else.
+
+When all inputs have ended the journal is saved, with --save F, and audit same is printed where a
+report made from scratch is that of the desk, or audit differs.
+
+Statuses: 0 audit same; 1 audit differs; 2 a fault, told on standard error with the planner's NAME.
+
+Example:
+  mkfifo east.in east.out west.in west.out
+  mapf_desk host --map demo/corridor.map east west";
+
 pub const CHECK_HELP: &str = "\
 A solver's paths are read in one of three forms, told by the first line that isn't blank:
   time      solution=, and lines 0:(X,Y),(X,Y),           as LaCAM and PIBT print them
@@ -86,3 +102,19 @@ Statuses: 0 solves yes; 1 solves no; 2 a fault, told on standard error: there is
 
 Example:
   mapf_desk check --map demo/corridor.map --scen demo/corridor.scen --paths demo/corridor.paths";
+
+pub const DRAW_HELP: &str = "\
+The picture is one SVG on standard output, of the scene that audit makes of a journal, or check of a
+solver's paths. Each conflict and each visit to a closed cell that the report lists is marked where
+it is, and the mark's title is the report's line. Without --at the agents move, 0.4 seconds a step,
+and each conflict lights up at its time. With --agents-shown the other agents and their paths aren't
+drawn; what the report lists is marked all the same.
+
+Statuses: 0 done; 2 a fault, told on standard error.
+
+Example:
+  mapf_desk draw --map demo/corridor.map --paths demo/corridor.paths > corridor.svg";
+
+/// What is said of a range of agents that is none.
+pub const RANGE_MISTAKE: &str =
+    "invalid value for '--agents-shown <A-B>': two numbers of agents, the lesser first, as 0-9";

@@ -2,11 +2,15 @@
 #![tactic(auto)]
 
 mod arguments;
+mod checks;
 mod commands;
 mod helping;
+mod ranges;
 mod reading;
 mod words;
 
 pub use helping::{VERSION, WAITS};
 pub use reading::read_words;
-pub use words::{Asked, AuditWords, CheckWords, DrillWords, ServeWords, Words};
+pub use words::{
+    Asked, AuditWords, CheckWords, DrawWords, DrillWords, HostWords, ServeWords, Words,
+};

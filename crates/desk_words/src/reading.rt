@@ -1,10 +1,10 @@
 //! What the program's words ask for.
+use crate::checks::check_words;
 use crate::commands::command;
-use crate::words::{Asked, AuditWords, CheckWords, DrillWords, ServeWords, Words};
+use crate::ranges::{names_no_range, range_of, refused_range};
+use crate::words::{Asked, AuditWords, DrawWords, DrillWords, HostWords, ServeWords, Words};
 use clap::ArgMatches;
-use desk_report::Kinds;
 use plan_table::Mode;
-use solver_paths::Form;
 use std::alloc::{AllocError, Global};
 
 /// How many commits the journal takes where the words don't say.
@@ -13,22 +13,7 @@ const USUAL_LIMIT: u32 = 100_000;
 /// How many threads make a report where the words don't say.
 const USUAL_WORKERS: u32 = 4;
 
-const NO_KINDS: Kinds = Kinds {
-    vertex: false,
-    edge: false,
-    follow: false,
-    swap: false,
-    cycle: false,
-};
-
-/// The conflicts of the classical problem, which count where the words don't say.
-const CLASSICAL: Kinds = Kinds {
-    vertex: true,
-    swap: true,
-    ..NO_KINDS
-};
-
-fn mode_of(matches: &ArgMatches<'_>) -> Mode {
+pub(crate) fn mode_of(matches: &ArgMatches<'_>) -> Mode {
     match matches.get_str("mode") {
         Some("disappear") => Mode::Disappear,
         _ => Mode::Stay,
@@ -39,14 +24,18 @@ fn agents_of(matches: &ArgMatches<'_>) -> u32 {
     matches.get_one::<u32>("agents").unwrap_or(0)
 }
 
-fn workers_of(matches: &ArgMatches<'_>) -> u32 {
+pub(crate) fn workers_of(matches: &ArgMatches<'_>) -> u32 {
     matches.get_one::<u32>("workers").unwrap_or(USUAL_WORKERS)
 }
 
-// The scripts that are named, in their order.
-fn scripts_of<'a>(alloc: Global, matches: &ArgMatches<'a>) -> Result<Vec<&'a str>, AllocError> {
-    match matches.get_strs("script") {
-        Some(scripts) => scripts.to_vec(alloc),
+// The scripts or planners that are named, in their order.
+fn named_of<'a>(
+    alloc: Global,
+    matches: &ArgMatches<'a>,
+    what: &str,
+) -> Result<Vec<&'a str>, AllocError> {
+    match matches.get_strs(what) {
+        Some(named) => named.to_vec(alloc),
         None => Ok(Vec::new(alloc)),
     }
 }
@@ -81,48 +70,29 @@ fn drill_words<'a>(alloc: Global, matches: &ArgMatches<'a>) -> Result<DrillWords
         agents: agents_of(matches),
         mode: mode_of(matches),
         workers: workers_of(matches),
-        scripts: scripts_of(alloc, matches)?,
+        scripts: named_of(alloc, matches, "script")?,
     })
 }
 
-fn form_of(matches: &ArgMatches<'_>) -> Option<Form> {
-    match matches.get_str("form") {
-        Some("time") => Some(Form::ByTime),
-        Some("agent") => Some(Form::ByAgent),
-        Some("session") => Some(Form::BySession),
-        _ => None,
-    }
+fn host_words<'a>(alloc: Global, matches: &ArgMatches<'a>) -> Result<HostWords<'a>, AllocError> {
+    Ok(HostWords {
+        desk: serve_words(matches),
+        wait: matches.get_one::<u32>("wait"),
+        workers: workers_of(matches),
+        names: named_of(alloc, matches, "name")?,
+    })
 }
 
-// The kinds that are named; where none is, those of the classical problem.
-fn kinds_of(matches: &ArgMatches<'_>) -> Kinds {
-    let Some(named) = matches.get_strs("solves") else {
-        return CLASSICAL;
-    };
-    let mut kinds = NO_KINDS;
-    for name in named {
-        match *name {
-            "vertex" => kinds.vertex = true,
-            "edge" => kinds.edge = true,
-            "follow" => kinds.follow = true,
-            "swap" => kinds.swap = true,
-            _ => kinds.cycle = true,
-        }
-    }
-    kinds
-}
-
-fn check_words<'a>(matches: &ArgMatches<'a>) -> CheckWords<'a> {
-    CheckWords {
+fn draw_words<'a>(matches: &ArgMatches<'a>) -> DrawWords<'a> {
+    DrawWords {
         map: matches.get_str("map").unwrap_or(""),
         scen: matches.get_str("scen"),
         agents: matches.get_one::<u32>("agents"),
         mode: mode_of(matches),
-        paths: matches.get_str("paths").unwrap_or(""),
-        form: form_of(matches),
-        kinds: kinds_of(matches),
-        quiet: matches.get_flag("quiet"),
-        workers: workers_of(matches),
+        journal: matches.get_str("journal"),
+        paths: matches.get_str("paths"),
+        at: matches.get_one::<u32>("at"),
+        shown: range_of(matches.get_str("agents-shown").unwrap_or("")),
     }
 }
 
@@ -146,7 +116,9 @@ fn words_of<'a>(alloc: Global, matches: &ArgMatches<'a>) -> Result<Words<'a>, Al
     }
     match matches.subcommand() {
         Some(("drill", inner)) => Ok(Words::Drill(drill_words(alloc, inner)?)),
+        Some(("host", inner)) => Ok(Words::Host(host_words(alloc, inner)?)),
         Some(("check", inner)) => Ok(Words::Check(check_words(inner))),
+        Some(("draw", inner)) => Ok(Words::Draw(draw_words(inner))),
         Some(("audit", inner)) => Ok(Words::Audit(audit_words(inner))),
         Some((_, inner)) => Ok(Words::Serve(serve_words(inner))),
         None => Ok(Words::Serve(usual_words())),
@@ -168,6 +140,7 @@ pub fn read_words<'a>(alloc: Global, words: &'a [String]) -> Asked<'a> {
         return Asked::NoMemory;
     };
     match command.try_get_matches_from(words) {
+        Ok(matches) if names_no_range(&matches) => refused_range(alloc),
         Ok(matches) => match words_of(alloc, &matches) {
             Ok(words) => Asked::For {
                 words,

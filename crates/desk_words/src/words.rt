@@ -1,5 +1,6 @@
 use clap::Error;
 use desk_report::Kinds;
+use grid_cells::Agent;
 use plan_table::Mode;
 use solver_paths::Form;
 
@@ -11,7 +12,9 @@ pub enum Words<'a> {
     Serve(ServeWords<'a>),
     Audit(AuditWords<'a>),
     Drill(DrillWords<'a>),
+    Host(HostWords<'a>),
     Check(CheckWords<'a>),
+    Draw(DrawWords<'a>),
 }
 
 impl Words<'_> {
@@ -69,6 +72,19 @@ pub struct DrillWords<'a> {
     pub scripts: Vec<&'a str>,
 }
 
+/// The words of `host`.
+#[derive(Drop)]
+pub struct HostWords<'a> {
+    /// The desk that is shared; its map has a file.
+    pub desk: ServeWords<'a>,
+    /// How many seconds a planner may take to come; without it, any number.
+    pub wait: Option<u32>,
+    /// How many threads make the audit's report, 1 to 64.
+    pub workers: u32,
+    /// The planners, in their order: each NAME has the files NAME.in and NAME.out.
+    pub names: Vec<&'a str>,
+}
+
 /// The words of `check`.
 #[derive(Drop)]
 pub struct CheckWords<'a> {
@@ -87,6 +103,24 @@ pub struct CheckWords<'a> {
     pub quiet: bool,
     /// How many threads make the report, 1 to 64.
     pub workers: u32,
+}
+
+/// The words of `draw`.
+#[derive(Drop)]
+pub struct DrawWords<'a> {
+    pub map: &'a str,
+    pub scen: Option<&'a str>,
+    /// How many agents the scenario gives, 0 to 8,192; without it, as many as there are paths.
+    pub agents: Option<u32>,
+    pub mode: Mode,
+    /// The file of a journal that is committed first; none beside paths.
+    pub journal: Option<&'a str>,
+    /// The file of the paths; none beside a journal.
+    pub paths: Option<&'a str>,
+    /// The time of a still picture, in steps.
+    pub at: Option<u32>,
+    /// The least and the greatest of the agents that are drawn.
+    pub shown: Option<(Agent, Agent)>,
 }
 
 /// What the words come to.
