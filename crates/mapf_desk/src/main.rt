@@ -1,17 +1,22 @@
 //! The program: a desk that serves a planner's session over files and standard streams, audits,
-//! drills planners that share it, and checks the paths that a solver wrote.
+//! drills planners that share it, checks the paths that a solver wrote, and draws pictures.
 #![tactic(auto)]
 
 mod auditing;
 mod checking;
 mod details;
+mod doors;
+mod drawing;
 mod drilling;
 mod faults;
 mod files;
 mod finishing;
+mod hosting;
 mod named;
 mod saving;
+mod seats;
 mod serving;
+mod sittings;
 mod stages;
 mod streams;
 mod tallies;
@@ -21,8 +26,10 @@ use auditing::audit_files;
 use checking::check_files;
 use desk_runs::{Fault, RunFault};
 use desk_words::{Asked, VERSION, WAITS, Words, read_words};
+use drawing::draw_files;
 use drilling::drill_files;
 use faults::ProgramFault;
+use hosting::host_files;
 use serving::serve_streams;
 use std::env;
 use std::io::{Error, ErrorKind, IsTerminal};
@@ -32,8 +39,8 @@ use std::sync::Wait;
 use std::thread::Threads;
 use telling::{FAULT, More, tell, tell_more, tell_served};
 
-/// The status of a drill whose reports differ.
-const DIFFERS: u8 = 1;
+/// The status where the reports of a desk and of its audit differ.
+pub const DIFFERS: u8 = 1;
 
 /// The status of paths that don't solve the problem.
 const UNSOLVED: u8 = 1;
@@ -41,6 +48,7 @@ const UNSOLVED: u8 = 1;
 // Does what the words ask for. Where it is wanted, stages are told.
 fn obey<'a, R: Files + AllocGlobal + Print + Eprint + Input + Threads + Wait + Sync>(
     rt: &R,
+    runtime: &HostRuntime,
     words: &Words<'a>,
     more: &mut More,
     verbose: bool,
@@ -64,9 +72,14 @@ fn obey<'a, R: Files + AllocGlobal + Print + Eprint + Input + Threads + Wait + S
             Ok(false) => Ok(ExitCode::from(DIFFERS)),
             Err(fault) => Err(ProgramFault::Desk(fault)),
         },
+        Words::Host(host) => host_files(rt, runtime, host, stages || verbose, more),
         Words::Check(check) => match check_files(rt, check, stages, more) {
             Ok(true) => Ok(ExitCode::SUCCESS),
             Ok(false) => Ok(ExitCode::from(UNSOLVED)),
+            Err(fault) => Err(fault),
+        },
+        Words::Draw(draw) => match draw_files(rt, draw, stages, more) {
+            Ok(()) => Ok(ExitCode::SUCCESS),
             Err(fault) => Err(fault),
         },
     }
@@ -110,7 +123,14 @@ fn main(rt: HostRuntime) -> ExitCode {
         let _told = eprintln!(rt; "{WAITS}");
     }
     let mut more = More::none();
-    let status = match obey(&rt, &words, &mut more, verbose, rt.stderr().is_terminal()) {
+    let status = match obey(
+        &rt,
+        &rt,
+        &words,
+        &mut more,
+        verbose,
+        rt.stderr().is_terminal(),
+    ) {
         Ok(status) => status,
         Err(fault) => tell_more(&rt, &fault, &more, verbose),
     };

@@ -64,6 +64,26 @@ pub fn save_journal<'a, R: Files + AllocGlobal>(
     }
 }
 
+/// Saves a desk's journal as `save_journal` does, where a file for it is named.
+///
+/// # Errors
+///
+/// As `save_journal`.
+pub fn save_named<'a, R: Files + AllocGlobal>(
+    rt: &R,
+    desk: &Desk,
+    file: Option<&'a str>,
+    more: &mut More,
+) -> Result<(), Fault<'a>> {
+    match file {
+        None => Ok(()),
+        Some(file) => match save_journal(rt, desk, file, more) {
+            Ok(()) => Ok(()),
+            Err(fault) => Err(fault),
+        },
+    }
+}
+
 // The folder that a file is in, with the slash behind it: so a file isn't opened in its place.
 fn folder_of(file: &str) -> &str {
     match file.rfind('/') {

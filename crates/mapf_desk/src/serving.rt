@@ -1,7 +1,7 @@
 //! The word `serve`.
 use crate::details::{Texts, more_of};
 use crate::named::read_named;
-use crate::saving::save_journal;
+use crate::saving::save_named;
 use crate::streams::{Answers, Lines, Outlet};
 use crate::telling::{More, tell_more};
 use desk_core::{Desk, Limit, MOST_ENTRIES};
@@ -62,22 +62,6 @@ pub fn serve_streams<'a, R: Files + AllocGlobal + Print + Eprint + Input>(
     }
 }
 
-// Saves the desk's journal, where a file for it is named.
-fn save_named<'a, R: Files + AllocGlobal>(
-    rt: &R,
-    desk: &Desk,
-    file: Option<&'a str>,
-    more: &mut More,
-) -> Result<(), Fault<'a>> {
-    match file {
-        None => Ok(()),
-        Some(file) => match save_journal(rt, desk, file, more) {
-            Ok(()) => Ok(()),
-            Err(fault) => Err(fault),
-        },
-    }
-}
-
 // How a session went: the desk that it left, where one was opened, its fault, and the system's
 // reason for that.
 #[derive(Drop)]
@@ -125,7 +109,7 @@ fn serve_between<I: Read + Drop, O: Write + Drop>(
 }
 
 // The journal's limit, which the words' parser has held to its range.
-fn limit_of(words: &ServeWords<'_>) -> Limit {
+pub(crate) fn limit_of(words: &ServeWords<'_>) -> Limit {
     match Limit::new(words.limit.clamp(1, MOST_ENTRIES)) {
         Some(limit) => limit,
         None => unreachable!(),

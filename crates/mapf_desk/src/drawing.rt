@@ -1,0 +1,125 @@
+//! The word `draw`.
+use crate::details::{Texts, more_of_check};
+use crate::faults::ProgramFault;
+use crate::files::{file_bytes, named_bytes};
+use crate::finishing::finish;
+use crate::stages::tell_stage;
+use crate::telling::More;
+use desk_checks::CheckFault;
+use desk_draws::{Courses, run_draw};
+use desk_pictures::Frame;
+use desk_report::Spout;
+use desk_runs::{Fault, RunFault};
+use desk_words::DrawWords;
+use grid_cells::Step;
+use std::alloc::Global;
+use std::io;
+use std::io::{BufWriter, Write};
+use std::rt::Files;
+use std::sync::Wait;
+use std::thread::Threads;
+
+/// How many threads make the report.
+const WORKERS: u32 = 4;
+
+// The text that tells where agents go, by the word that names its file.
+fn courses_of<'t>(words: &DrawWords<'_>, text: Option<&'t [u8]>) -> Courses<'t> {
+    match text {
+        Some(paths) if words.paths.is_some() => Courses::Solver(paths),
+        journal => Courses::Journal(journal),
+    }
+}
+
+/// Draws as the words ask for, onto standard output. Where it is wanted, its stages are told on
+/// standard error.
+///
+/// # Errors
+///
+/// What the words lack, a file that can't be read, or why there is no picture.
+pub fn draw_files<'a, R: Files + AllocGlobal + Print + Eprint + Threads + Wait>(
+    rt: &R,
+    words: &DrawWords<'a>,
+    stages: bool,
+    more: &mut More,
+) -> Result<(), ProgramFault<'a>> {
+    if words.agents.is_some() && words.scen.is_none() {
+        return Err(ProgramFault::Desk(Fault::AgentsWithoutScen));
+    }
+    tell_stage(rt, stages, "reading the files");
+    let map = match file_bytes(rt, words.map, more) {
+        Ok(map) => map,
+        Err(fault) => return Err(ProgramFault::Desk(fault)),
+    };
+    let scen = match named_bytes(rt, words.scen, more) {
+        Ok(scen) => scen,
+        Err(fault) => return Err(ProgramFault::Desk(fault)),
+    };
+    let text = match named_bytes(rt, words.journal.or(words.paths), more) {
+        Ok(text) => text,
+        Err(fault) => return Err(ProgramFault::Desk(fault)),
+    };
+    tell_stage(rt, stages, "making the report, and drawing");
+    let texts = Texts {
+        map: Some(map.as_slice()),
+        scen: scen.as_deref(),
+        journal: text.as_deref(),
+    };
+    match draw_texts(rt, texts, words, more) {
+        Ok(()) => Ok(()),
+        Err(fault) => Err(ProgramFault::Check(fault)),
+    }
+}
+
+// Draws the texts onto standard output; in place of a journal there may be a solver's paths.
+fn draw_texts<R: AllocGlobal + Print + Threads + Wait>(
+    rt: &R,
+    texts: Texts<'_>,
+    words: &DrawWords<'_>,
+    more: &mut More,
+) -> Result<(), CheckFault> {
+    let alloc = rt.alloc();
+    let Ok(buffered) = BufWriter::new(alloc, io::writer(rt)) else {
+        return Err(CheckFault::OutOfMemory);
+    };
+    draw_onto(rt, alloc, texts, words, buffered, more)
+}
+
+// Draws the texts onto a writer.
+fn draw_onto<R: Threads + Wait, O: Write + Drop>(
+    rt: &R,
+    alloc: Global,
+    texts: Texts<'_>,
+    words: &DrawWords<'_>,
+    buffered: BufWriter<O>,
+    more: &mut More,
+) -> Result<(), CheckFault> {
+    let frame = Frame {
+        at: words.at.map(Step::new),
+        shown: words.shown,
+    };
+    let (agents, mode) = (words.agents, words.mode);
+    let mut writer = Spout::new(buffered);
+    let ended = run_draw(
+        rt,
+        alloc,
+        texts.map.unwrap_or(b""),
+        texts.scen,
+        agents,
+        mode,
+        courses_of(words, texts.journal),
+        &frame,
+        WORKERS,
+        &mut writer,
+    );
+    match ended {
+        Ok(()) => match finish(alloc, Ok(()), texts, writer.into_inner(), more) {
+            Ok(()) => Ok(()),
+            Err(fault) => Err(CheckFault::Run(fault)),
+        },
+        Err(fault) => {
+            let text = texts.journal.unwrap_or(b"");
+            more.put(more_of_check(alloc, &fault, texts, text));
+            Err(fault)
+        }
+    }
+}

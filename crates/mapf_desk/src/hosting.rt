@@ -1,0 +1,171 @@
+//! The word `host`.
+use crate::DIFFERS;
+use crate::details::more_of;
+use crate::faults::ProgramFault;
+use crate::named::read_named;
+use crate::saving::save_named;
+use crate::seats::Pipes;
+use crate::serving::limit_of;
+use crate::telling::{FAULT, More};
+use desk_core::Desk;
+use desk_hosts::{HostEnd, HostFault, host_planners};
+use desk_runs::{Fault, RunFault, open_desk};
+use desk_words::HostWords;
+use std::process::ExitCode;
+use std::rt::Files;
+use std::sync::Wait;
+use std::thread;
+use std::thread::{Scope, Threads};
+
+/// Hosts planners of other processes on one desk, as the words ask for, and the operator at standard
+/// input and output, until all their inputs have ended; saves the desk's journal where they ask for
+/// it, and prints whether the audit's report is that of the desk.
+///
+/// # Errors
+///
+/// What the words lack, a file that can't be read or written, the run's fault, or that of the save.
+pub fn host_files<'a, R: Files + AllocGlobal + Print + Threads + Wait + Sync>(
+    rt: &R,
+    host: &HostRuntime,
+    words: &HostWords<'a>,
+    stages: bool,
+    more: &mut More,
+) -> Result<ExitCode, ProgramFault<'a>> {
+    let desk = match open_named(rt, words, more) {
+        Ok(desk) => desk,
+        Err(fault) => return Err(fault),
+    };
+    let Ok(pipes) = Pipes::new(rt.alloc(), host, words.names.as_slice(), stages) else {
+        return Err(out_of_memory());
+    };
+    let end = match host_all(rt, desk, &pipes, words) {
+        Ok(end) => end,
+        Err(fault) => return Err(ProgramFault::Host(fault)),
+    };
+    end_hosted(rt, &end, words, more)
+}
+
+// Saves the desk's journal where the words ask for it, and prints whether the audit's report is that
+// of the desk.
+fn end_hosted<'a, R: Files + AllocGlobal + Print>(
+    rt: &R,
+    end: &HostEnd,
+    words: &HostWords<'a>,
+    more: &mut More,
+) -> Result<ExitCode, ProgramFault<'a>> {
+    match save_named(rt, &end.desk, words.desk.save, more) {
+        Ok(()) => {}
+        Err(fault) => return Err(ProgramFault::Desk(fault)),
+    }
+    let Ok(same) = end.same else {
+        return Err(out_of_memory());
+    };
+    let line = if same { "audit same" } else { "audit differs" };
+    match println!(rt; "{line}") {
+        Ok(()) => Ok(status_of(end, same)),
+        Err(_) => Err(ProgramFault::Desk(Fault::Run(RunFault::WriteFailed))),
+    }
+}
+
+fn out_of_memory<'a>() -> ProgramFault<'a> {
+    ProgramFault::Desk(Fault::Run(RunFault::OutOfMemory))
+}
+
+// The status of a desk that was hosted, whose audit is the same or not.
+fn status_of(end: &HostEnd, same: bool) -> ExitCode {
+    if end.operator.is_err() || end.planners.iter().any(|ended| ended.is_err()) {
+        ExitCode::from(FAULT)
+    } else if same {
+        ExitCode::SUCCESS
+    } else {
+        ExitCode::from(DIFFERS)
+    }
+}
+
+// The planner that is named twice, where one is.
+fn named_twice<'a>(names: &[&'a str]) -> Option<&'a str> {
+    for (place, name) in names.iter().enumerate() {
+        if names.iter().take(place).any(|other| other == name) {
+            return Some(name);
+        }
+    }
+    None
+}
+
+// The desk that is to be shared.
+fn open_named<'a, R: Files + AllocGlobal>(
+    rt: &R,
+    words: &HostWords<'a>,
+    more: &mut More,
+) -> Result<Desk, ProgramFault<'a>> {
+    let named = match read_named(rt, &words.desk, more) {
+        Ok(named) => named,
+        Err(fault) => return Err(ProgramFault::Desk(fault)),
+    };
+    if let Some(name) = named_twice(words.names.as_slice()) {
+        return Err(ProgramFault::NamedTwice { name });
+    }
+    let texts = named.texts();
+    let opened = open_desk(
+        rt.alloc(),
+        texts.map.unwrap_or(b""),
+        texts.scen,
+        words.desk.agents,
+        limit_of(&words.desk),
+        words.desk.mode,
+        texts.journal,
+    );
+    match opened {
+        Ok(desk) => Ok(desk),
+        Err(fault) => {
+            more.put(more_of(rt.alloc(), &fault, texts));
+            Err(ProgramFault::Desk(Fault::Run(fault)))
+        }
+    }
+}
+
+// Hosts the planners, who may take as long to come as the words say.
+fn host_all<R: AllocGlobal + Threads + Wait + Sync>(
+    rt: &R,
+    desk: Desk,
+    pipes: &Pipes<'_>,
+    words: &HostWords<'_>,
+) -> Result<HostEnd, HostFault> {
+    let Some(seconds) = words.wait else {
+        return host_seated(rt, desk, pipes, words);
+    };
+    thread::scope(thread::scope_env(), rt, move |scope| {
+        host_timed(rt, scope, desk, pipes, words, seconds)
+    })
+}
+
+// Hosts the planners, while a thread sees to those who don't come in time.
+fn host_timed<'s, E: 's, R: AllocGlobal + Threads + Wait + Sync>(
+    rt: &'s R,
+    scope: &'s Scope<'s, E>,
+    desk: Desk,
+    pipes: &'s Pipes<'s>,
+    words: &HostWords<'_>,
+    seconds: u32,
+) -> Result<HostEnd, HostFault> {
+    let Ok(keeper) = scope.spawn(move || pipes.wait(rt, seconds)) else {
+        return Err(HostFault::OutOfMemory);
+    };
+    let ended = host_seated(rt, desk, pipes, words);
+    keeper.join(rt);
+    ended
+}
+
+// Hosts the planners until all have ended.
+fn host_seated<R: AllocGlobal + Threads + Wait + Sync>(
+    rt: &R,
+    desk: Desk,
+    pipes: &Pipes<'_>,
+    words: &HostWords<'_>,
+) -> Result<HostEnd, HostFault> {
+    let Ok(planners) = u32::try_from(words.names.len()) else {
+        return Err(HostFault::TooManyPlanners);
+    };
+    let workers = words.workers.clamp(1, 64);
+    host_planners(rt, rt.alloc(), desk, pipes, planners, workers)
+}
