@@ -47,39 +47,51 @@ fn read_desk(rt: &impl Abort, alloc: Global) -> Desk {
     desk
 }
 
-// How often the indexes were built after a reading, a commit that drops agent 4 with so many bytes,
-// and a reading. None where the commit is accepted; then they were built once.
-fn built(rt: &impl Abort, alloc: Global, drought: &mut Drought, bytes: usize) -> Option<u64> {
+// How a commit that drops agent 4 with so many bytes came out.
+enum Outcome {
+    Refused,
+    Unfollowed,
+    Followed,
+}
+
+// A desk that was read, that commit, and a reading. A refused commit leaves the report and the
+// indexes as they were; an accepted one that the indexes couldn't follow has them built once more.
+fn without_agent_4(rt: &impl Abort, alloc: Global, drought: &mut Drought, bytes: usize) -> Outcome {
     let mut desk = read_desk(rt, alloc);
     let commit = commit(rt, alloc, planner(rt, 0), 0, &["drop 4"]);
     leave(rt, drought, Some(bytes));
     let answer = desk.commit(commit);
     drought.relieve();
-    let mut builds = None;
+    let is_refused = answer.is_err();
     if let Err((why, back)) = answer {
         assert!(rt; why == Refusal::OutOfMemory);
         reads(rt, alloc, &mut desk, TEXT);
-        builds = Some(desk.rebuilds());
-        assert!(rt; desk.commit(back).is_ok());
-    } else {
         assert!(rt; desk.rebuilds() == 1);
+        assert!(rt; desk.commit(back).is_ok());
     }
     reads(rt, alloc, &mut desk, AFTER);
-    builds
+    let builds = desk.rebuilds();
+    assert!(rt; builds == 1 || builds == 2 && !is_refused);
+    if is_refused {
+        Outcome::Refused
+    } else if builds == 2 {
+        Outcome::Unfollowed
+    } else {
+        Outcome::Followed
+    }
 }
 
 #[test]
 fn refused_growth_keeps_the_report_and_ring_again_after_a_drop(rt: HostRuntime) {
     let alloc = rt.alloc();
     let mut drought = drought(&rt, alloc);
-    let (mut once, mut twice) = (false, false);
+    let (mut refused, mut unfollowed) = (false, false);
     for step in 0..1_000 {
-        match built(&rt, alloc, &mut drought, 16 * step) {
-            Some(1) => once = true,
-            Some(2) => twice = true,
-            Some(builds) => panic!(rt; "built {builds} times"),
-            None => {
-                assert!(rt; once && twice);
+        match without_agent_4(&rt, alloc, &mut drought, 16 * step) {
+            Outcome::Refused => refused = true,
+            Outcome::Unfollowed => unfollowed = true,
+            Outcome::Followed => {
+                assert!(rt; refused && unfollowed);
                 return;
             }
         }

@@ -2,7 +2,8 @@
 use super::build::{agent, plan, since, stays};
 use super::told::are_told;
 use super::trials::Trial;
-use conflict_ledger::{ConflictLedger, Kind};
+use conflict_ledger::ConflictLedger;
+use mapf_rules::Kind;
 use plan_table::Plan;
 use std::alloc::Global;
 use std::process::Abort;
@@ -37,6 +38,17 @@ pub fn admitted(
     let ledger = ledger.admit(agent, track, &index);
     let ledger = trial.met(rt, ledger)?;
     Some(Both { index, ledger })
+}
+
+// The ledger takes in an agent that stays and whom nobody is near, which takes no memory.
+fn alone(rt: &impl Abort, alloc: Global, trial: &mut Trial, number: u32, plan: &Plan) -> Both {
+    let Both { index, ledger } = nobody(alloc);
+    let (agent, track) = (agent(rt, number), stays(plan));
+    let index = index.put(agent, track).expect(rt, "memory");
+    trial.leave_none(rt);
+    let ledger = ledger.admit(agent, track, &index).expect(rt, "no growth");
+    trial.relieve();
+    Both { index, ledger }
 }
 
 /// The ledger lets an agent go; none for want of memory.
@@ -107,7 +119,7 @@ fn exchanged(
     there: &Plan,
     back: &Plan,
 ) -> Option<()> {
-    let both = admitted(rt, trial, nobody(alloc), 0, there)?;
+    let both = alone(rt, alloc, trial, 0, there);
     let both = admitted(rt, trial, both, 1, back)?;
     assert!(rt; counts_a_swap(&both.ledger));
     assert!(rt; lists(rt, alloc, trial, &both.ledger, SWAP));
@@ -133,7 +145,7 @@ fn cut(
     plans: (&Plan, &Plan, &Plan),
 ) -> Option<()> {
     let (through, cut, rest) = plans;
-    let both = admitted(rt, trial, nobody(alloc), 0, through)?;
+    let both = alone(rt, alloc, trial, 0, through);
     let both = admitted(rt, trial, both, 1, rest)?;
     assert!(rt; lists(rt, alloc, trial, &both.ledger, THROUGH));
     let both = revised(rt, trial, both, through, cut)?;

@@ -1,8 +1,8 @@
 //! The plain programs, which go over all times and pairs.
 use super::told::{are_told, is_told};
 use super::trials::Trial;
-use conflict_ledger::conflicts;
 use desk_report::plain_report;
+use mapf_rules::conflicts;
 use plan_table::Mode;
 use scene_edits::Scene;
 use std::alloc::Global;

@@ -84,23 +84,40 @@ fn flipped(
     trial.met(rt, ledger)
 }
 
-// Agent 0 gets a goal elsewhere, and the cell (1,0) closes.
+// Agent 0 gets another plan; none for want of memory.
+fn replanned(
+    rt: &impl Abort,
+    trial: &mut Trial,
+    ledger: CostLedger,
+    plan: &Plan,
+    grid: &Grid,
+) -> Option<CostLedger> {
+    trial.leave(rt);
+    let ledger = ledger.set_plan(agent(rt, 0), plan, grid);
+    trial.met(rt, ledger)
+}
+
+// Agent 0 gets a goal elsewhere, the cell (1,0) closes, and it gets a plan that waits there once and
+// goes on to its goal (2,0).
 fn aimed_and_flipped(
     rt: &impl Abort,
     alloc: Global,
     trial: &mut Trial,
-    plan: &Plan,
+    plans: (&Plan, &Plan),
     grid: &mut Grid,
 ) -> Option<()> {
     let ledger = CostLedger::new(alloc);
-    let mut ledger = put(rt, trial, ledger, at(rt, 1, 0), plan, grid)?;
+    let mut ledger = put(rt, trial, ledger, at(rt, 1, 0), plans.0, grid)?;
     assert!(rt; is_at_its_goal(rt, &ledger));
     trial.leave_none(rt);
     ledger.aim(agent(rt, 0), at(rt, 2, 0));
     trial.relieve();
     assert!(rt; is_elsewhere(rt, &ledger));
-    let mut ledger = flipped(rt, trial, ledger, grid)?;
+    let ledger = flipped(rt, trial, ledger, grid)?;
     assert!(rt; visits(rt, trial, &ledger, &[1, 2, 3, 5], at(rt, 1, 0)));
+    let mut ledger = replanned(rt, trial, ledger, plans.1, grid)?;
+    assert!(rt; visits(rt, trial, &ledger, &[1, 2], at(rt, 1, 0)));
+    assert!(rt; ledger.sum() == Some(3) && ledger.makespan() == Some(3));
     trial.leave_none(rt);
     ledger.take(agent(rt, 0));
     trial.relieve();
@@ -110,8 +127,9 @@ fn aimed_and_flipped(
 
 pub fn aim_and_flip(rt: &impl Abort, alloc: Global, trial: &mut Trial) -> Option<()> {
     let mut grid = open_grid(alloc, 3, 1).expect(rt, "a map");
-    let plan = plan(rt, alloc, "path 0 0,0 1,0 1,0 1,0 2,0 1,0");
-    aimed_and_flipped(rt, alloc, trial, &plan, &mut grid)
+    let before = plan(rt, alloc, "path 0 0,0 1,0 1,0 1,0 2,0 1,0");
+    let after = plan(rt, alloc, "path 0 0,0 1,0 1,0 2,0");
+    aimed_and_flipped(rt, alloc, trial, (&before, &after), &mut grid)
 }
 
 // Agent 0 goes into its goal (2,0), which is closed.

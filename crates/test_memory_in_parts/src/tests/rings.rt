@@ -2,8 +2,8 @@
 use super::build::{agent, at, plan, stays};
 use super::ledgers::{Both, admitted, lists, nobody, retracted};
 use super::trials::Trial;
-use conflict_ledger::Kind;
 use grid_cells::Step;
+use mapf_rules::Kind;
 use plan_table::Plan;
 use std::alloc::Global;
 use std::process::Abort;

@@ -1,7 +1,7 @@
 //! Conflict entries by their text.
-use conflict_ledger::Conflict;
 use desk_report::{Report, Spout, write_report};
 use grid_cells::List;
+use mapf_rules::Conflict;
 use std::alloc::Global;
 use std::process::Abort;
 

@@ -71,8 +71,8 @@ fn left(rt: &impl Abort, kept: Kept, agent: Agent, row: &Row, mode: Mode) -> Kep
     }
 }
 
-// A time below which the positions on the two tracks are equal.
-fn since(old: Track, new: Track) -> u32
+/// A time below which the positions on the two tracks are equal.
+pub fn since(old: Track, new: Track) -> u32
     ensures { (t : ℕ) → t < result → position (route_of old.entry) t ≡ position (route_of new.entry) t }
 {
     match first_difference(old, new) {
@@ -102,14 +102,8 @@ fn revised(
     let ledger = ledger
         .revise(agent, was, is, since, &index)
         .expect(rt, "memory");
-    if old.plan.cells() == new.plan.cells() {
-        costs.aim(agent, new.goal);
-    } else {
-        costs.take(agent);
-        costs = costs
-            .put(agent, new.goal, &new.plan, grid)
-            .expect(rt, "memory");
-    }
+    costs.aim(agent, new.goal);
+    let costs = costs.set_plan(agent, &new.plan, grid).expect(rt, "memory");
     Kept {
         index,
         ledger,

@@ -1,9 +1,12 @@
 //! The index and both ledgers beside plain programs, which go over all agents, times and pairs.
 use super::changes::Kept;
 use super::fleets::Fleet;
-use conflict_ledger::{Conflict, Kind, conflicts, last, position};
-use cost_ledger::{CostLedger, blocked_visits, is_finished, makespan, settle_time, sum_of_costs};
+use cost_ledger::CostLedger;
 use grid_cells::{Agent, Cell, Step};
+use mapf_rules::{
+    Conflict, Kind, blocked_visits, conflicts, is_finished, last, makespan, position, settle_time,
+    sum_of_costs,
+};
 use plan_table::{Mode, Row};
 use std::alloc::Global;
 use std::process::Abort;

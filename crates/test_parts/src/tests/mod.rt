@@ -4,7 +4,6 @@ mod comparisons;
 mod edits;
 mod fields;
 mod fleets;
-mod followers;
 mod formers;
 mod maps;
 mod orders;

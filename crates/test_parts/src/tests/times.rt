@@ -1,5 +1,6 @@
 //! How long many changes take of 4,096 agents, each with a path of 65 cells, and what a record of the
 //! index takes. The times are printed.
+use super::changes::since;
 use conflict_ledger::ConflictLedger;
 use cost_ledger::CostLedger;
 use grid_cells::{Agent, Cell, Grid, Step};
@@ -80,9 +81,12 @@ fn turned_often(
 ) -> WhereIndex {
     let (mut old, mut new) = (stays(straight), stays(turned));
     for _ in 0..10_000u32 {
-        index = index.swap(Agent::LEAST, old, new, 0).expect(rt, "memory");
+        let since = since(old, new);
+        index = index
+            .swap(Agent::LEAST, old, new, since)
+            .expect(rt, "memory");
         ledger = ledger
-            .revise(Agent::LEAST, old, new, 60, &index)
+            .revise(Agent::LEAST, old, new, since, &index)
             .expect(rt, "memory");
         (old, new) = (new, old);
     }

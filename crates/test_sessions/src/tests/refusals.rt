@@ -1,7 +1,7 @@
 //! The lines of refusals that a session over a desk of its own doesn't meet: another planner, a base
 //! ahead, want of memory.
 use desk_core::{AskFault, Commit, Reading, Refusal, Thing};
-use desk_report::{Spout, Tap};
+use desk_report::{Kinds, Spout, Tap};
 use desk_session::{Bounds, Counter, serve};
 use grid_cells::{Agent, Cell, OutOfMemory, Planner};
 use std::process::Abort;
@@ -45,6 +45,10 @@ impl<'a, R: Abort> Counter for Refuser<'a, R> {
     }
 
     fn reading(&mut self) -> Result<Reading, OutOfMemory> {
+        Err(OutOfMemory)
+    }
+
+    fn solves(&mut self, _kinds: Kinds) -> Result<bool, OutOfMemory> {
         Err(OutOfMemory)
     }
 

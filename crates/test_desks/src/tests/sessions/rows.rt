@@ -25,7 +25,7 @@ pub const GATHERED_COMMIT_IN_A_SESSION: Session = Session {
         ("distance 0 0,0\n", "distance 2\n"),
         ("solves vertex edge\n", "solves yes\n"),
     ],
-    takes: &[1, 3, 4, 5, 8, 9, 10],
+    takes: &[1, 3, 4, 5, 8, 9],
 };
 
 pub const MEETS_A_RESTING_AGENT: Session = Session {

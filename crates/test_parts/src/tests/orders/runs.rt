@@ -1,8 +1,9 @@
 //! Runs of the examples in all orders of their agents.
 use super::examples::{EXAMPLES, Example, Path};
-use conflict_ledger::{ConflictLedger, Kind};
+use conflict_ledger::ConflictLedger;
 use desk_report::{Report, Spout, write_report};
 use grid_cells::{Agent, Cell, List};
+use mapf_rules::Kind;
 use plan_table::{Plan, Track};
 use std::alloc::Global;
 use std::process::Abort;
