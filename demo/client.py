@@ -2,30 +2,57 @@
 """Drives a live desk from a program: client.py DESK MAP, as client.py ./desk demo/corridor.map
 
 It sends a line, reads its answer, and goes on by what it read. Each line is answered by one line, but for blank lines
-and remarks, which have no answer, and `report`, whose answer ends with the line `end`.
+and remarks, which have no answer, and `report`, whose answer ends with the line `end`. The classes below need nothing
+else: copy them.
 """
 import subprocess
 import sys
 
 
-class Desk:
-    """A desk in a process of its own."""
+class Session:
+    """A planner's session: its lines go to the desk, and the answers come back."""
 
-    def __init__(self, *words):
-        self.process = subprocess.Popen(words, stdin=subprocess.PIPE, stdout=subprocess.PIPE, text=True, bufsize=1)
+    def __init__(self, lines, answers):
+        self.lines, self.answers = lines, answers
 
     def ask(self, line):
         """The answer to a line; of `report` all its lines."""
-        self.process.stdin.write(line + "\n")
-        answer = [self.process.stdout.readline().rstrip("\n")]
-        while line == "report" and answer[-1] not in ("end", "", "refused memory"):
-            answer.append(self.process.stdout.readline().rstrip("\n"))
+        self.lines.write(line + "\n")
+        self.lines.flush()
+        answer = [self.hear()]
+        while line == "report" and answer[-1] not in ("end", "refused memory"):
+            answer.append(self.hear())
         return answer if line == "report" else answer[0]
+
+    def hear(self):
+        line = self.answers.readline()
+        if not line.endswith("\n"):
+            raise EOFError("the desk has ended this session")
+        return line[:-1]
+
+    def close(self):
+        self.lines.close()
+        self.answers.close()
+
+
+class Desk(Session):
+    """A desk in a process of its own, for one planner."""
+
+    def __init__(self, *words):
+        self.process = subprocess.Popen(words, stdin=subprocess.PIPE, stdout=subprocess.PIPE, text=True)
+        super().__init__(self.process.stdin, self.process.stdout)
 
     def close(self):
         """Ends the session, and tells its status."""
-        self.process.stdin.close()
+        self.lines.close()
         return self.process.wait()
+
+
+class Seat(Session):
+    """A seat at a desk that other planners share: the pipes NAME.in and NAME.out of `host`."""
+
+    def __init__(self, name):
+        super().__init__(open(f"{name}.in", "w"), open(f"{name}.out"))
 
 
 def path_line(agent, cells):

@@ -1,5 +1,5 @@
 #!/usr/bin/env python3
-"""Writes the maps and scenarios of this folder, in the text forms of the MovingAI benchmarks.
+"""Writes the maps and scenarios of this folder, in the text forms of the MovingAI benchmarks, and paths in the warehouse.
 
 The same files go to crates/demo_maps/data, where the gate reads them. The corridor's map, session and
 answers are written by hand; they are copied to crates/mapf_desk, whose run in the gate they are.
@@ -7,13 +7,15 @@ answers are written by hand; they are copied to crates/mapf_desk, whose run in t
 Each run writes the same files: the generator below has a fixed seed and uses integers alone.
 A scenario's tasks have distinct starts and distinct goals, and each goal can be reached. The
 optimal length is that of a shortest path by steps up, left, right and down (breadth-first search),
-and a task's bucket is a fourth of it, rounded down.
+and a task's bucket is a fourth of it, rounded down. The paths of `warehouse.alone` are those of the first tasks,
+each a shortest one as if no other agent were there.
 """
 
 from collections import deque
 from pathlib import Path
 
 TASKS = 120
+ALONE = 60
 
 
 class Numbers:
@@ -85,6 +87,14 @@ def tasks(rows, numbers):
     return sorted(chosen, key=lambda task: task[2] // 4)
 
 
+def shortest(rows, start, goal):
+    found, cells = distances(rows, goal), [start]
+    while cells[-1] != goal:
+        x, y = cells[-1]
+        cells.append(min(((x, y - 1), (x - 1, y), (x + 1, y), (x, y + 1)), key=lambda it: found.get(it, len(found))))
+    return cells
+
+
 def write_lines(folders, name, lines):
     for folder in folders:
         (folder / name).write_text("".join(line + "\n" for line in lines))
@@ -98,10 +108,18 @@ def write(name, rows, numbers):
     lines += ["".join(row) for row in rows]
     write_lines(folders, f"{name}.map", lines)
     lines = ["version 1"]
-    for (x, y), (goal_x, goal_y), length in tasks(rows, numbers):
+    chosen = tasks(rows, numbers)
+    for (x, y), (goal_x, goal_y), length in chosen:
         fields = [length // 4, f"{name}.map", width, height, x, y, goal_x, goal_y, f"{length}.00000000"]
         lines.append("\t".join(str(field) for field in fields))
     write_lines(folders, f"{name}.scen", lines)
+    return chosen
+
+
+def write_alone(name, rows, chosen):
+    paths = [shortest(rows, start, goal) for start, goal, _ in chosen[:ALONE]]
+    lines = [f"path {agent} " + " ".join(f"{x},{y}" for x, y in cells) for agent, cells in enumerate(paths)]
+    write_lines([Path(__file__).resolve().parent], f"{name}.alone", lines)
 
 
 def copy_corridor():
@@ -115,7 +133,8 @@ def copy_corridor():
 def main():
     numbers = Numbers(2019)
     write("open", open_map(32, 32), numbers)
-    write("warehouse", warehouse(52, 35), numbers)
+    shelves = warehouse(52, 35)
+    write_alone("warehouse", shelves, write("warehouse", shelves, numbers))
     write("random", random_obstacles(48, 48, numbers), numbers)
     copy_corridor()
 
