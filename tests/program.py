@@ -5,33 +5,48 @@ program.py [PROGRAM [TEST..]]     the program that `rt ci` or `./desk --prove` b
 The tests stand in processes/, by topic. The last line is 'N passed, M failed'; status 1 where one failed.
 """
 import os
+import signal
 import subprocess
 import sys
 import tempfile
 
 sys.dont_write_bytecode = True
 
-from processes import answers, bounds, checks, demos, faults, fleets, kills, memory, saving, stepping, streams, telling, words
-from processes.running import TOP, Program, Wrong, put
+from processes import answers, bounds, checks, demos, drawing, faults, fleets, hosting, kills, memory, pictures, saving, stepping, streams, telling, words
+from processes.running import PATIENCE, TOP, Program, Wrong, put
 from processes.texts import FILES
 
-TOPICS = (faults, words, answers, telling, checks, fleets, saving, kills, stepping, streams, memory, bounds, demos)
+TOPICS = (faults, words, answers, telling, checks, fleets, pictures, drawing, hosting, saving, kills, stepping, streams, memory, bounds, demos)
+
+
+LONGEST = 10 * PATIENCE  # seconds that one test may take, of as many runs as it has
+
+
+def stopped(*_):
+    raise Wrong(f"not done after {LONGEST} seconds")
 
 
 def passes(name, test):
     """Whether the test passes; what it finds wrong is printed."""
+    signal.alarm(LONGEST)
     try:
         test()
         return True
     except (Wrong, OSError, subprocess.SubprocessError) as why:
         print(f"{name}: FAILED: {why}", flush=True)
         return False
+    finally:
+        signal.alarm(0)
 
 
 def main():
     Program.path = os.path.abspath(sys.argv[1] if len(sys.argv) > 1 else Program.path)
     wanted = sys.argv[2:]
     tests = [it for topic in TOPICS for it in topic.tests() if not wanted or it[0] in wanted]
+    if not os.access(Program.path, os.X_OK):
+        print(f"there is no program {Program.path}: ./desk --prove builds it\n0 passed, {len(tests)} failed")
+        return 1
+    signal.signal(signal.SIGALRM, stopped)
     with tempfile.TemporaryDirectory() as folder:
         os.chdir(folder)
         for name, text in FILES.items():

@@ -1,8 +1,10 @@
 """The recipes of demo/, run as they are written."""
+import os
+import signal
 import subprocess
 import sys
 
-from .running import PATIENCE, Program, TOP, bytes_of, is_answered, run, want
+from .running import PATIENCE, Program, TOP, Wrong, bytes_of, is_answered, run, want
 
 DEMO = f"{TOP}/demo"
 
@@ -37,6 +39,20 @@ def demo_client():
     want("the status", ran.returncode, 0)
 
 
+def demo_fleet():
+    """Four planners of demo/planners plan for one fleet at once, until nothing is in the way of anyone."""
+    words = [sys.executable, f"{DEMO}/planners/fleet.py", Program.path]
+    fleet = subprocess.Popen(words, stdout=subprocess.PIPE, stderr=subprocess.PIPE, text=True, start_new_session=True)
+    try:
+        said, complained = fleet.communicate(timeout=3 * PATIENCE)
+    except subprocess.TimeoutExpired:
+        os.killpg(fleet.pid, signal.SIGKILL)
+        raise Wrong("the fleet has no end") from None
+    lines = said.split("\n")
+    want("the end", (fleet.returncode, lines[0], lines[2], lines[-2]), (0, "solves yes", "conflicts 0", "audit same"))
+    want("how many planners tell", complained.count(" commits taken, "), 4)
+
+
 def demo_audit():
     """The report from scratch is the one of a session, byte for byte."""
     words = ["--map", f"{DEMO}/warehouse.map", "--scen", f"{DEMO}/warehouse.scen", "--agents", "100"]
@@ -46,5 +62,5 @@ def demo_audit():
 
 
 def tests():
-    for test in (demo_session, demo_drill, demo_client, demo_audit):
+    for test in (demo_session, demo_drill, demo_client, demo_fleet, demo_audit):
         yield test.__name__, test

@@ -1,0 +1,159 @@
+"""The word `draw`: solvers' paths and journals, agents that aren't shown, its size and time, its faults, the pictures of docs/."""
+import random
+import resource
+
+from .fleets import Fleet
+from .pictures import SVG, are_marked, drawn, group, reported, routes, title
+from .running import PATIENCE, TOP, Wrong, bytes_of, is_fault, put, remove, run, want
+
+DEMO = f"{TOP}/demo"
+SECONDS = 4 * PATIENCE / 60  # of four processors together
+MOST_BYTES = 5_000_000
+
+# Words, and the text of the fault, in the order in which faults are looked for.
+FAULTS = [
+    ("--map none --paths nothing --agents 1", "--agents needs --scen"),
+    ("--map m --agents 0", "--agents needs --scen"),
+    ("--map none --scen nothing --paths nothing", "can't read none"),
+    ("--map m --scen none --journal nothing", "can't read none"),
+    ("--map m --journal none", "can't read none"),
+    ("--map m --paths none", "can't read none"),
+    ("--map map_size --scen scen_size --journal journal_line", "map: bad size"),
+    ("--map m --scen scen_size --journal journal_line", "scen: size mismatch in line 2"),
+    ("--map m --scen s --agents 2 --journal journal_line", "scen: too few tasks, 1"),
+    ("--map m --scen s --agents 1 --journal journal_line", "journal: bad line 3"),
+    ("--map m --scen s --agents 1 --journal j --mode disappear", "journal: mode differs"),
+    ("--map m --scen s --agents 1 --journal journal_entry", "journal: entry 1 refused"),
+    ("--map m --journal j", "journal: entry 1 refused"),
+    ("--map map_size --paths bad_path", "paths: bad path in line 1"),
+    ("--map map_size --scen scen_size --paths p", "map: bad size"),
+    ("--map m --scen s --paths p_two", "scen: too few tasks, 1"),
+    ("--map m --scen s --agents 1 --paths p_two", "paths: agent 1 at time 0: unknown-agent"),
+]
+
+# Words of a run with a fault, and what --verbose adds.
+MORE = [
+    ("--map map_letter", "map: bad letter in row 0, column 1", "line 5: .x."),
+    ("--map m --journal journal_line", "journal: bad line 3", "line 3: entry 00 0 0 1"),
+    ("--map m --journal j", "journal: entry 1 refused", "faulty 0 unknown-agent: entry 0 0 0 1;path 0 0,0 1,0 2,0;"),
+    ("--map m --paths bad_path", "paths: bad path in line 1", "line 1: path 0 x"),
+    ("--map none", "can't read none", "No such file or directory (os error 2)"),
+]
+
+
+def faults():
+    put("bad_path", b"path 0 x\n")
+    for words, text in FAULTS:
+        is_fault(["draw", *words.split()], text)
+    for words, text, more in MORE:
+        is_fault(["draw", *words.split(), "-v"], f"{text}\n  {more}")
+    remove("bad_path")
+
+
+def full_device():
+    """Standard output takes nothing."""
+    with open("/dev/full", "w") as full:
+        status, _, complained = run(["draw", "--map", "m"], stdout=full)
+    want("what draw says", (status, complained), (2, "mapf_desk: write failed\n"))
+
+
+def forms_of_paths():
+    """One fleet in the three forms, with its tasks and without, is drawn as its journal is."""
+    chance = random.Random(3)
+    for _ in range(5):
+        fleet = Fleet(chance)
+        fleet.goals = [it[-1] for it in fleet.paths]
+        put("scene", fleet.map.encode()), put("tasks", fleet.scen().encode()), put("edits", fleet.journal("stay").encode())
+        right = run(["draw", "--map", "scene", "--journal", "edits"])
+        for text in (fleet.by_agent(), fleet.by_session()):
+            put("paths", text.encode())
+            want("the picture", run(["draw", "--map", "scene", "--paths", "paths"]), right)
+            want("the picture of tasks", run(["draw", "--map", "scene", "--paths", "paths", "--scen", "tasks"]), right)
+    put("paths", b"solution=\n0:(0,0),(2,0),\n1:(1,0),(2,0),\n2:(2,0),(2,0),\n")
+    put("edits", b"path 0 0,0 1,0 2,0\npath 1 2,0 2,0 2,0\n")
+    want("a picture by time", run(["draw", "--map", "m", "--paths", "paths"]), run(["draw", "--map", "m", "--paths", "edits"]))
+    remove("scene", "tasks", "edits", "paths")
+
+
+def agents_of_a_scenario():
+    """Without paths agents rest at their starts, as many as are asked for; none are where no number is."""
+    want("nobody", list(routes(drawn("--map", "m", "--scen", "s")[0])), [])
+    want("one", list(routes(drawn("--map", "m", "--scen", "s", "--agents", "1")[0])), [("agent 0", "M0 0", (0, 0), (2, 0), True)])
+
+
+def some_agents():
+    """Agents that aren't shown have no line and no body; the marks and the key are as before."""
+    words = ("--map", f"{DEMO}/warehouse.map", "--scen", f"{DEMO}/warehouse.scen", "--paths", f"{DEMO}/warehouse.alone")
+    for more in ((), ("--at", "7")):
+        whole, part = drawn(*words, *more)[0], drawn(*words, *more, "--agents-shown", "3-5")[0]
+        for name in ("routes", "agents"):
+            want(f"who is in {name}", [title(it) for it in group(part, name)], ["agent 3", "agent 4", "agent 5"])
+            want(f"who was in {name}", [title(it) for it in group(whole, name)], [f"agent {it}" for it in range(60)])
+        for name in ("visits", "entries", "rings", "key"):
+            want(name, [list(it.itertext()) for it in group(part, name)], [list(it.itertext()) for it in group(whole, name)])
+
+
+def walk(chance, side, steps):
+    x, y = chance.randrange(side), chance.randrange(side)
+    cells = [(x, y)]
+    for _ in range(steps):
+        across, down = chance.choice(((0, 0), (1, 0), (-1, 0), (0, 1), (0, -1)))
+        x, y = min(max(x + across, 0), side - 1), min(max(y + down, 0), side - 1) if across == 0 else y
+        cells.append((x, y))
+    return cells
+
+
+def processor_time():
+    """The seconds that the runs so far took of all processors together, so that other work beside them counts little."""
+    used = resource.getrusage(resource.RUSAGE_CHILDREN)
+    return used.ru_utime + used.ru_stime
+
+
+def is_small(closed, side):
+    """1,000 agents on random walks of 200 cells, on a map of that side, of which that share is closed: 5 MB at most, in 4 seconds of processor time, and the marks are the report."""
+    chance = random.Random(closed)
+    rows = "".join("".join("@" if chance.random() < closed else "." for _ in range(side)) + "\n" for _ in range(side))
+    paths = [walk(chance, side, 199) for _ in range(1000)]
+    put("scene", f"type octile\nheight {side}\nwidth {side}\nmap\n{rows}".encode())
+    lines = [f"agent {n} {it[0][0]},{it[0][1]} {it[-1][0]},{it[-1][1]}\npath {n} " + " ".join(f"{x},{y}" for x, y in it) + "\n" for n, it in enumerate(paths)]
+    put("edits", ("journal 2\nmode stay\nentry 0 0 0 2000\n" + "".join(lines) + "end 1\n").encode())
+    words = ("--map", "scene", "--journal", "edits")
+    began = processor_time()
+    picture, size = drawn(*words)
+    took = processor_time() - began
+    are_marked(picture, reported(*words), paths)
+    remove("scene", "edits")
+    if size > MOST_BYTES or took > SECONDS:
+        raise Wrong(f"{size} bytes in {took:.1f} s")
+
+
+def large_map():
+    """A map of 1,024 x 1,024, of which a fifth is closed: at most 5 MB."""
+    chance = random.Random(1024)
+    rows = "".join("".join("@" if chance.random() < 0.2 else "." for _ in range(1024)) + "\n" for _ in range(1024))
+    put("scene", f"type octile\nheight 1024\nwidth 1024\nmap\n{rows}".encode())
+    _, size = drawn("--map", "scene")
+    remove("scene")
+    want("whether it is small", size <= MOST_BYTES, True)
+
+
+# The pictures of docs/, and the words that draw them.
+PICTURES = {
+    "corridor-before": f"--map {DEMO}/corridor.map --scen {DEMO}/corridor.scen --paths {DEMO}/corridor.meeting",
+    "corridor-after": f"--map {DEMO}/corridor.map --scen {DEMO}/corridor.scen --paths {DEMO}/corridor.paths",
+    "warehouse": f"--map {DEMO}/warehouse.map --scen {DEMO}/warehouse.scen --paths {DEMO}/warehouse.alone",
+}
+
+
+def pictures_of_docs():
+    """Each is what the program draws now."""
+    for name, words in PICTURES.items():
+        want(name, run(["draw", *words.split()])[1], bytes_of(f"{TOP}/docs/{name}.svg").decode())
+
+
+def tests():
+    for test in (faults, full_device, forms_of_paths, agents_of_a_scenario, some_agents, large_map, pictures_of_docs):
+        yield f"draw_{test.__name__}", test
+    # With a fifth of the cells closed there are 39,511 blocked visits, and on the smallest map 29,382 entries, each with its mark.
+    for closed, side in ((0, 256), (0.1, 256), (0.2, 256), (0, 128), (0, 100)):
+        yield f"draw_1000_agents_on_{side}_where_{closed:.0%}_is_closed", lambda closed=closed, side=side: is_small(closed, side)
