@@ -1,6 +1,6 @@
 //! The report of a ring with a second mover, and how often a desk builds its indexes for it.
 use super::build::{commit, drought, leave, planner};
-use desk_core::{Desk, EditFault, Limit, Refusal};
+use desk_core::{Commit, Desk, EditFault, Limit, Refusal};
 use desk_report::{Spout, write_report};
 use std::alloc::Global;
 use std::process::Abort;
@@ -54,31 +54,46 @@ enum Outcome {
     Followed,
 }
 
-// A desk that was read, that commit, and a reading. A refused commit leaves the report and the
-// indexes as they were; an accepted one that the indexes couldn't follow has them built once more.
+// Whether the commit was refused; the report is then as it was, from the same indexes, and the commit
+// is accepted with ample memory.
+fn is_refused(
+    rt: &impl Abort,
+    alloc: Global,
+    desk: &mut Desk,
+    answer: Result<u64, (Refusal, Commit)>,
+) -> bool {
+    match answer {
+        Ok(_) => false,
+        Err((why, back)) => {
+            assert!(rt; why == Refusal::OutOfMemory);
+            reads(rt, alloc, desk, TEXT);
+            assert!(rt; desk.rebuilds() == 1);
+            assert!(rt; desk.commit(back).is_ok());
+            true
+        }
+    }
+}
+
+// The indexes that couldn't follow an accepted commit are built once more; others never.
+fn came_of(rt: &impl Abort, is_refused: bool, builds: u64) -> Outcome {
+    match (is_refused, builds) {
+        (true, 1) => Outcome::Refused,
+        (false, 2) => Outcome::Unfollowed,
+        (false, 1) => Outcome::Followed,
+        _ => panic!(rt; "built too often"),
+    }
+}
+
+// What came of the commit that drops agent 4, at a desk that was read, and of a reading after it.
 fn without_agent_4(rt: &impl Abort, alloc: Global, drought: &mut Drought, bytes: usize) -> Outcome {
     let mut desk = read_desk(rt, alloc);
     let commit = commit(rt, alloc, planner(rt, 0), 0, &["drop 4"]);
     leave(rt, drought, Some(bytes));
     let answer = desk.commit(commit);
     drought.relieve();
-    let is_refused = answer.is_err();
-    if let Err((why, back)) = answer {
-        assert!(rt; why == Refusal::OutOfMemory);
-        reads(rt, alloc, &mut desk, TEXT);
-        assert!(rt; desk.rebuilds() == 1);
-        assert!(rt; desk.commit(back).is_ok());
-    }
+    let is_refused = is_refused(rt, alloc, &mut desk, answer);
     reads(rt, alloc, &mut desk, AFTER);
-    let builds = desk.rebuilds();
-    assert!(rt; builds == 1 || builds == 2 && !is_refused);
-    if is_refused {
-        Outcome::Refused
-    } else if builds == 2 {
-        Outcome::Unfollowed
-    } else {
-        Outcome::Followed
-    }
+    came_of(rt, is_refused, desk.rebuilds())
 }
 
 #[test]
