@@ -217,7 +217,11 @@ fn gather_ahead(
     if here == next {
         return Ok(());
     }
-    let ahead = sight.index.standing_at(Step::new(time), next)?;
+    let now = Step::new(time);
+    if !sight.index.is_shared(next, now, now, sight.agent) {
+        return Ok(());
+    }
+    let ahead = sight.index.standing_at(now, next)?;
     offer_all(
         sight,
         entries,
