@@ -3,7 +3,7 @@ use super::build::{desk, drought, leave};
 use super::calls::{Told, call, told_of_answer};
 use super::rows::Row;
 use super::runs::{Answers, are_refused, are_wanted};
-use desk_core::{Answer, Call, drive};
+use desk_core::{Answer, Call, Desk, drive};
 use std::alloc::Global;
 use std::process::Abort;
 use test_droughts::Drought;
@@ -44,8 +44,18 @@ fn are_back(rt: &impl Abort, alloc: Global, row: &Row, back: &[Call]) {
     }
 }
 
-// The answers to the row's calls with so many bytes. None where there is no room for the answers;
-// then the calls come back, the desk is as it was, and they are answered with ample memory.
+// The calls that came back are those of the row, the desk is as it was, and they are answered with
+// ample memory.
+fn drive_again(rt: &impl Abort, alloc: Global, desk: &mut Desk, row: &Row, back: Vec<Call>) {
+    are_back(rt, alloc, row, &back);
+    assert!(rt; desk.version() == 0 && desk.journal().is_empty());
+    match drive(alloc, desk, back) {
+        Ok(answers) => are_wanted(rt, row, &told_of_all(rt, answers.items())),
+        Err(_) => panic!(rt; "there is room"),
+    }
+}
+
+// The answers to the row's calls with so many bytes. None where there is no room for the answers.
 fn driven(
     rt: &impl Abort,
     alloc: Global,
@@ -61,12 +71,7 @@ fn driven(
     match driven {
         Ok(answers) => Some(told_of_all(rt, answers.items())),
         Err((_, back)) => {
-            are_back(rt, alloc, row, &back);
-            assert!(rt; desk.version() == 0 && desk.journal().is_empty());
-            let Ok(answers) = drive(alloc, &mut desk, back) else {
-                panic!(rt; "there is room");
-            };
-            are_wanted(rt, row, &told_of_all(rt, answers.items()));
+            drive_again(rt, alloc, &mut desk, row, back);
             None
         }
     }

@@ -1,9 +1,14 @@
 //! One thread, and one pass or several.
+ghost use Rattle.desk_shared.specs.Passes.{Owns};
+
 use super::super::build::{agent, cell, commit, desk};
 use super::super::scenes::is_scene;
 use super::build::{share, split};
 use desk_core::{AskFault, Refusal};
-use desk_shared::{PassLost, ShareFault, SharedDesk, SplitFault};
+use desk_shared::{Pass, PassLost, ShareFault, SharedDesk, SplitFault};
+use std::alloc::Global;
+use std::process::Abort;
+use std::sync::Wait;
 
 const SCENE: &[&str] = &["agent 3 0,0 2,0"];
 
@@ -37,24 +42,31 @@ fn refusals_through_a_pass(rt: HostRuntime) {
     assert!(rt; unknown == Err(AskFault::UnknownAgent) && shared.front(&mut pass) == 0);
 }
 
+// One commit through the pass, a reading after it, and a distance.
+fn commits_and_asks<R: Wait + Abort>(rt: &R, alloc: Global, shared: &SharedDesk, pass: &mut Pass)
+    requires { Owns shared.now pass.old }
+    ensures { Owns shared.now pass.new }
+{
+    let path = commit(rt, alloc, pass.planner(), 0, &["path 3 0,0 1,0"]);
+    assert!(rt; matches!(shared.commit(rt, pass, path), Ok(1)));
+    let reading = shared.reading(rt, pass).expect(rt, "memory");
+    let line = reading.report.lines.items().first().expect(rt, "a line");
+    assert!(rt; reading.version == 1 && line.settle == 1);
+    assert!(rt; shared.front(pass) == 1);
+    let (three, corner) = (agent(rt, 3), cell(rt, 0, 0));
+    assert!(rt; shared.distance(rt, pass, three, corner) == Ok(Some(2)));
+}
+
 // The wrong body close_always_lost gives no desk back. The wrong body one_lock_round_everything
 // can't be written: `front` has no bound by which it could wait.
 #[test]
 fn shared_by_one_and_shared_distance(rt: HostRuntime) {
     let alloc = rt.alloc();
     let (shared, mut pass) = share(&rt, alloc, desk(&rt, alloc, SCENE, 10), 1);
-    let planner = pass.planner();
-    assert!(rt; shared.owns(&pass) && planner.number() == 0);
-    let path = commit(&rt, alloc, planner, 0, &["path 3 0,0 1,0"]);
-    assert!(rt; matches!(shared.commit(&rt, &mut pass, path), Ok(1)));
-    let reading = shared.reading(&rt, &mut pass).expect(&rt, "memory");
-    let line = reading.report.lines.items().first().expect(&rt, "a line");
-    assert!(rt; reading.version == 1 && line.settle == 1);
-    assert!(rt; shared.front(&mut pass) == 1);
+    assert!(rt; shared.owns(&pass) && pass.planner().number() == 0);
+    commits_and_asks(&rt, alloc, &shared, &mut pass);
     let full = SplitFault::PassesFull { planners: 1 };
     assert!(rt; shared.split(&mut pass).err() == Some(full));
-    let (three, corner) = (agent(&rt, 3), cell(&rt, 0, 0));
-    assert!(rt; shared.distance(&rt, &mut pass, three, corner) == Ok(Some(2)));
     let closed = shared.close(pass).expect(&rt, "the desk");
     assert!(rt; closed.journal().len() == 1);
 }
