@@ -47,6 +47,8 @@ def main():
         print(f"there is no program {Program.path}: ./desk --prove builds it\n0 passed, {len(tests)} failed")
         return 1
     signal.signal(signal.SIGALRM, stopped)
+    # A shell that starts this in the background has its programs ignore SIGINT.
+    signal.signal(signal.SIGINT, signal.default_int_handler)
     with tempfile.TemporaryDirectory() as folder:
         os.chdir(folder)
         for name, text in FILES.items():
