@@ -16,9 +16,10 @@ use Rattle.where_index.specs.declared.moves.Move.{Move}
 use Rattle.where_index.specs.declared.hops.Place.{Place}
 use Rattle.where_index.specs.declared.passings.Passing.{Passing}
 use Rattle.where_index.specs.declared.ends.End.{End}
+use Rattle.where_index.specs.declared.occupants.Occupants.{Occupants}
 use Rattle.where_index.specs.Hops.{movers_in}
 use Rattle.where_index.specs.Ends.{IsEndOfRoute, IsEndOf}
-use Rattle.where_index.specs.Asked.{MovesFrom, Passes, IsShared}
+use Rattle.where_index.specs.Asked.{MovesFrom, Passes, AreOccupants, IsShared}
 use Rattle.where_index.specs.Index.{all_of}
 
 guarded : (b : Bool) (o : Option Point) (cell : Point) → cond b o None ≡ Some cell → (b ≡ true) × (o ≡ Some cell)
@@ -116,6 +117,18 @@ shared_exact stands tails fleet cell from to agent order has_s has_r = (
     | inr w ↦ inr (spot cell w.0 is.other, (has_r (spot cell w.0 is.other)).1 w.2, refl, omega arith, omega (arith, w.1, is.not_after), is.apart)
   ]),
 )
+
+pub occupants_exact : (stands tails : List Spot) (fleet : Fleet) (cell : Point) (from to : ℕ) → HasSpots stands (all_of stand_at fleet) → HasSpots tails (all_of tail_at fleet) → (found : Occupants) → AreBetween stands cell from to found.stands → AreBetween tails cell 0 to found.tails → AreOccupants fleet cell from to found
+occupants_exact stands tails fleet cell from to has_s has_r found b1 b2 = record {
+  standing = λ s within. let inside = (b1 s).0 within in
+      record { place = inside.1; not_before = inside.2; not_after = inside.3; there = stands_is s.time cell (fleet s.agent) (same_record (all_of stand_at fleet) s s.agent s.time cell refl refl inside.1 ((has_s s).0 inside.0)) };
+  resting = λ s within. let inside = (b2 s).0 within in
+      record { place = inside.1; not_after = inside.3; there = λ t h. rests_is t cell s.time h (fleet s.agent) (same_record (all_of tail_at fleet) s s.agent s.time cell refl refl inside.1 ((has_r s).0 inside.0)) };
+  all = λ a t h k at. elim (either_is t cell (fleet a) at) [
+    | inl stood ↦ inl ((b1 (spot cell t a)).1 ((has_s (spot cell t a)).1 stood, refl, h, k))
+    | inr w ↦ inr (spot cell w.0 a, (b2 (spot cell w.0 a)).1 ((has_r (spot cell w.0 a)).1 w.2, refl, omega arith, omega (arith, w.1, k)), refl, w.1)
+  ];
+}
 
 -- ---- a record Stand or Tail is no later than the last index
 stand_early : (o : Option Route) (t : ℕ) (cell : Point) → option_and_then (λ r. stand_at r t) o ≡ Some cell → t ≤ unwrap_or (option_map (λ (r : Route). last_index r.path) o) 0

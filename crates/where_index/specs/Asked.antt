@@ -1,13 +1,16 @@
 -- What an index is asked about the fleet that it stands for (Stern et al. 2019 for positions and moves; the questions are
 -- this project's choice).
-use Rattle.std.specs.Prelude.{◌≡◌, ◌≢◌, ◌↔◌, ℕ, ◌+◌, ◌<◌, ◌≤◌, Some, IsSome, IsTrue, List, [], ◌∷◌, length, Contains, AllPairs}
+use Rattle.std.specs.Prelude.{◌≡◌, ◌≢◌, ◌⊎◌, ◌↔◌, ℕ, ◌+◌, ◌<◌, ◌≤◌, Some, IsSome, IsTrue, List, [], ◌∷◌, length, Contains, AllPairs}
 use Rattle.grid_cells.specs.Cell.{Point}
 use Rattle.plan_table.specs.Order.{ListsAll}
 use Rattle.plan_table.specs.Route.{Fleet, position_of, last_of}
 use Rattle.where_index.specs.declared.moves.Move.{Move}
 use Rattle.where_index.specs.declared.passings.Passing.{Passing}
+use Rattle.where_index.specs.declared.spots.Spot.{Spot}
+use Rattle.where_index.specs.declared.occupants.Occupants.{Occupants}
 use Rattle.where_index.specs.declared.ways.Way.{Way}
 use Rattle.where_index.specs.Flows.{leads}
+use Rattle.where_index.specs.Spot.{spot}
 
 -- the agents whose position at that time is the cell, ascending
 abbrev pub AreStandingAt : Fleet → ℕ → Point → List ℕ → Type 0
@@ -41,6 +44,29 @@ pub record Passes (fleet : Fleet) (cell : Point) (from : ℕ) (passing : Passing
 -- those who pass through the cell from that time on, by time, then agent
 abbrev pub ArePassing : Fleet → Point → ℕ → List Passing → Type 0
 ArePassing fleet cell from passings = ListsAll (λ passing. passing.time ∷ passing.agent ∷ []) (Passes fleet cell from) passings
+
+-- the agent is in the cell at the time, which is one from one to another
+pub record StandsIn (fleet : Fleet) (cell : Point) (from to : ℕ) (s : Spot) : Type 0 where
+  pub place : s.cell ≡ cell
+  pub not_before : from ≤ s.time
+  pub not_after : s.time ≤ to
+  pub there : position_of fleet s.agent s.time ≡ Some cell
+
+-- the agent is in the cell from that time on, which is no later than another
+pub record RestsIn (fleet : Fleet) (cell : Point) (to : ℕ) (s : Spot) : Type 0 where
+  pub place : s.cell ≡ cell
+  pub not_after : s.time ≤ to
+  pub there : (time : ℕ) → s.time ≤ time → position_of fleet s.agent time ≡ Some cell
+
+-- an agent that is in the cell at a time stands there, or has come to rest there
+abbrev pub IsOccupant : Point → ℕ → ℕ → List Spot → List Spot → Type 0
+IsOccupant cell time agent stands tails = Contains stands (spot cell time agent) ⊎ ((s : Spot) × Contains tails s × (s.agent ≡ agent) × (s.time ≤ time))
+
+-- those who are in the cell at times from one to another
+pub record AreOccupants (fleet : Fleet) (cell : Point) (from to : ℕ) (found : Occupants) : Type 0 where
+  pub standing : (s : Spot) → Contains found.stands s → StandsIn fleet cell from to s
+  pub resting : (s : Spot) → Contains found.tails s → RestsIn fleet cell to s
+  pub all : (agent time : ℕ) → from ≤ time → time ≤ to → position_of fleet agent time ≡ Some cell → IsOccupant cell time agent found.stands found.tails
 
 -- another agent is in the cell at some time from one to another
 pub record IsShared (fleet : Fleet) (cell : Point) (from to agent : ℕ) : Type 0 where

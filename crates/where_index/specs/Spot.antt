@@ -18,13 +18,13 @@ Gains old new added = (s : Spot) → Contains new s ↔ (Contains old s ⊎ (s �
 abbrev pub Loses : List Spot → List Spot → Spot → Type 0
 Loses old new lost = (s : Spot) → Contains new s ↔ (Contains old s × (s ≡ lost → ⊥))
 
+-- one of the spots, at the cell and from one time to another
+abbrev pub IsBetween : List Spot → Point → ℕ → ℕ → Spot → Type 0
+IsBetween all cell from to s = Contains all s × (s.cell ≡ cell) × (from ≤ s.time) × (s.time ≤ to)
+
 -- the spots at the cell from one time to another
 abbrev pub AreBetween : List Spot → Point → ℕ → ℕ → List Spot → Type 0
-AreBetween all cell from to found = (s : Spot) → Contains found s ↔ (Contains all s × (s.cell ≡ cell) × (from ≤ s.time) × (s.time ≤ to))
-
--- one of the spots is of another agent
-abbrev pub HasOtherIn : List Spot → ℕ → Type 0
-HasOtherIn spots agent = (s : Spot) × Contains spots s × (s.agent ≢ agent)
+AreBetween all cell from to found = (s : Spot) → Contains found s ↔ IsBetween all cell from to s
 
 -- one of the spots at the cell from one time to another is of another agent
 abbrev pub HasOther : List Spot → Point → ℕ → ℕ → ℕ → Type 0

@@ -10,10 +10,15 @@ use crate::spots::Spot;
 use grid_cells::{Agent, List, OutOfMemory};
 use std::alloc::Global;
 use std::collections::BTreeSet;
+use std::collections::btree_set::Range;
 
 /// The agents of the spots in either list, ascending.
-pub fn agents_of(alloc: Global, stands: &[Spot], tails: &[Spot]) -> Result<List<Agent>, OutOfMemory>
-    ensures { IfOk result (ListsAll (λ a. a ∷ []) (λ a. HasAgent stands.now a ⊎ HasAgent tails.now a)) }
+pub fn agents_of(
+    alloc: Global,
+    stands: Range<'_, Spot>,
+    tails: Range<'_, Spot>,
+) -> Result<List<Agent>, OutOfMemory>
+    ensures { IfOk result (ListsAll (λ a. a ∷ []) (λ a. HasAgent stands.entry a ⊎ HasAgent tails.entry a)) }
 {
     let mut found = BTreeSet::new(alloc);
     gather_agents(&mut found, stands)?;
@@ -24,10 +29,10 @@ pub fn agents_of(alloc: Global, stands: &[Spot], tails: &[Spot]) -> Result<List<
 /// Whom the spots in either list show at which times, by time, then agent.
 pub fn passings_of(
     alloc: Global,
-    stands: &[Spot],
-    tails: &[Spot],
+    stands: Range<'_, Spot>,
+    tails: Range<'_, Spot>,
 ) -> Result<List<Passing>, OutOfMemory>
-    ensures { IfOk result (ListsAll (λ p. p.time ∷ p.agent ∷ []) (λ p. HasPassing stands.now p ⊎ HasPassing tails.now p)) }
+    ensures { IfOk result (ListsAll (λ p. p.time ∷ p.agent ∷ []) (λ p. HasPassing stands.entry p ⊎ HasPassing tails.entry p)) }
 {
     let mut found = BTreeSet::new(alloc);
     gather_passings(&mut found, stands)?;
@@ -36,8 +41,8 @@ pub fn passings_of(
 }
 
 // Puts the spots' agents into the set.
-fn gather_agents(found: &mut BTreeSet<Agent>, spots: &[Spot]) -> Result<(), OutOfMemory>
-    ensures { OnOk result ((a : ℕ) → Contains found.new.keys a ↔ (Contains found.old.keys a ⊎ HasAgent spots.now a)) }
+fn gather_agents(found: &mut BTreeSet<Agent>, spots: Range<'_, Spot>) -> Result<(), OutOfMemory>
+    ensures { OnOk result ((a : ℕ) → Contains found.new.keys a ↔ (Contains found.old.keys a ⊎ HasAgent spots.entry a)) }
 {
     for spot in spots {
         found.insert(spot.agent)?;
@@ -46,8 +51,8 @@ fn gather_agents(found: &mut BTreeSet<Agent>, spots: &[Spot]) -> Result<(), OutO
 }
 
 // Puts the spots' times and agents into the set.
-fn gather_passings(found: &mut BTreeSet<Passing>, spots: &[Spot]) -> Result<(), OutOfMemory>
-    ensures { OnOk result ((p : Passing) → Contains found.new.keys p ↔ (Contains found.old.keys p ⊎ HasPassing spots.now p)) }
+fn gather_passings(found: &mut BTreeSet<Passing>, spots: Range<'_, Spot>) -> Result<(), OutOfMemory>
+    ensures { OnOk result ((p : Passing) → Contains found.new.keys p ↔ (Contains found.old.keys p ⊎ HasPassing spots.entry p)) }
 {
     for spot in spots {
         let (time, agent) = (spot.time, spot.agent);

@@ -5,11 +5,12 @@ ghost use Rattle.plan_table.specs.Route.{Fleet, position, position_of, last_of, 
 ghost use Rattle.where_index.specs.Records.{nothing, records_apart};
 ghost use Rattle.where_index.specs.Ends.{EndsAt};
 ghost use Rattle.where_index.specs.Index.{StandsFor, end_in, with_route};
-ghost use Rattle.where_index.specs.Asked.{AreStandingAt, AreMovers, Goes, ArePassing, IsShared, CountsAgents};
+ghost use Rattle.where_index.specs.Asked.{AreStandingAt, AreMovers, Goes, ArePassing, AreOccupants, IsShared, CountsAgents};
 
 use crate::ends::End;
 use crate::gathering::{agents_of, passings_of};
 use crate::moves::Move;
+use crate::occupants::Occupants;
 use crate::passings::Passing;
 use crate::records::Records;
 use crate::trails::Trail;
@@ -134,9 +135,22 @@ impl WhereIndex {
         ensures { IfOk result (λ agents. (fleet : Fleet) → StandsFor self.now fleet → AreStandingAt fleet step cell agents) }
     {
         let time = step.number();
-        let stands = self.records.stands.between(self.alloc, cell, time, time)?;
-        let tails = self.records.tails.between(self.alloc, cell, 0, time)?;
-        agents_of(self.alloc, &stands, &tails)
+        let stands = self.records.stands.between(cell, time, time);
+        let tails = self.records.tails.between(cell, 0, time);
+        agents_of(self.alloc, stands, tails)
+    }
+
+    /// Who is in the cell at some step from one to another, both of them included. It takes no memory.
+    pub fn occupants(&self, cell: Cell, from: Step, to: Step) -> Occupants<'_>
+        requires { from ≤ to }
+        ensures { (fleet : Fleet) → StandsFor self.now fleet → AreOccupants fleet cell from to result }
+    {
+        let first = from.number();
+        let last = to.number();
+        Occupants {
+            stands: self.records.stands.between(cell, first, last),
+            tails: self.records.tails.between(cell, 0, last),
+        }
     }
 
     /// Whether another agent is in the cell at some step from one to another, both of them included.
@@ -174,9 +188,9 @@ impl WhereIndex {
     {
         let time = from.number();
         let to = self.horizon.max(time);
-        let stands = self.records.stands.between(self.alloc, cell, time, to)?;
-        let tails = self.records.tails.between(self.alloc, cell, time, to)?;
-        passings_of(self.alloc, &stands, &tails)
+        let stands = self.records.stands.between(cell, time, to);
+        let tails = self.records.tails.between(cell, time, to);
+        passings_of(self.alloc, stands, tails)
     }
 
     /// Whether the agent's position at the step is the cell.

@@ -1,13 +1,11 @@
 ghost use Rattle.std.specs.Prelude.{◌≡◌, ◌↔◌, ℕ, ◌≤◌, [], OnOk, IfOk, Contains, IsTrue};
-ghost use Rattle.std.specs.List.{filter};
-ghost use Rattle.std.specs.BTreeMap.Range.{range_contains, IsLeBy};
-ghost use Rattle.std.specs.declared.ops.Bound.TheVariants.{Included};
 ghost use Rattle.where_index.specs.Agents.{HaveAgents};
-ghost use Rattle.where_index.specs.Spot.{spot, spot_cmp, Gains, Loses, AreBetween, HasOther, HasOtherIn};
+ghost use Rattle.where_index.specs.Spot.{spot, Gains, Loses, AreBetween, HasOther};
 
 use grid_cells::{Agent, Cell, OutOfMemory};
 use std::alloc::Global;
 use std::collections::BTreeSet;
+use std::collections::btree_set::Range;
 use std::marker::Model;
 
 /// An agent at a cell at a time. Spots compare by cell, then time, then agent.
@@ -74,15 +72,9 @@ impl Spots {
     }
 
     /// The spots at the cell from one time to another, in order.
-    pub fn between(
-        &self,
-        alloc: Global,
-        cell: Cell,
-        from: u32,
-        to: u32,
-    ) -> Result<Vec<Spot>, OutOfMemory>
+    pub fn between(&self, cell: Cell, from: u32, to: u32) -> Range<'_, Spot>
         requires { from ≤ to }
-        ensures { IfOk result (λ found. AreBetween self.now cell from to found.items) }
+        ensures { AreBetween self.now cell from to result }
     {
         let _spots = &self.spots;
         let low = Spot {
@@ -95,7 +87,7 @@ impl Spots {
             time: to,
             agent: Agent::GREATEST,
         };
-        self.listed(alloc, low, high)
+        self.spots.range(low..=high)
     }
 
     /// Whether one of the spots at the cell from one time to another is another agent's.
@@ -103,40 +95,11 @@ impl Spots {
         requires { from ≤ to }
         ensures { IsTrue result ↔ HasOther self.now cell from to agent }
     {
-        let _spots = &self.spots;
-        let low = Spot {
-            cell,
-            time: from,
-            agent: Agent::LEAST,
-        };
-        let high = Spot {
-            cell,
-            time: to,
-            agent: Agent::GREATEST,
-        };
-        self.other_in(low, high, agent)
-    }
-
-    fn other_in(&self, low: Spot, high: Spot, agent: Agent) -> bool
-        requires { IsLeBy spot_cmp low high }
-        ensures { IsTrue result ↔ HasOtherIn (filter (range_contains spot_cmp (Included low) (Included high)) self.now) agent }
-    {
-        for spot in self.spots.range(low..=high) {
+        for spot in self.between(cell, from, to) {
             if spot.agent != agent {
                 return true;
             }
         }
         false
-    }
-
-    fn listed(&self, alloc: Global, low: Spot, high: Spot) -> Result<Vec<Spot>, OutOfMemory>
-        requires { IsLeBy spot_cmp low high }
-        ensures { IfOk result (λ v. v.items ≡ filter (range_contains spot_cmp (Included low) (Included high)) self.now) }
-    {
-        let mut found = Vec::new(alloc);
-        for spot in self.spots.range(low..=high) {
-            found.push(*spot)?;
-        }
-        Ok(found)
     }
 }

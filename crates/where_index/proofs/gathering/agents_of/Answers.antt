@@ -8,9 +8,9 @@ use Rattle.where_index.proofs.gathering.agents_of.Goals as goal
 
 pub returns : goal.returns
 returns c = IfOk-weaker c.listed_agents.result _ _
-    (λ agents is. subst (ListsAll (λ a. a ∷ []) (λ a. HasAgent c.args.stands.now a ⊎ HasAgent c.args.tails.now a)) (sym is)
+    (λ agents is. subst (ListsAll (λ a. a ∷ []) (λ a. HasAgent c.args.stands a ⊎ HasAgent c.args.tails a)) (sym is)
     (record {
       ascending = agents_ascend _ c.listed_agents.ensures.ascending;
-      exact = gathers_two (λ (s : Spot). s.agent) c.new-found.result.keys _ _ c.args.stands.now c.args.tails.now c.new-found.ensures.empty c.in_ok-gather_agents.ensures c.in_ok-gather_agents-2.ensures;
+      exact = gathers_two (λ (s : Spot). s.agent) c.new-found.result.keys _ _ c.args.stands c.args.tails c.new-found.ensures.empty c.in_ok-gather_agents.ensures c.in_ok-gather_agents-2.ensures;
     }))
     c.listed_agents.ensures.is

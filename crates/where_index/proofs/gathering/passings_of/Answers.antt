@@ -8,9 +8,9 @@ use Rattle.where_index.proofs.gathering.passings_of.Goals as goal
 
 pub returns : goal.returns
 returns c = IfOk-weaker c.listed_passings.result _ _
-    (λ passings is. subst (ListsAll (λ (p : Passing). p.time ∷ p.agent ∷ []) (λ p. HasPassing c.args.stands.now p ⊎ HasPassing c.args.tails.now p)) (sym is)
+    (λ passings is. subst (ListsAll (λ (p : Passing). p.time ∷ p.agent ∷ []) (λ p. HasPassing c.args.stands p ⊎ HasPassing c.args.tails p)) (sym is)
     (record {
       ascending = passings_ascend _ c.listed_passings.ensures.ascending;
-      exact = gathers_two passing_of c.new-found.result.keys _ _ c.args.stands.now c.args.tails.now c.new-found.ensures.empty c.in_ok-gather_passings.ensures c.in_ok-gather_passings-2.ensures;
+      exact = gathers_two passing_of c.new-found.result.keys _ _ c.args.stands c.args.tails c.new-found.ensures.empty c.in_ok-gather_passings.ensures c.in_ok-gather_passings-2.ensures;
     }))
     c.listed_passings.ensures.is

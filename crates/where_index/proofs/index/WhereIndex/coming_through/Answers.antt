@@ -5,10 +5,9 @@ use Rattle.where_index.proofs.index.WhereIndex.coming_through.Goals as goal
 
 pub returns : goal.returns
 returns c =
-    let b1 = rw c.number-time.ensures at c.in_ok-stands.ensures in
-    let b2 = rw c.number-time.ensures at c.in_ok-tails.ensures in
-    let g = rw (c.deref.ensures.value, c.deref-2.ensures.value) at c.passings_of.ensures in
+    let b1 = rw c.number-time.ensures at c.between-stands.ensures in
+    let b2 = rw c.number-time.ensures at c.between-tails.ensures in
     IfOk-weaker c.passings_of.result _ _ (λ passings is fleet has.
     let records = rw (← c.self.view_is) at has in
-    let e = passing_exact c.self.inside.records.stands c.self.inside.records.tails c.in_ok-stands.stands.items c.in_ok-tails.tails.items fleet c.args.cell c.args.from c.max-to.result records.stands records.tails (λ a. omega (arith, c.max-to.ensures, records.horizon a)) b1 b2 in
-    record { ascending = is.ascending; exact = λ p. ((λ h. (e p).0 ((is.exact p).0 h)), (λ h. (is.exact p).1 ((e p).1 h))) }) g
+    let e = passing_exact c.self.inside.records.stands c.self.inside.records.tails c.between-stands.result c.between-tails.result fleet c.args.cell c.args.from c.max-to.result records.stands records.tails (λ a. omega (arith, c.max-to.ensures, records.horizon a)) b1 b2 in
+    record { ascending = is.ascending; exact = λ p. ((λ h. (e p).0 ((is.exact p).0 h)), (λ h. (is.exact p).1 ((e p).1 h))) }) c.passings_of.ensures

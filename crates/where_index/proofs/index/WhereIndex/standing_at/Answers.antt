@@ -4,10 +4,9 @@ use Rattle.where_index.proofs.index.WhereIndex.standing_at.Goals as goal
 
 pub returns : goal.returns
 returns c =
-    let b1 = rw c.number-time.ensures at c.in_ok-stands.ensures in
-    let b2 = rw c.number-time.ensures at c.in_ok-tails.ensures in
-    let g = rw (c.deref.ensures.value, c.deref-2.ensures.value) at c.agents_of.ensures in
+    let b1 = rw c.number-time.ensures at c.between-stands.ensures in
+    let b2 = rw c.number-time.ensures at c.between-tails.ensures in
     IfOk-weaker c.agents_of.result _ _ (λ agents is fleet has.
     let records = rw (← c.self.view_is) at has in
-    let e = standing_exact c.self.inside.records.stands c.self.inside.records.tails c.in_ok-stands.stands.items c.in_ok-tails.tails.items fleet c.args.cell c.args.step records.stands records.tails b1 b2 in
-    record { ascending = is.ascending; exact = λ a. ((λ h. (e a).0 ((is.exact a).0 h)), (λ h. (is.exact a).1 ((e a).1 h))) }) g
+    let e = standing_exact c.self.inside.records.stands c.self.inside.records.tails c.between-stands.result c.between-tails.result fleet c.args.cell c.args.step records.stands records.tails b1 b2 in
+    record { ascending = is.ascending; exact = λ a. ((λ h. (e a).0 ((is.exact a).0 h)), (λ h. (is.exact a).1 ((e a).1 h))) }) c.agents_of.ensures
