@@ -132,6 +132,12 @@ set_itself f agent time v = elim (at_cases agent agent time time) [
   | inr away ↦ absurd (away.0 refl refl)
 ]
 
+pub set_other : {X : Type 0} (f : ℕ → ℕ → X) (agent time : ℕ) (v : X) (t : ℕ) → t ≢ time → set_at f agent time v agent t ≡ f agent t
+set_other f agent time v t apart = elim (at_cases agent agent t time) [
+  | inl at ↦ absurd (apart at.0.1)
+  | inr away ↦ set_there f agent time v agent t away.1
+]
+
 pub row_cases : (a b : ℕ) → ((a ≡ b) × ((a == b) ≡ true)) ⊎ ((a ≢ b) × ((a == b) ≡ false))
 row_cases a b = grind (arith, nat_tests)
 
@@ -214,12 +220,82 @@ module _ {X : Type 0} (f : ℕ → ℕ → X) (agent : ℕ) (o n : ℕ → X) wh
     | inr away ↦ row_there (mixed o n to) a t away.1 ∙ sym (row_there n a t away.1)
   ]
 
+  pub one_set : (x : ℕ) → ((t : ℕ) → t ≢ x → o t ≡ n t) → ((t : ℕ) → f agent t ≡ o t) → (a t : ℕ) → set_at f agent x (n x) a t ≡ set_row f agent n a t
+  one_set x same agree a t = elim (row_cases a agent) [
+    | inl at ↦
+        let next = row_here n a t at.1 in
+        elim (at_cases a agent t x) [
+          | inl now ↦ set_here f agent x (n x) a t now.1 ∙ (sym (ap n now.0.1) ∙ sym next)
+          | inr other ↦ set_there f agent x (n x) a t other.1 ∙ (ap (λ q. f q t) at.0 ∙ (agree t ∙ (same t (other.0 at.0) ∙ sym next)))
+        ]
+    | inr away ↦ elim (at_cases a agent t x) [
+      | inl now ↦ absurd (away.0 now.0.0)
+      | inr other ↦ set_there f agent x (n x) a t other.1 ∙ sym (row_there n a t away.1)
+    ]
+  ]
+
+-- f with new values at two times is the row of them, where old and new differ there alone
+pub two_sets : {X : Type 0} (f : ℕ → ℕ → X) (agent : ℕ) (o n : ℕ → X) (x y : ℕ) → ((t : ℕ) → t ≢ x → t ≢ y → o t ≡ n t) → ((t : ℕ) → f agent t ≡ o t) → (a t : ℕ) → set_at (set_at f agent x (n x)) agent y (n y) a t ≡ set_row f agent n a t
+two_sets f agent o n x y same agree a t = elim (at_cases a agent t y) [
+  | inl now ↦ set_here (set_at f agent x (n x)) agent y (n y) a t now.1 ∙ (sym (ap n now.0.1) ∙ sym (row_here f agent o n n a t (row now.0.0)))
+  | inr other ↦ set_there (set_at f agent x (n x)) agent y (n y) a t other.1 ∙ elim (at_cases a agent t x) [
+    | inl now ↦ set_here f agent x (n x) a t now.1 ∙ (sym (ap n now.0.1) ∙ sym (row_here f agent o n n a t (row now.0.0)))
+    | inr apart ↦ set_there f agent x (n x) a t apart.1 ∙ elim (row_cases a agent) [
+      | inl at ↦ ap (λ q. f q t) at.0 ∙ (agree t ∙ (same t (apart.0 at.0) (other.0 at.0) ∙ sym (row_here f agent o n n a t at.1)))
+      | inr away ↦ sym (row_there f agent o n n a t away.1)
+    ]
+  ]
+] where
+  row : a ≡ agent → (a == agent) ≡ true
+  row is = grind (arith, nat_tests)
+
 pub none_below : {X : Type 0} (change : X → X → ℕ) (o n : ℕ → X) → ((a : X) → change a a ≡ 0) → (from : ℕ) → ((t : ℕ) → t < from → o t ≡ n t) → changes_below change o n from ≡ 0
 none_below change o n itself zero same = refl
 none_below change o n itself (suc x) same =
     let rest = none_below change o n itself x (λ t h. same t (omega arith)) in
     let last : change (o x) (n x) ≡ 0 = subst (λ v. change (o x) v ≡ 0) (same x (omega arith)) (itself (o x)) in
     omega arith
+
+-- old and new differ at one time or two alone
+module _ {X : Type 0} (change : X → X → ℕ) (o n : ℕ → X) (itself : (a : X) → change a a ≡ 0) where
+  level : (t : ℕ) → o t ≡ n t → change (o t) (n t) ≡ 0
+  level t same = subst (λ v. change (o t) v ≡ 0) same (itself (o t))
+
+  pub one_below : (y to : ℕ) → ((t : ℕ) → t < to → t ≢ y → o t ≡ n t) → (to ≤ y → o y ≡ n y) → changes_below change o n to ≡ change (o y) (n y)
+  one_below y zero same after = sym (level y (after (omega arith)))
+  one_below y (suc t) same after = elim (same_or_apart t y) [
+    | inl is ↦
+        let rest = none_below change o n itself t (λ s h. same s (omega arith) (λ e. omega (arith, e, is))) in
+        subst (λ q. changes_below change o n t + change (o t) (n t) ≡ change (o q) (n q)) is (omega (arith, rest))
+    | inr apart ↦
+        let rest = one_below y t (λ s h. same s (omega arith)) (λ h. after (past t y h apart)) in
+        let here = level t (same t (omega arith) apart) in
+        omega (arith, rest, here)
+  ] where
+    past : (s q : ℕ) → s ≤ q → s ≢ q → suc s ≤ q
+    past s q h e = grind arith
+
+  pub two_below : (x y to : ℕ) → x ≢ y → ((t : ℕ) → t < to → t ≢ x → t ≢ y → o t ≡ n t) → (to ≤ x → o x ≡ n x) → (to ≤ y → o y ≡ n y) → changes_below change o n to ≡ change (o x) (n x) + change (o y) (n y)
+  two_below x y zero apart same after_x after_y =
+      let a = level x (after_x (omega arith)) in
+      let b = level y (after_y (omega arith)) in
+      omega (arith, a, b)
+  two_below x y (suc t) apart same after_x after_y = elim (same_or_apart t x) [
+    | inl is ↦
+        let rest = one_below y t (λ s h e. same s (omega arith) (λ q. omega (arith, q, is)) e) (λ h. after_y (past t y h (λ e. apart (sym is ∙ e)))) in
+        subst (λ q. changes_below change o n t + change (o t) (n t) ≡ change (o q) (n q) + change (o y) (n y)) is (omega (arith, rest))
+    | inr not_x ↦ elim (same_or_apart t y) [
+      | inl is ↦
+          let rest = one_below x t (λ s h e. same s (omega arith) e (λ q. omega (arith, q, is))) (λ h. after_x (past t x h not_x)) in
+          subst (λ q. changes_below change o n t + change (o t) (n t) ≡ change (o x) (n x) + change (o q) (n q)) is (omega (arith, rest))
+      | inr not_y ↦
+          let rest = two_below x y t apart (λ s h. same s (omega arith)) (λ h. after_x (past t x h not_x)) (λ h. after_y (past t y h not_y)) in
+          let here = level t (same t (omega arith) not_x not_y) in
+          omega (arith, rest, here)
+    ]
+  ] where
+    past : (s q : ℕ) → s ≤ q → s ≢ q → suc s ≤ q
+    past s q h e = grind arith
 
 pub one_more : {X : Type 0} (change : X → X → ℕ) (o n : ℕ → X) (x count more : ℕ) → count ≡ changes_below change o n x → more ≡ change (o x) (n x) → count + more ≡ changes_below change o n (x + 1)
 one_more change o n x count more a b =

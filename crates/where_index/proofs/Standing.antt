@@ -1,5 +1,5 @@
 -- An index after one route is changed.
-use Rattle.std.proofs.Common.{◌≡◌, inl, inr, ℕ, zero, suc, ◌+◌, min, ◌<◌, ◌≤◌, nat_lt, List, [], ◌∷◌, length, slice_get, Option, Some, None, Bool, true, false, cond, ◌&&◌, ◌||◌, ◌==◌, not, refl, sym, ap, ◌∙◌, subst, arith}
+use Rattle.std.proofs.Common.{◌≡◌, ◌≢◌, inl, inr, ℕ, zero, suc, ◌+◌, min, ◌<◌, ◌≤◌, nat_lt, List, [], ◌∷◌, length, slice_get, Option, Some, None, Bool, true, false, cond, ◌&&◌, ◌||◌, ◌==◌, not, refl, sym, ap, ◌∙◌, subst, arith}
 use Rattle.std.specs.Option.{unwrap_or, option_and_then, option_map}
 use Rattle.std.specs.Ordering.{nat_cmp, is_eq}
 use Rattle.std.proofs.lemmas.Bool.Decides.{nat_tests}
@@ -40,6 +40,16 @@ stand_past r t h = ap (λ b. cond b (slice_get r.path t) None) (tests_past (leng
 
 pub rest_past : (r : Route) (t : ℕ) → length r.path ≤ t → tail_at r t ≡ None
 rest_past r t h = ap (λ b. cond b (slice_get r.path t) None) (test_past (length r.path) t r.leaves h)
+
+rest_elsewhere : (r : Route) (t : ℕ) → t ≢ last_index r.path → tail_at r t ≡ None
+rest_elsewhere r t h = ap (λ b. cond b (slice_get r.path t) None) (test r.leaves) where
+  test : (leaves : Bool) → (not leaves && (t + 1 == length r.path)) ≡ false
+  test true = grind (arith, nat_tests)
+  test false = grind (arith, nat_tests)
+
+-- two routes have the same tails, but for the times of their last indices
+pub same_elsewhere : (old new : Route) (t : ℕ) → t ≢ last_index old.path → t ≢ last_index new.path → tail_at old t ≡ tail_at new t
+same_elsewhere old new t a b = rest_elsewhere old t a ∙ sym (rest_elsewhere new t b)
 
 pub hop_past : (path : List Point) (t : ℕ) → length path ≤ t → hop_at path t ≡ None
 hop_past path t h = ap (λ (o : Option Point). hop_between o (slice_get path (t + 1))) (past path t h)

@@ -3,8 +3,6 @@
 use Rattle.std.specs.Prelude.{ℕ, zero, suc, ◌+◌, max, Bool, false, not, ◌&&◌, ◌||◌, ◌==◌, nat_lt, if◌then◌else◌, Option, Some, None, List, [], length, slice_get}
 use Rattle.grid_cells.specs.Cell.{Point}
 use Rattle.plan_table.specs.Route.{Route}
-use Rattle.where_index.specs.declared.trails.Layer.{Layer}
-use Rattle.where_index.specs.declared.trails.Layer.TheVariants.{Stands, Tails}
 use Rattle.where_index.specs.declared.trails.Hop.{Hop}
 
 abbrev pub route : List Point → Bool → Route
@@ -17,11 +15,6 @@ stand_at r time = if (nat_lt (time + 1) (length r.path) || (r.leaves && (time + 
 -- the cell of the record Tail, at the last index of a route that stays
 abbrev pub tail_at : Route → ℕ → Option Point
 tail_at r time = if (not r.leaves && (time + 1 == length r.path)) then slice_get r.path time else None
-
--- the cell of the record in that layer
-abbrev pub spot_at : Layer → Route → ℕ → Option Point
-spot_at Stands r time = stand_at r time
-spot_at Tails r time = tail_at r time
 
 -- the two are one cell
 abbrev pub same_point : Point → Point → Bool

@@ -1,21 +1,14 @@
-ghost use Rattle.std.specs.Prelude.{◌≡◌, ◌↔◌, ℕ, ◌+◌, ◌^◌, ◌<◌, ◌≤◌, min, max, Some, None, IsSome, IfOk, IsTrue};
-ghost use Rattle.std.specs.Option.{option_map};
+ghost use Rattle.std.specs.Prelude.{◌≡◌, ℕ, ◌+◌, ◌^◌, ◌<◌, ◌≤◌, min, max, Some, None, IfOk};
 ghost use Rattle.plan_table.specs.Path.{last_index};
-ghost use Rattle.plan_table.specs.Route.{Fleet, position, position_of, last_of, route_of};
+ghost use Rattle.plan_table.specs.Route.{Fleet, position, last_of, route_of};
 ghost use Rattle.where_index.specs.Records.{nothing, records_apart};
-ghost use Rattle.where_index.specs.Ends.{EndsAt};
-ghost use Rattle.where_index.specs.Index.{StandsFor, end_in, with_route};
-ghost use Rattle.where_index.specs.Asked.{AreStandingAt, AreMovers, Goes, ArePassing, AreOccupants, IsShared, CountsAgents};
+ghost use Rattle.where_index.specs.Index.{StandsFor, with_route};
+ghost use Rattle.where_index.specs.Asked.{CountsAgents};
 
 use crate::ends::End;
-use crate::gathering::{agents_of, passings_of};
-use crate::moves::Move;
-use crate::occupants::Occupants;
-use crate::passings::Passing;
 use crate::records::Records;
 use crate::trails::Trail;
-use crate::ways::Way;
-use grid_cells::{Agent, Cell, List, OutOfMemory, Step};
+use grid_cells::{Agent, OutOfMemory};
 use plan_table::Track;
 use std::alloc::Global;
 use std::collections::BTreeMap;
@@ -24,10 +17,10 @@ use std::marker::Model;
 /// Which agents stand and move where: it stands for a finite map from agents to tracks.
 #[derive(Drop)]
 pub struct WhereIndex {
-    alloc: Global,
-    records: Records,
-    ends: BTreeMap<Agent, End>,
-    horizon: u32,
+    pub(crate) alloc: Global,
+    pub(crate) records: Records,
+    pub(crate) ends: BTreeMap<Agent, End>,
+    pub(crate) horizon: u32,
     touched: u64,
 }
 
@@ -130,113 +123,6 @@ impl WhereIndex {
         Ok(self)
     }
 
-    /// The agents whose position at the step is the cell, ascending.
-    pub fn standing_at(&self, step: Step, cell: Cell) -> Result<List<Agent>, OutOfMemory>
-        ensures { IfOk result (λ agents. (fleet : Fleet) → StandsFor self.now fleet → AreStandingAt fleet step cell agents) }
-    {
-        let time = step.number();
-        let stands = self.records.stands.between(cell, time, time);
-        let tails = self.records.tails.between(cell, 0, time);
-        agents_of(self.alloc, stands, tails)
-    }
-
-    /// Who is in the cell at some step from one to another, both of them included. It takes no memory.
-    pub fn occupants(&self, cell: Cell, from: Step, to: Step) -> Occupants<'_>
-        requires { from ≤ to }
-        ensures { (fleet : Fleet) → StandsFor self.now fleet → AreOccupants fleet cell from to result }
-    {
-        let first = from.number();
-        let last = to.number();
-        Occupants {
-            stands: self.records.stands.between(cell, first, last),
-            tails: self.records.tails.between(cell, 0, last),
-        }
-    }
-
-    /// Whether another agent is in the cell at some step from one to another, both of them included.
-    pub fn is_shared(&self, cell: Cell, from: Step, to: Step, agent: Agent) -> bool
-        requires { from ≤ to }
-        ensures { (fleet : Fleet) → StandsFor self.now fleet → IsTrue result ↔ IsShared fleet cell from to agent }
-    {
-        let first = from.number();
-        let last = to.number();
-        if self.records.stands.has_other(cell, first, last, agent) {
-            return true;
-        }
-        self.records.tails.has_other(cell, 0, last, agent)
-    }
-
-    /// Those who move out of the cell in the step, by agent.
-    pub fn movers(&self, step: Step, cell: Cell) -> &[Move]
-        ensures { (fleet : Fleet) → StandsFor self.now fleet → AreMovers fleet step cell result.now }
-    {
-        self.records.traffic.hops.at(cell, step.number())
-    }
-
-    /// Whether some agent moves that way in the step.
-    pub fn goes(&self, step: Step, way: Way) -> bool
-        ensures { (fleet : Fleet) → StandsFor self.now fleet → IsTrue result ↔ Goes fleet step way }
-    {
-        self.records.stands.are_numbered();
-        self.records.traffic.flows.at(way, step.number()) > 0
-    }
-
-    /// Those who are in the cell at the step or later, up to the last index of their paths, by time,
-    /// then agent. The cost follows their number.
-    pub fn coming_through(&self, cell: Cell, from: Step) -> Result<List<Passing>, OutOfMemory>
-        ensures { IfOk result (λ passings. (fleet : Fleet) → StandsFor self.now fleet → ArePassing fleet cell from passings) }
-    {
-        let time = from.number();
-        let to = self.horizon.max(time);
-        let stands = self.records.stands.between(cell, time, to);
-        let tails = self.records.tails.between(cell, time, to);
-        passings_of(self.alloc, stands, tails)
-    }
-
-    /// Whether the agent's position at the step is the cell.
-    pub fn is_at(&self, agent: Agent, step: Step, cell: Cell) -> bool
-        ensures { (fleet : Fleet) → StandsFor self.now fleet → IsTrue result ↔ (position_of fleet agent step ≡ Some cell) }
-    {
-        let time = step.number();
-        if self.records.stands.has(cell, time, agent) {
-            return true;
-        }
-        match self.end_of(agent) {
-            Some(end) => end.last <= time && self.records.tails.has(cell, end.last, agent),
-            None => false,
-        }
-    }
-
-    /// Whether the agent has a position at the step.
-    pub fn has_position(&self, agent: Agent, step: Step) -> bool
-        ensures { (fleet : Fleet) → StandsFor self.now fleet → IsTrue result ↔ IsSome (position_of fleet agent step) }
-    {
-        match self.end_of(agent) {
-            Some(end) => !end.leaves || step.number() <= end.last,
-            None => false,
-        }
-    }
-
-    /// The last index of the agent's path, and its last cell, if the agent is in it.
-    pub fn end(&self, agent: Agent) -> Option<(u32, Cell)>
-        ensures { (fleet : Fleet) → StandsFor self.now fleet → EndsAt (fleet agent) result }
-    {
-        match self.end_of(agent) {
-            Some(end) => Some((end.last, end.cell)),
-            None => None,
-        }
-    }
-
-    /// Whether the agent leaves after the last index of its path, if the agent is in it.
-    pub fn leaves(&self, agent: Agent) -> Option<bool>
-        ensures { (fleet : Fleet) → StandsFor self.now fleet → result ≡ option_map (λ route. route.leaves) (fleet agent) }
-    {
-        match self.end_of(agent) {
-            Some(end) => Some(end.leaves),
-            None => None,
-        }
-    }
-
     /// How many agents are in it.
     pub fn count(&self) -> usize
         ensures { (fleet : Fleet) → StandsFor self.now fleet → CountsAgents fleet result }
@@ -258,12 +144,5 @@ impl WhereIndex {
         ensures { result ≡ self.now.touched }
     {
         self.touched
-    }
-
-    // Where and when the agent's path ends, and whether it leaves then.
-    fn end_of(&self, agent: Agent) -> Option<End>
-        ensures { result ≡ end_in self.now.ends agent }
-    {
-        self.ends.get(&agent).copied()
     }
 }

@@ -4,13 +4,16 @@
 mod ends;
 mod flows;
 mod gathering;
+mod hop_changes;
 mod hops;
 mod index;
 mod laws;
 mod moves;
 mod occupants;
 mod passings;
+mod questions;
 mod records;
+mod spot_changes;
 mod spots;
 mod tallies;
 mod traffic;

@@ -1,19 +1,11 @@
 ghost use Rattle.std.specs.Prelude.{◌≡◌, Some};
-ghost use Rattle.plan_table.specs.Path.{IsPath};
+ghost use Rattle.plan_table.specs.Path.{IsPath, last_index};
 ghost use Rattle.plan_table.specs.Route.{route_of};
-ghost use Rattle.where_index.specs.Records.{nothing, spot_at, hop_at, hop_between};
+ghost use Rattle.where_index.specs.Records.{nothing, stand_at, tail_at, hop_at, hop_between};
 
 use grid_cells::Cell;
 use plan_table::Track;
 use std::marker::Model;
-
-/// The two kinds of spots: where an agent stands before its path ends or as it leaves (Stand), and
-/// where it comes to rest (Tail).
-#[derive(Clone, Copy, Debug, PartialEq, Eq)]
-pub enum Layer {
-    Stands,
-    Tails,
-}
 
 /// A move from one cell to another.
 #[derive(Clone, Copy, Debug, PartialEq, Eq)]
@@ -63,18 +55,35 @@ impl<'a> Trail<'a> {
         }
     }
 
-    /// The cell of its record in the layer at the time.
-    pub fn spot(&self, layer: Layer, time: u32) -> Option<Cell>
-        ensures { result ≡ spot_at layer self.now time }
+    /// The time of its last cell, and 0 where it has none.
+    pub fn last(&self) -> u32
+        ensures { result ≡ last_index self.now.path }
+    {
+        self.cells.len().saturating_sub(1) as u32
+    }
+
+    /// The cell where its agent stands at the time, before it comes to rest.
+    pub fn stand(&self, time: u32) -> Option<Cell>
+        ensures { result ≡ stand_at self.now time }
+    {
+        let (index, many) = (time as usize, self.cells.len());
+        if index + 1 < many || (self.leaves && index + 1 == many) {
+            Some(self.cells[index])
+        } else {
+            None
+        }
+    }
+
+    /// The cell where its agent comes to rest at the time.
+    pub fn tail(&self, time: u32) -> Option<Cell>
+        ensures { result ≡ tail_at self.now time }
     {
         let index = time as usize;
-        let here = match layer {
-            Layer::Stands => {
-                index + 1 < self.cells.len() || (self.leaves && index + 1 == self.cells.len())
-            }
-            Layer::Tails => !self.leaves && index + 1 == self.cells.len(),
-        };
-        if here { Some(self.cells[index]) } else { None }
+        if !self.leaves && index + 1 == self.cells.len() {
+            Some(self.cells[index])
+        } else {
+            None
+        }
     }
 
     /// Its move in the step.

@@ -3,7 +3,7 @@ use Rattle.where_index.specs.Records.{hop_at, changed_hop}
 use Rattle.where_index.specs.Changes.{set_at, set_row, mixed}
 use Rattle.where_index.proofs.Flowing.{HasTraffic-ext}
 use Rattle.where_index.proofs.Changes.{mixed_start, mixed_here, mixed_more, mixed_end, none_below, one_more, changed_hop_itself}
-use Rattle.where_index.proofs.records.change_hops.Goals as goal
+use Rattle.where_index.proofs.hop_changes.change_hops.Goals as goal
 
 pub loop-time-init : goal.loop-time-init
 loop-time-init c =
@@ -20,7 +20,7 @@ loop-time-preserved c =
     let o = hop_at c.args.old.now.path in
     let n = hop_at c.args.new.now.path in
     let x = c.loop-time.time in
-    let g = c.in_ok-count.ensures in
+    let g = rw (c.hop.ensures, c.hop-in-loop-time.ensures) at c.in_ok-count.ensures in
     record {
       set = λ f has agree.
           HasTraffic-ext c.replace_hop.new.traffic (set_at (set_row f c.args.agent (mixed o n x)) c.args.agent x (n x)) (set_row f c.args.agent (mixed o n (x + 1))) (mixed_more f c.args.agent o n x)

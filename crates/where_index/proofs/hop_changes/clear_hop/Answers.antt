@@ -2,7 +2,7 @@ use Rattle.std.proofs.Common.{None, ◌∙◌}
 use Rattle.where_index.specs.Changes.{set_at}
 use Rattle.where_index.proofs.Changes.{set_same}
 use Rattle.where_index.proofs.Flowing.{HasTraffic-ext}
-use Rattle.where_index.proofs.records.clear_hop.Goals as goal
+use Rattle.where_index.proofs.hop_changes.clear_hop.Goals as goal
 
 pub returns-in-Some : goal.returns-in-Some
 returns-in-Some c = λ f has is. c.lose.ensures f has (is ∙ c.in-Some.is)

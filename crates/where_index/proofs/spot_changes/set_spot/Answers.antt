@@ -2,7 +2,7 @@ use Rattle.std.proofs.Common.{None}
 use Rattle.std.proofs.lemmas.Result.{IfOk-weaker}
 use Rattle.where_index.specs.Changes.{set_at}
 use Rattle.where_index.proofs.Changes.{HasSpots-ext, set_twice, set_itself}
-use Rattle.where_index.proofs.records.set_spot.Goals as goal
+use Rattle.where_index.proofs.spot_changes.set_spot.Goals as goal
 
 pub returns-clause-set : goal.returns-clause-set
 returns-clause-set c = λ f has is.

@@ -3,7 +3,7 @@ use Rattle.std.proofs.lemmas.Result.{IfOk-weaker}
 use Rattle.where_index.specs.Changes.{set_at}
 use Rattle.where_index.proofs.Flowing.{HasTraffic-ext}
 use Rattle.where_index.proofs.Changes.{set_twice, set_itself}
-use Rattle.where_index.proofs.records.set_hop.Goals as goal
+use Rattle.where_index.proofs.hop_changes.set_hop.Goals as goal
 
 pub returns-clause-set : goal.returns-clause-set
 returns-clause-set c = λ f has is.

@@ -4,7 +4,7 @@ use Rattle.where_index.specs.Changes.{set_at}
 use Rattle.where_index.specs.Traffic.{HasTraffic}
 use Rattle.where_index.proofs.Changes.{set_same}
 use Rattle.where_index.proofs.Flowing.{HasTraffic-ext}
-use Rattle.where_index.proofs.records.fill_hop.Goals as goal
+use Rattle.where_index.proofs.hop_changes.fill_hop.Goals as goal
 
 pub returns-in-Some-clause-set : goal.returns-in-Some-clause-set
 returns-in-Some-clause-set c = λ f has is. IfOk-weaker c.add.result _ _ (λ _ g. subst (λ v. HasTraffic c.add.new.self (set_at f c.args.agent c.args.time v)) (sym c.in-Some.is) g) (c.add.ensures f has is)

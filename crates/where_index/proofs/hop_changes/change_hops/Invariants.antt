@@ -3,7 +3,7 @@ use Rattle.where_index.specs.declared.trails.Hop.{Hop}
 use Rattle.where_index.specs.Records.{hop_at, changed_hop, changes_below}
 use Rattle.where_index.specs.Changes.{set_row, mixed}
 use Rattle.where_index.specs.Traffic.{HasTraffic}
-use Rattle.where_index.proofs.records.change_hops.Given as goal
+use Rattle.where_index.proofs.hop_changes.change_hops.Given as goal
 
 abbrev pub invariant-loop-time : goal.invariant-loop-time
 invariant-loop-time l = record {
