@@ -5,7 +5,7 @@ ghost use Rattle.plan_table.specs.Route.{Fleet, position_of, route_of};
 ghost use Rattle.where_index.specs.Flows.{leads, opposite};
 ghost use Rattle.where_index.specs.Asked.{Goes};
 ghost use Rattle.mapf_rules.specs.Cycles.{IsRing};
-ghost use Rattle.conflict_ledger.specs.Sight.{Shows, own_place};
+ghost use Rattle.conflict_ledger.specs.Sight.{Sees, own_place};
 
 use crate::sight::Sight;
 use grid_cells::{Cell, Step};
@@ -30,7 +30,7 @@ impl Sight<'_> {
     // has.
     fn may_go(&self, time: u32, way: Way) -> bool
         requires { time < u32.MAX }
-        ensures { (fleet : Fleet) → Shows self.now.index.now self.now.agent (option_map route_of self.now.shown) fleet → Goes fleet time way → IsTrue result }
+        ensures { (fleet : Fleet) → Sees self.now fleet → Goes fleet time way → IsTrue result }
     {
         self.index.goes(Step::new(time), way) || self.own_goes(time, way)
     }
@@ -38,7 +38,7 @@ impl Sight<'_> {
     // Whether an agent moves back, where the way leads from the one cell to the other.
     fn may_go_back(&self, time: u32, way: Way, from: Cell, to: Cell) -> bool
         requires { time < u32.MAX }
-        ensures { (fleet : Fleet) → Shows self.now.index.now self.now.agent (option_map route_of self.now.shown) fleet → (IsTrue (leads way from to) → Goes fleet time (opposite way)) → IsTrue result }
+        ensures { (fleet : Fleet) → Sees self.now fleet → (IsTrue (leads way from to) → Goes fleet time (opposite way)) → IsTrue result }
     {
         !way.leads(from, to) || self.may_go(time, way.opposite())
     }
@@ -47,7 +47,7 @@ impl Sight<'_> {
     // way that it goes, another agent comes back.
     pub fn may_close(&self, time: u32, from: Cell, to: Cell) -> bool
         requires { time < u32.MAX }
-        ensures { (fleet : Fleet) (ring : List ℕ) (member : ℕ) → Shows self.now.index.now self.now.agent (option_map route_of self.now.shown) fleet → IsRing fleet time ring → Contains ring member → position_of fleet member time ≡ Some from → position_of fleet member (time + 1) ≡ Some to → IsTrue result }
+        ensures { (fleet : Fleet) (ring : List ℕ) (member : ℕ) → Sees self.now fleet → IsRing fleet time ring → Contains ring member → position_of fleet member time ≡ Some from → position_of fleet member (time + 1) ≡ Some to → IsTrue result }
     {
         self.may_go_back(time, Way::Up, from, to)
             && self.may_go_back(time, Way::Left, from, to)

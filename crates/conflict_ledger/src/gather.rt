@@ -7,7 +7,7 @@ ghost use Rattle.conflict_ledger.specs.declared.gather.Place.{Place};
 ghost use Rattle.mapf_rules.specs.Entries.{IsVertex, IsParked, IsEdge, IsFollowing, IsSwapping};
 ghost use Rattle.mapf_rules.specs.ConflictList.{Stands};
 ghost use Rattle.mapf_rules.specs.Naming.{IsOfPair};
-ghost use Rattle.conflict_ledger.specs.Sight.{Shows};
+ghost use Rattle.conflict_ledger.specs.Sight.{Sees};
 ghost use Rattle.conflict_ledger.specs.Gathering.{Gathers, AreAgents, IsWhere, HasMet, HasTime, HasLate};
 ghost use Rattle.mapf_rules.specs.Finding.{Offers};
 ghost use Rattle.conflict_ledger.specs.Spans.{Fits};
@@ -35,10 +35,10 @@ fn meeting_of(
     second: Agent,
     cell: Cell,
 ) -> Option<Conflict>
-    ensures stands { (fleet : Fleet) → Shows sight.now.index.now sight.now.agent (option_map route_of sight.now.shown) fleet → IfSome result (Stands fleet) }
+    ensures stands { (fleet : Fleet) → Sees sight.now fleet → IfSome result (Stands fleet) }
     ensures pair { IfSome result (λ entry. IsOfPair entry time first second) }
-    ensures vertex { (fleet : Fleet) → Shows sight.now.index.now sight.now.agent (option_map route_of sight.now.shown) fleet → IsVertex fleet time first second cell → result ≡ Some (Conflict.Vertex time first second cell) }
-    ensures parked { (fleet : Fleet) → Shows sight.now.index.now sight.now.agent (option_map route_of sight.now.shown) fleet → IsParked fleet time first second cell → result ≡ Some (Conflict.Parked time first second cell) }
+    ensures vertex { (fleet : Fleet) → Sees sight.now fleet → IsVertex fleet time first second cell → result ≡ Some (Conflict.Vertex time first second cell) }
+    ensures parked { (fleet : Fleet) → Sees sight.now fleet → IsParked fleet time first second cell → result ≡ Some (Conflict.Parked time first second cell) }
 {
     if sight.vertex(time, first, second, cell) {
         return Some(Conflict::Vertex {
@@ -69,9 +69,9 @@ fn edge_of(
     next: Cell,
 ) -> Option<Conflict>
     requires { time < u32.MAX }
-    ensures stands { (fleet : Fleet) → Shows sight.now.index.now sight.now.agent (option_map route_of sight.now.shown) fleet → IfSome result (Stands fleet) }
+    ensures stands { (fleet : Fleet) → Sees sight.now fleet → IfSome result (Stands fleet) }
     ensures pair { IfSome result (λ entry. IsOfPair entry time first second) }
-    ensures found { (fleet : Fleet) → Shows sight.now.index.now sight.now.agent (option_map route_of sight.now.shown) fleet → IsEdge fleet time first second cell next → result ≡ Some (Conflict.Edge time first second cell next) }
+    ensures found { (fleet : Fleet) → Sees sight.now fleet → IsEdge fleet time first second cell next → result ≡ Some (Conflict.Edge time first second cell next) }
 {
     if sight.edge(time, first, second, cell, next) {
         Some(Conflict::Edge {
@@ -94,9 +94,9 @@ fn following_of(
     cell: Cell,
 ) -> Option<Conflict>
     requires { time < u32.MAX }
-    ensures stands { (fleet : Fleet) → Shows sight.now.index.now sight.now.agent (option_map route_of sight.now.shown) fleet → IfSome result (Stands fleet) }
+    ensures stands { (fleet : Fleet) → Sees sight.now fleet → IfSome result (Stands fleet) }
     ensures pair { IfSome result (λ entry. IsOfPair entry time follower leader) }
-    ensures found { (fleet : Fleet) → Shows sight.now.index.now sight.now.agent (option_map route_of sight.now.shown) fleet → IsFollowing fleet time follower leader cell → result ≡ Some (Conflict.Following time follower leader cell) }
+    ensures found { (fleet : Fleet) → Sees sight.now fleet → IsFollowing fleet time follower leader cell → result ≡ Some (Conflict.Following time follower leader cell) }
 {
     if sight.following(time, follower, leader, cell) {
         Some(Conflict::Following {
@@ -119,9 +119,9 @@ fn swapping_of(
     other: Cell,
 ) -> Option<Conflict>
     requires { time < u32.MAX }
-    ensures stands { (fleet : Fleet) → Shows sight.now.index.now sight.now.agent (option_map route_of sight.now.shown) fleet → IfSome result (Stands fleet) }
+    ensures stands { (fleet : Fleet) → Sees sight.now fleet → IfSome result (Stands fleet) }
     ensures pair { IfSome result (λ entry. IsOfPair entry time first second) }
-    ensures found { (fleet : Fleet) → Shows sight.now.index.now sight.now.agent (option_map route_of sight.now.shown) fleet → IsSwapping fleet time first second cell other → result ≡ Some (Conflict.Swapping time first second cell other) }
+    ensures found { (fleet : Fleet) → Sees sight.now fleet → IsSwapping fleet time first second cell other → result ≡ Some (Conflict.Swapping time first second cell other) }
 {
     if sight.swapping(time, first, second, cell, other) {
         Some(Conflict::Swapping {
@@ -158,8 +158,8 @@ fn offer_met(
     next: Cell,
 ) -> Result<(), OutOfMemory>
     requires { time < u32.MAX }
-    ensures gathers { OnOk result ((fleet : Fleet) → Shows sight.now.index.now sight.now.agent (option_map route_of sight.now.shown) fleet → Gathers fleet sight.now.agent (λ t. t ≡ time) entries.old.items entries.new.items) }
-    ensures has { OnOk result ((fleet : Fleet) → Shows sight.now.index.now sight.now.agent (option_map route_of sight.now.shown) fleet → IsWhere fleet sight.now.agent time here next → HasMet fleet sight.now.agent time place other entries.new.items) }
+    ensures gathers { OnOk result ((fleet : Fleet) → Sees sight.now fleet → Gathers fleet sight.now.agent (λ t. t ≡ time) entries.old.items entries.new.items) }
+    ensures has { OnOk result ((fleet : Fleet) → Sees sight.now fleet → IsWhere fleet sight.now.agent time here next → HasMet fleet sight.now.agent time place other entries.new.items) }
 {
     let agent = sight.agent;
     match place {
@@ -193,8 +193,8 @@ fn offer_all(
     next: Cell,
 ) -> Result<(), OutOfMemory>
     requires { time < u32.MAX }
-    ensures gathers { OnOk result ((fleet : Fleet) → Shows sight.now.index.now sight.now.agent (option_map route_of sight.now.shown) fleet → Gathers fleet sight.now.agent (λ t. t ≡ time) entries.old.items entries.new.items) }
-    ensures has { OnOk result ((fleet : Fleet) → Shows sight.now.index.now sight.now.agent (option_map route_of sight.now.shown) fleet → IsWhere fleet sight.now.agent time here next → (other : ℕ) → Contains others.now other → HasMet fleet sight.now.agent time place other entries.new.items) }
+    ensures gathers { OnOk result ((fleet : Fleet) → Sees sight.now fleet → Gathers fleet sight.now.agent (λ t. t ≡ time) entries.old.items entries.new.items) }
+    ensures has { OnOk result ((fleet : Fleet) → Sees sight.now fleet → IsWhere fleet sight.now.agent time here next → (other : ℕ) → Contains others.now other → HasMet fleet sight.now.agent time place other entries.new.items) }
 {
     for other in others {
         offer_met(sight, entries, time, place, *other, here, next)?;
@@ -211,8 +211,8 @@ fn gather_ahead(
     next: Cell,
 ) -> Result<(), OutOfMemory>
     requires { time < u32.MAX }
-    ensures gathers { OnOk result ((fleet : Fleet) → Shows sight.now.index.now sight.now.agent (option_map route_of sight.now.shown) fleet → Gathers fleet sight.now.agent (λ t. t ≡ time) entries.old.items entries.new.items) }
-    ensures has { OnOk result ((fleet : Fleet) → Shows sight.now.index.now sight.now.agent (option_map route_of sight.now.shown) fleet → IsWhere fleet sight.now.agent time here next → (other : ℕ) → other ≢ sight.now.agent → position_of fleet other time ≡ Some next → HasMet fleet sight.now.agent time Place.Ahead other entries.new.items) }
+    ensures gathers { OnOk result ((fleet : Fleet) → Sees sight.now fleet → Gathers fleet sight.now.agent (λ t. t ≡ time) entries.old.items entries.new.items) }
+    ensures has { OnOk result ((fleet : Fleet) → Sees sight.now fleet → IsWhere fleet sight.now.agent time here next → (other : ℕ) → other ≢ sight.now.agent → position_of fleet other time ≡ Some next → HasMet fleet sight.now.agent time Place.Ahead other entries.new.items) }
 {
     if here == next {
         return Ok(());
@@ -243,9 +243,9 @@ fn gather_here(
     next: Cell,
 ) -> Result<(), OutOfMemory>
     requires { time < u32.MAX }
-    ensures gathers { OnOk result ((fleet : Fleet) → Shows sight.now.index.now sight.now.agent (option_map route_of sight.now.shown) fleet → Gathers fleet sight.now.agent (λ t. t ≡ time) entries.old.items entries.new.items) }
-    ensures beside { OnOk result ((fleet : Fleet) → Shows sight.now.index.now sight.now.agent (option_map route_of sight.now.shown) fleet → IsWhere fleet sight.now.agent time here next → (other : ℕ) → other ≢ sight.now.agent → position_of fleet other time ≡ Some here → HasMet fleet sight.now.agent time Place.Beside other entries.new.items) }
-    ensures behind { OnOk result ((fleet : Fleet) → Shows sight.now.index.now sight.now.agent (option_map route_of sight.now.shown) fleet → IsWhere fleet sight.now.agent time here next → (other : ℕ) → other ≢ sight.now.agent → position_of fleet other (time + 1) ≡ Some here → HasMet fleet sight.now.agent time Place.Behind other entries.new.items) }
+    ensures gathers { OnOk result ((fleet : Fleet) → Sees sight.now fleet → Gathers fleet sight.now.agent (λ t. t ≡ time) entries.old.items entries.new.items) }
+    ensures beside { OnOk result ((fleet : Fleet) → Sees sight.now fleet → IsWhere fleet sight.now.agent time here next → (other : ℕ) → other ≢ sight.now.agent → position_of fleet other time ≡ Some here → HasMet fleet sight.now.agent time Place.Beside other entries.new.items) }
+    ensures behind { OnOk result ((fleet : Fleet) → Sees sight.now fleet → IsWhere fleet sight.now.agent time here next → (other : ℕ) → other ≢ sight.now.agent → position_of fleet other (time + 1) ≡ Some here → HasMet fleet sight.now.agent time Place.Behind other entries.new.items) }
 {
     let (now, later) = (Step::new(time), Step::new(time + 1));
     if !sight.index.is_shared(here, now, later, sight.agent) {
@@ -283,8 +283,8 @@ fn gather_step(
     next: Cell,
 ) -> Result<(), OutOfMemory>
     requires { time < u32.MAX }
-    ensures gathers { OnOk result ((fleet : Fleet) → Shows sight.now.index.now sight.now.agent (option_map route_of sight.now.shown) fleet → Gathers fleet sight.now.agent (λ t. t ≡ time) entries.old.items entries.new.items) }
-    ensures has { OnOk result ((fleet : Fleet) → Shows sight.now.index.now sight.now.agent (option_map route_of sight.now.shown) fleet → IsWhere fleet sight.now.agent time here next → HasTime fleet sight.now.agent time entries.new.items) }
+    ensures gathers { OnOk result ((fleet : Fleet) → Sees sight.now fleet → Gathers fleet sight.now.agent (λ t. t ≡ time) entries.old.items entries.new.items) }
+    ensures has { OnOk result ((fleet : Fleet) → Sees sight.now fleet → IsWhere fleet sight.now.agent time here next → HasTime fleet sight.now.agent time entries.new.items) }
 {
     gather_ahead(sight, entries, time, here, next)?;
     gather_here(sight, entries, time, here, next)?;
@@ -294,8 +294,8 @@ fn gather_step(
 // Adds the entries of the agent in the step that begins at the time.
 fn gather_at(sight: &Sight<'_>, entries: &mut Vec<Conflict>, time: u32) -> Result<(), OutOfMemory>
     requires { time < u32.MAX }
-    ensures gathers { OnOk result ((fleet : Fleet) → Shows sight.now.index.now sight.now.agent (option_map route_of sight.now.shown) fleet → Gathers fleet sight.now.agent (λ t. t ≡ time) entries.old.items entries.new.items) }
-    ensures has { OnOk result ((fleet : Fleet) → Shows sight.now.index.now sight.now.agent (option_map route_of sight.now.shown) fleet → HasTime fleet sight.now.agent time entries.new.items) }
+    ensures gathers { OnOk result ((fleet : Fleet) → Sees sight.now fleet → Gathers fleet sight.now.agent (λ t. t ≡ time) entries.old.items entries.new.items) }
+    ensures has { OnOk result ((fleet : Fleet) → Sees sight.now fleet → HasTime fleet sight.now.agent time entries.new.items) }
 {
     let Some(here) = sight.own(time) else {
         return Ok(());
@@ -312,8 +312,8 @@ fn gather_path(
     last: u32,
 ) -> Result<(), OutOfMemory>
     requires { last < u32.MAX }
-    ensures gathers { OnOk result ((fleet : Fleet) → Shows sight.now.index.now sight.now.agent (option_map route_of sight.now.shown) fleet → from ≤ last → Gathers fleet sight.now.agent (λ t. (from ≤ t) × (t ≤ last)) entries.old.items entries.new.items) }
-    ensures has { OnOk result ((fleet : Fleet) → Shows sight.now.index.now sight.now.agent (option_map route_of sight.now.shown) fleet → (time : ℕ) → from ≤ time → time ≤ last → HasTime fleet sight.now.agent time entries.new.items) }
+    ensures gathers { OnOk result ((fleet : Fleet) → Sees sight.now fleet → from ≤ last → Gathers fleet sight.now.agent (λ t. (from ≤ t) × (t ≤ last)) entries.old.items entries.new.items) }
+    ensures has { OnOk result ((fleet : Fleet) → Sees sight.now fleet → (time : ℕ) → from ≤ time → time ≤ last → HasTime fleet sight.now.agent time entries.new.items) }
 {
     for time in from..last + 1 {
         gather_at(sight, entries, time)?;
@@ -329,8 +329,8 @@ fn offer_passing(
     other: Agent,
     rest: Cell,
 ) -> Result<(), OutOfMemory>
-    ensures gathers { OnOk result ((fleet : Fleet) → Shows sight.now.index.now sight.now.agent (option_map route_of sight.now.shown) fleet → Gathers fleet sight.now.agent (λ t. time ≤ t + 1) entries.old.items entries.new.items) }
-    ensures has { OnOk result ((fleet : Fleet) → Shows sight.now.index.now sight.now.agent (option_map route_of sight.now.shown) fleet → HasLate fleet time sight.now.agent other rest entries.new.items) }
+    ensures gathers { OnOk result ((fleet : Fleet) → Sees sight.now fleet → Gathers fleet sight.now.agent (λ t. time ≤ t + 1) entries.old.items entries.new.items) }
+    ensures has { OnOk result ((fleet : Fleet) → Sees sight.now fleet → HasLate fleet time sight.now.agent other rest entries.new.items) }
 {
     let (first, second) = in_order(sight.agent, other);
     offer(entries, meeting_of(sight, time, first, second, rest))?;
@@ -346,8 +346,8 @@ fn offer_passing(
 // Adds the entries of the agent after the last index of its path.
 fn gather_late(sight: &Sight<'_>, entries: &mut Vec<Conflict>, last: u32) -> Result<(), OutOfMemory>
     requires { last < u32.MAX }
-    ensures gathers { OnOk result ((fleet : Fleet) → Shows sight.now.index.now sight.now.agent (option_map route_of sight.now.shown) fleet → Gathers fleet sight.now.agent (λ t. last ≤ t) entries.old.items entries.new.items) }
-    ensures has { OnOk result ((fleet : Fleet) → Shows sight.now.index.now sight.now.agent (option_map route_of sight.now.shown) fleet → last ≡ last_of fleet sight.now.agent → (time : ℕ) → last < time → HasTime fleet sight.now.agent time entries.new.items) }
+    ensures gathers { OnOk result ((fleet : Fleet) → Sees sight.now fleet → Gathers fleet sight.now.agent (λ t. last ≤ t) entries.old.items entries.new.items) }
+    ensures has { OnOk result ((fleet : Fleet) → Sees sight.now fleet → last ≡ last_of fleet sight.now.agent → (time : ℕ) → last < time → HasTime fleet sight.now.agent time entries.new.items) }
 {
     let Some(rest) = sight.own(last + 1) else {
         return Ok(());
@@ -366,7 +366,7 @@ pub(crate) fn gather(
     sight: &Sight<'_>,
     span: Span,
 ) -> Result<Vec<Conflict>, OutOfMemory>
-    ensures { IfOk result (λ entries. (fleet : Fleet) → Shows sight.now.index.now sight.now.agent (option_map route_of sight.now.shown) fleet → Fits span (last_of fleet sight.now.agent) → AreAgents fleet sight.now.agent span entries.items) }
+    ensures { IfOk result (λ entries. (fleet : Fleet) → Sees sight.now fleet → Fits span (last_of fleet sight.now.agent) → AreAgents fleet sight.now.agent span entries.items) }
 {
     let mut entries = Vec::new(alloc);
     let last = sight.own_last();

@@ -4,7 +4,7 @@ ghost use Rattle.plan_table.specs.Route.{route_of};
 ghost use Rattle.grid_cells.specs.Cell.{Point};
 ghost use Rattle.where_index.specs.declared.moves.Move.{Move};
 ghost use Rattle.where_index.specs.Index.{StandsFor};
-ghost use Rattle.conflict_ledger.specs.Sight.{Shows, IsMoverIn};
+ghost use Rattle.conflict_ledger.specs.Sight.{Sees, IsMoverIn};
 
 use crate::sight::Sight;
 use grid_cells::{Agent, Cell, Step};
@@ -31,7 +31,7 @@ impl Movers for Whole<'_> {
 }
 
 impl Movers for Sight<'_> {
-    ghost tells = { λ sight fleet. Shows sight.index.now sight.agent (option_map route_of sight.shown) fleet };
+    ghost tells = { λ sight fleet. Sees sight fleet };
 
     fn sole_mover(&self, time: u32, cell: Cell) -> Option<(Agent, Cell)> {
         let own = self.own_move(time, cell);

@@ -3,7 +3,7 @@ ghost use Rattle.std.specs.Option.{option_map, option_and_then};
 ghost use Rattle.grid_cells.specs.Cell.{Point};
 ghost use Rattle.plan_table.specs.Route.{Fleet, position, position_of, last_of, leaves_of, Leaves, route_of};
 ghost use Rattle.mapf_rules.specs.Entries.{both_end_by, IsVertex, IsParked, IsEdge, IsFollowing, IsSwapping};
-ghost use Rattle.conflict_ledger.specs.Sight.{Shows, own_place};
+ghost use Rattle.conflict_ledger.specs.Sight.{Sees, own_place};
 
 use grid_cells::{Agent, Cell, Step};
 use plan_table::{MOST_LAST_INDEX, Track};
@@ -55,7 +55,7 @@ impl Sight<'_> {
 
     // The last index of the agent's own path.
     pub fn own_last(&self) -> u32
-        ensures is { (fleet : Fleet) → Shows self.now.index.now self.now.agent (option_map route_of self.now.shown) fleet → result ≡ last_of fleet self.now.agent }
+        ensures is { (fleet : Fleet) → Sees self.now fleet → result ≡ last_of fleet self.now.agent }
         ensures bound { result ≤ MOST_LAST_INDEX }
     {
         match &self.shown {
@@ -66,7 +66,7 @@ impl Sight<'_> {
 
     // Whether the agent's position at the time is the cell.
     pub fn is_at(&self, agent: Agent, time: u32, cell: Cell) -> bool
-        ensures { (fleet : Fleet) → Shows self.now.index.now self.now.agent (option_map route_of self.now.shown) fleet → IsTrue result ↔ (position_of fleet agent time ≡ Some cell) }
+        ensures { (fleet : Fleet) → Sees self.now fleet → IsTrue result ↔ (position_of fleet agent time ≡ Some cell) }
     {
         if agent == self.agent {
             self.own(time) == Some(cell)
@@ -77,7 +77,7 @@ impl Sight<'_> {
 
     // Whether the agent has a position at the time.
     pub fn has_position(&self, agent: Agent, time: u32) -> bool
-        ensures { (fleet : Fleet) → Shows self.now.index.now self.now.agent (option_map route_of self.now.shown) fleet → IsTrue result ↔ IsSome (position_of fleet agent time) }
+        ensures { (fleet : Fleet) → Sees self.now fleet → IsTrue result ↔ IsSome (position_of fleet agent time) }
     {
         if agent == self.agent {
             self.own(time).is_some()
@@ -88,7 +88,7 @@ impl Sight<'_> {
 
     // The last index of the agent's path.
     pub fn last(&self, agent: Agent) -> u32
-        ensures { (fleet : Fleet) → Shows self.now.index.now self.now.agent (option_map route_of self.now.shown) fleet → result ≡ last_of fleet agent }
+        ensures { (fleet : Fleet) → Sees self.now fleet → result ≡ last_of fleet agent }
     {
         if agent == self.agent {
             match &self.shown {
@@ -105,7 +105,7 @@ impl Sight<'_> {
 
     // Whether the agent leaves after the last index of its path.
     pub fn leaves(&self, agent: Agent) -> bool
-        ensures { (fleet : Fleet) → Shows self.now.index.now self.now.agent (option_map route_of self.now.shown) fleet → result ≡ leaves_of fleet agent }
+        ensures { (fleet : Fleet) → Sees self.now fleet → result ≡ leaves_of fleet agent }
     {
         if agent == self.agent {
             match &self.shown {
@@ -119,21 +119,21 @@ impl Sight<'_> {
 
     // The greater of the two agents' last indices.
     fn both_end(&self, first: Agent, second: Agent) -> u32
-        ensures { (fleet : Fleet) → Shows self.now.index.now self.now.agent (option_map route_of self.now.shown) fleet → result ≡ both_end_by fleet first second }
+        ensures { (fleet : Fleet) → Sees self.now fleet → result ≡ both_end_by fleet first second }
     {
         self.last(first).max(self.last(second))
     }
 
     // Whether one of the two agents still moves at the time, or is to leave.
     fn passes(&self, time: u32, first: Agent, second: Agent) -> bool
-        ensures { (fleet : Fleet) → Shows self.now.index.now self.now.agent (option_map route_of self.now.shown) fleet → IsTrue result ↔ ((time < both_end_by fleet first second) ⊎ (Leaves fleet first ⊎ Leaves fleet second)) }
+        ensures { (fleet : Fleet) → Sees self.now fleet → IsTrue result ↔ ((time < both_end_by fleet first second) ⊎ (Leaves fleet first ⊎ Leaves fleet second)) }
     {
         time < self.both_end(first, second) || self.leaves(first) || self.leaves(second)
     }
 
     // Whether a Vertex entry of the two agents stands at the time.
     pub fn vertex(&self, time: u32, first: Agent, second: Agent, cell: Cell) -> bool
-        ensures { (fleet : Fleet) → Shows self.now.index.now self.now.agent (option_map route_of self.now.shown) fleet → IsTrue result ↔ IsVertex fleet time first second cell }
+        ensures { (fleet : Fleet) → Sees self.now fleet → IsTrue result ↔ IsVertex fleet time first second cell }
     {
         first < second
             && self.is_at(first, time, cell)
@@ -143,7 +143,7 @@ impl Sight<'_> {
 
     // Whether a Parked entry of the two agents stands at the time.
     pub fn parked(&self, time: u32, first: Agent, second: Agent, cell: Cell) -> bool
-        ensures { (fleet : Fleet) → Shows self.now.index.now self.now.agent (option_map route_of self.now.shown) fleet → IsTrue result ↔ IsParked fleet time first second cell }
+        ensures { (fleet : Fleet) → Sees self.now fleet → IsTrue result ↔ IsParked fleet time first second cell }
     {
         first < second
             && self.is_at(first, time, cell)
@@ -157,7 +157,7 @@ impl Sight<'_> {
     // be so, and asked last; so it is below.
     pub fn edge(&self, time: u32, first: Agent, second: Agent, cell: Cell, next: Cell) -> bool
         requires { time < u32.MAX }
-        ensures { (fleet : Fleet) → Shows self.now.index.now self.now.agent (option_map route_of self.now.shown) fleet → IsTrue result ↔ IsEdge fleet time first second cell next }
+        ensures { (fleet : Fleet) → Sees self.now fleet → IsTrue result ↔ IsEdge fleet time first second cell next }
     {
         first < second
             && cell != next
@@ -170,7 +170,7 @@ impl Sight<'_> {
     // Whether a Following entry of the two agents stands at the time.
     pub fn following(&self, time: u32, follower: Agent, leader: Agent, cell: Cell) -> bool
         requires { time < u32.MAX }
-        ensures { (fleet : Fleet) → Shows self.now.index.now self.now.agent (option_map route_of self.now.shown) fleet → IsTrue result ↔ IsFollowing fleet time follower leader cell }
+        ensures { (fleet : Fleet) → Sees self.now fleet → IsTrue result ↔ IsFollowing fleet time follower leader cell }
     {
         follower != leader
             && !self.is_at(follower, time, cell)
@@ -182,7 +182,7 @@ impl Sight<'_> {
     // Whether a Swapping entry of the two agents stands at the time.
     pub fn swapping(&self, time: u32, first: Agent, second: Agent, cell: Cell, other: Cell) -> bool
         requires { time < u32.MAX }
-        ensures { (fleet : Fleet) → Shows self.now.index.now self.now.agent (option_map route_of self.now.shown) fleet → IsTrue result ↔ IsSwapping fleet time first second cell other }
+        ensures { (fleet : Fleet) → Sees self.now fleet → IsTrue result ↔ IsSwapping fleet time first second cell other }
     {
         first < second
             && cell != other

@@ -3,7 +3,7 @@ ghost use Rattle.std.specs.Option.{option_map};
 ghost use Rattle.plan_table.specs.Route.{Fleet, route_of};
 ghost use Rattle.mapf_rules.specs.declared.entries.Conflict.{Conflict};
 ghost use Rattle.mapf_rules.specs.Cycles.{IsRingAt};
-ghost use Rattle.conflict_ledger.specs.Sight.{Shows};
+ghost use Rattle.conflict_ledger.specs.Sight.{Sees};
 ghost use Rattle.mapf_rules.specs.Naming.{time_of};
 ghost use Rattle.conflict_ledger.specs.Turns.{IsLeft, IsLeftAt, MayTurn, IsToldAt};
 
@@ -16,7 +16,7 @@ use std::alloc::Global;
 // the agent that moves out of it, there is none, however long the chain of agents ahead is.
 fn may_ring(view: &Sight<'_>, time: u32, cell: Cell) -> bool
     requires { time < u32.MAX }
-    ensures { (fleet : Fleet) (ring : List ℕ) → Shows view.now.index.now view.now.agent (option_map route_of view.now.shown) fleet → IsRingAt fleet time cell ring → IsTrue result }
+    ensures { (fleet : Fleet) (ring : List ℕ) → Sees view.now fleet → IsRingAt fleet time cell ring → IsTrue result }
 {
     match view.sole_mover(time, cell) {
         Some(mover) => view.may_close(time, cell, mover.1),
@@ -33,8 +33,8 @@ fn ring_left_at(
     time: u32,
 ) -> Result<Option<Conflict>, OutOfMemory>
     requires { time < u32.MAX }
-    ensures only { IfOk result (λ found. (fleet : Fleet) → Shows view.now.index.now view.now.agent (option_map route_of view.now.shown) fleet → IfSome found (λ entry. IsLeft fleet (option_map route_of with.now.shown) entry × (time_of entry ≡ time))) }
-    ensures has { IfOk result (λ found. (fleet : Fleet) (ring : List ℕ) → Shows view.now.index.now view.now.agent (option_map route_of view.now.shown) fleet → IsLeftAt fleet (option_map route_of with.now.shown) time ring → found ≡ Some (Conflict.Cycle time ring)) }
+    ensures only { IfOk result (λ found. (fleet : Fleet) → Sees view.now fleet → IfSome found (λ entry. IsLeft fleet (option_map route_of with.now.shown) entry × (time_of entry ≡ time))) }
+    ensures has { IfOk result (λ found. (fleet : Fleet) (ring : List ℕ) → Sees view.now fleet → IsLeftAt fleet (option_map route_of with.now.shown) time ring → found ≡ Some (Conflict.Cycle time ring)) }
 {
     let Some(cell) = with.own(time) else {
         return Ok(None);
@@ -73,8 +73,8 @@ fn ring_told(
     with: &Sight<'_>,
     entry: &Conflict,
 ) -> Result<Option<Conflict>, OutOfMemory>
-    ensures only { IfOk result (λ found. (fleet : Fleet) → Shows view.now.index.now view.now.agent (option_map route_of view.now.shown) fleet → IfSome found (λ ring. IsLeft fleet (option_map route_of with.now.shown) ring × (time_of ring ≡ time_of entry.now) × MayTurn entry.now with.now.agent)) }
-    ensures has { IfOk result (λ found. (fleet other : Fleet) (ring : Conflict) → Shows view.now.index.now view.now.agent (option_map route_of view.now.shown) fleet → Shows with.now.index.now with.now.agent (option_map route_of with.now.shown) other → IsLeft fleet (option_map route_of with.now.shown) ring → time_of ring ≡ time_of entry.now → MayTurn entry.now with.now.agent → found ≡ Some ring) }
+    ensures only { IfOk result (λ found. (fleet : Fleet) → Sees view.now fleet → IfSome found (λ ring. IsLeft fleet (option_map route_of with.now.shown) ring × (time_of ring ≡ time_of entry.now) × MayTurn entry.now with.now.agent)) }
+    ensures has { IfOk result (λ found. (fleet other : Fleet) (ring : Conflict) → Sees view.now fleet → Sees with.now other → IsLeft fleet (option_map route_of with.now.shown) ring → time_of ring ≡ time_of entry.now → MayTurn entry.now with.now.agent → found ≡ Some ring) }
 {
     if !may_turn(entry, with.agent) {
         return Ok(None);
@@ -95,8 +95,8 @@ pub(crate) fn rings_left(
     with: &Sight<'_>,
     entries: &[Conflict],
 ) -> Result<Vec<Conflict>, OutOfMemory>
-    ensures only { IfOk result (λ rings. (fleet : Fleet) → Shows view.now.index.now view.now.agent (option_map route_of view.now.shown) fleet → (entry : Conflict) → Contains rings.items entry → IsLeft fleet (option_map route_of with.now.shown) entry × IsToldAt entries.now with.now.agent (time_of entry)) }
-    ensures has { IfOk result (λ rings. (fleet other : Fleet) → Shows view.now.index.now view.now.agent (option_map route_of view.now.shown) fleet → Shows with.now.index.now with.now.agent (option_map route_of with.now.shown) other → (entry : Conflict) → IsLeft fleet (option_map route_of with.now.shown) entry → IsToldAt entries.now with.now.agent (time_of entry) → Contains rings.items entry) }
+    ensures only { IfOk result (λ rings. (fleet : Fleet) → Sees view.now fleet → (entry : Conflict) → Contains rings.items entry → IsLeft fleet (option_map route_of with.now.shown) entry × IsToldAt entries.now with.now.agent (time_of entry)) }
+    ensures has { IfOk result (λ rings. (fleet other : Fleet) → Sees view.now fleet → Sees with.now other → (entry : Conflict) → IsLeft fleet (option_map route_of with.now.shown) entry → IsToldAt entries.now with.now.agent (time_of entry) → Contains rings.items entry) }
 {
     let mut rings = Vec::new(alloc);
     for entry in entries {

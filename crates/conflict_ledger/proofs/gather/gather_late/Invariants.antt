@@ -2,12 +2,12 @@ use Rattle.std.proofs.Common.{ℕ, ◌<◌, ◌≤◌, get_or}
 use Rattle.std.specs.Option.{option_map}
 use Rattle.plan_table.specs.Route.{Fleet, route_of}
 use Rattle.where_index.specs.declared.passings.Passing.{Passing}
-use Rattle.conflict_ledger.specs.Sight.{Shows}
+use Rattle.conflict_ledger.specs.Sight.{Sees}
 use Rattle.conflict_ledger.specs.Gathering.{Gathers, HasLate}
 use Rattle.conflict_ledger.proofs.gather.gather_late.Given as goal
 
 abbrev pub invariant-loop-passing : goal.invariant-loop-passing
 invariant-loop-passing l = record {
-  gathers : (fleet : Fleet) → Shows l.sight.index.now l.sight.agent (option_map route_of l.sight.shown) fleet → Gathers fleet l.sight.agent (λ t. l.last ≤ t) l.initial.entries.items l.entries.items;
-  has : (fleet : Fleet) → Shows l.sight.index.now l.sight.agent (option_map route_of l.sight.shown) fleet → (k : ℕ) (d : Passing) → k < l.passing-index → HasLate fleet (get_or l.passing-items k d).time l.sight.agent (get_or l.passing-items k d).agent l.rest l.entries.items;
+  gathers : (fleet : Fleet) → Sees l.sight fleet → Gathers fleet l.sight.agent (λ t. l.last ≤ t) l.initial.entries.items l.entries.items;
+  has : (fleet : Fleet) → Sees l.sight fleet → (k : ℕ) (d : Passing) → k < l.passing-index → HasLate fleet (get_or l.passing-items k d).time l.sight.agent (get_or l.passing-items k d).agent l.rest l.entries.items;
 }

@@ -1,12 +1,12 @@
 use Rattle.std.proofs.Common.{ℕ, ◌<◌, ◌≤◌}
 use Rattle.std.specs.Option.{option_map}
 use Rattle.plan_table.specs.Route.{Fleet, route_of}
-use Rattle.conflict_ledger.specs.Sight.{Shows}
+use Rattle.conflict_ledger.specs.Sight.{Sees}
 use Rattle.conflict_ledger.specs.Gathering.{Gathers, HasTime}
 use Rattle.conflict_ledger.proofs.gather.gather_path.Given as goal
 
 abbrev pub invariant-loop-time : goal.invariant-loop-time
 invariant-loop-time l = record {
-  gathers : (fleet : Fleet) → Shows l.sight.index.now l.sight.agent (option_map route_of l.sight.shown) fleet → Gathers fleet l.sight.agent (λ t. (l.from ≤ t) × (t < l.time)) l.initial.entries.items l.entries.items;
-  has : (fleet : Fleet) → Shows l.sight.index.now l.sight.agent (option_map route_of l.sight.shown) fleet → (time : ℕ) → l.from ≤ time → time < l.time → HasTime fleet l.sight.agent time l.entries.items;
+  gathers : (fleet : Fleet) → Sees l.sight fleet → Gathers fleet l.sight.agent (λ t. (l.from ≤ t) × (t < l.time)) l.initial.entries.items l.entries.items;
+  has : (fleet : Fleet) → Sees l.sight fleet → (time : ℕ) → l.from ≤ time → time < l.time → HasTime fleet l.sight.agent time l.entries.items;
 }
