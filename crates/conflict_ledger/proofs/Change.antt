@@ -15,7 +15,7 @@ use Rattle.mapf_rules.specs.declared.entries.Conflict.{Conflict}
 use Rattle.mapf_rules.specs.declared.entries.Conflict.TheVariants.{Vertex, Parked, Edge, Following, Swapping, Cycle}
 use Rattle.mapf_rules.specs.Naming.{Names, IsPair, time_of}
 use Rattle.conflict_ledger.specs.Gathering.{IsMet}
-use Rattle.conflict_ledger.specs.declared.gather.Place.TheVariants.{Beside, Ahead, Behind}
+use Rattle.conflict_ledger.specs.declared.places.Place.TheVariants.{Beside, Ahead, Behind}
 use Rattle.conflict_ledger.specs.Change.{SameBut, RingsAfterArrival}
 use Rattle.mapf_rules.proofs.RoundTrips.{after_within}
 

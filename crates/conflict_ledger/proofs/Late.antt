@@ -8,23 +8,34 @@ use Rattle.grid_cells.specs.Cell.{Point}
 use Rattle.plan_table.specs.Route.{Route, Fleet, position_of, last_of, leaves_of, Leaves}
 use Rattle.plan_table.proofs.Fleets.{changes_early, leaver_early, position_rests, position_sooner, true_or_not}
 use Rattle.where_index.specs.Index.{Contents}
-use Rattle.where_index.specs.Asked.{Passes, IsShared}
+use Rattle.where_index.specs.Asked.{Passes}
 use Rattle.where_index.specs.declared.passings.Passing.{Passing}
 use Rattle.mapf_rules.specs.Entries.{both_end_by, IsVertex, IsParked, IsFollowing}
 use Rattle.mapf_rules.specs.ConflictList.{Stands}
 use Rattle.mapf_rules.specs.Naming.{IsPair, Names, time_of}
-use Rattle.conflict_ledger.specs.Sight.{Shows}
-use Rattle.conflict_ledger.specs.Gathering.{IsWhere, HasMet, HasTime, IsLateOf}
-use Rattle.conflict_ledger.specs.declared.gather.Place.TheVariants.{Beside, Ahead, Behind}
+use Rattle.std.specs.Option.{unwrap_or}
+use Rattle.conflict_ledger.specs.Sight.{Shows, own_place}
+use Rattle.conflict_ledger.specs.Gathering.{IsWhere, IsPassed, HasMet, HasTime, IsLateOf}
+use Rattle.conflict_ledger.specs.declared.places.Place.TheVariants.{Beside, Ahead, Behind}
 use Rattle.mapf_rules.specs.Finding.{KeepsAll}
 use Rattle.conflict_ledger.proofs.Change.{near_of, there, ends}
-use Rattle.conflict_ledger.proofs.Meetings.{ordered}
+use Rattle.conflict_ledger.proofs.Meetings.{ordered, at_now, at_later}
 use Rattle.mapf_rules.specs.declared.entries.Conflict.{Conflict}
 use Rattle.mapf_rules.specs.declared.entries.Conflict.TheVariants.{Vertex, Parked, Edge, Following, Swapping, Cycle}
 
 module _ (index : Contents) (agent : ℕ) (route : Option Route) (fleet : Fleet) (shows : Shows index agent route fleet) where
   pub base_there : (a time : ℕ) (cell : Point) → a ≢ agent → position_of fleet a time ≡ Some cell → position_of shows.base a time ≡ Some cell
   base_there a time cell apart at = there shows.base fleet agent shows.others a time apart ∙ at
+
+  pub fleet_there : (a time : ℕ) (cell : Point) → a ≢ agent → position_of shows.base a time ≡ Some cell → position_of fleet a time ≡ Some cell
+  fleet_there a time cell apart at = sym (there shows.base fleet agent shows.others a time apart) ∙ at
+
+  -- where the route is, there is the agent
+  pub where_own : (time : ℕ) (here next : Point) (now then : Option Point) → now ≡ own_place route time → now ≡ Some here → then ≡ own_place route (time + 1) → next ≡ unwrap_or then here → IsWhere fleet agent time here next
+  where_own time here next now then is_now at is_then is_next = record {
+    now = ap (λ (o : Option Route). own_place o time) shows.own ∙ (sym is_now ∙ at);
+    later = ap (λ (o : Option Route). unwrap_or (own_place o (time + 1)) here) shows.own ∙ (ap (λ (o : Option Point). unwrap_or o here) (sym is_then) ∙ sym is_next);
+  }
 
   -- what those whom the agent meets in the three places give are all its entries then
   pub step_has : (time : ℕ) (here next : Point) → IsWhere fleet agent time here next → (mid entries : List Conflict)
@@ -34,16 +45,12 @@ module _ (index : Contents) (agent : ℕ) (route : Option Route) (fleet : Fleet)
   step_has time here next place mid entries ahead keeps beside behind entry is at =
       let near = near_of fleet agent entry is.pair is.names is.stands in
       elim near.3.1 [
-        | inl w ↦ beside near.0 near.2 (rw (← at) w.1 ∙ ap Some (place.now near.3.0 (rw (← at) w.0))) entry is at near.1 near.2 w.2
+        | inl w ↦ beside near.0 near.2 (rw (← at) w.1 ∙ ap Some (at_now fleet agent near.0 time here next place near.3.0 (rw (← at) w.0))) entry is at near.1 near.2 w.2
         | inr more ↦ elim more [
-          | inl w ↦ keeps entry (ahead near.0 near.2 (rw (← at) w.1 ∙ ap Some (place.later near.3.0 (rw (← at) w.0))) entry is at near.1 near.2 w.2)
-          | inr w ↦ behind near.0 near.2 (rw (← at) w.1 ∙ ap Some (place.now near.3.0 (rw (← at) w.0))) entry is at near.1 near.2 w.2
+          | inl w ↦ keeps entry (ahead near.0 near.2 (rw (← at) w.1 ∙ ap Some (at_later fleet agent near.0 time here next place near.3.0 (rw (← at) w.0))) entry is at near.1 near.2 w.2)
+          | inr w ↦ behind near.0 near.2 (rw (← at) w.1 ∙ ap Some (at_now fleet agent near.0 time here next place near.3.0 (rw (← at) w.0))) entry is at near.1 near.2 w.2
         ]
       ]
-
-  -- who is in the cell at a time shares it
-  pub shares : (other time from to : ℕ) (here : Point) → other ≢ agent → from ≤ time → time ≤ to → position_of fleet other time ≡ Some here → IsShared shows.base here from to agent
-  shares other time from to here apart low high at = record { other = other; apart = apart; time = time; not_before = low; not_after = high; there = base_there other time here apart at }
 
   -- an agent that is nowhere has no entries then
   pub nowhere_has : (time : ℕ) (entries : List Conflict) → position_of fleet agent time ≡ None → HasTime fleet agent time entries
@@ -88,8 +95,23 @@ module _ (index : Contents) (agent : ℕ) (route : Option Route) (fleet : Fleet)
       same_rest : (time : ℕ) (cell : Point) → last < time → position_of fleet agent time ≡ Some cell → cell ≡ rest
       same_rest time cell late at = same_Some cell rest (sym (rests_there time cell late at) ∙ rests)
 
+      -- it is there from its last index on
+      pub rests_on : (time : ℕ) → last ≤ time → position_of fleet agent time ≡ Some rest
+      rests_on time late = elim (true_or_not (leaves_of fleet agent)) [
+        | inl leaves ↦ let early = leaver_early fleet agent (last + 1) rest leaves rests in absurd (omega (arith, is_last))
+        | inr stays ↦ position_rests fleet agent last time stays (omega (arith, is_last)) late ∙ (sym (position_rests fleet agent last (last + 1) stays (omega (arith, is_last)) (omega arith)) ∙ rests)
+      ]
+
+      -- and another one passes it
+      pub passed : (passing : Passing) → passing.agent ≢ agent → Passes shows.base rest (last + 1) passing → IsPassed fleet passing.time agent passing.agent rest
+      passed passing apart passes = record {
+        apart = apart;
+        there = fleet_there passing.agent passing.time rest apart passes.there;
+        rests = λ t late. rests_on t (omega (arith, passes.not_before, late));
+      }
+
       abbrev LatePlace : Conflict → Type 0
-      LatePlace entry = (passing : Passing) × IsLateOf entry passing.time agent passing.agent rest × Passes shows.base rest (last + 1) passing
+      LatePlace entry = (passing : Passing) × IsLateOf entry passing.time agent passing.agent rest × (passing.agent ≢ agent) × Passes shows.base rest (last + 1) passing
 
       passes : (other time : ℕ) (cell : Point) → other ≢ agent → cell ≡ rest → last < time → time ≤ last_of fleet other → position_of fleet other time ≡ Some cell → Passes shows.base rest (last + 1) (record { time = time; agent = other })
       passes other time cell apart same late early at =
@@ -112,13 +134,13 @@ module _ (index : Contents) (agent : ℕ) (route : Option Route) (fleet : Fleet)
             let here : position_of fleet agent x ≡ Some c = subst (λ (a : ℕ). position_of fleet a x ≡ Some c) e h.first_there in
             let apart : q ≢ agent = λ is. omega (arith, h.ordered, e, is) in
             let early = meets_early q x c late here h.second_there (subst (λ (a : ℕ). (x < both_end_by fleet a q) ⊎ (Leaves fleet a ⊎ Leaves fleet q)) e h.passes) in
-            (record { time = x; agent = q }, (refl, same_rest x c late here, inl (e, refl)), passes q x c apart (same_rest x c late here) late early h.second_there)
+            (record { time = x; agent = q }, (refl, same_rest x c late here, inl (e, refl)), apart, passes q x c apart (same_rest x c late here) late early h.second_there)
         | inr e ↦
             let here : position_of fleet agent x ≡ Some c = subst (λ (a : ℕ). position_of fleet a x ≡ Some c) e h.second_there in
             let apart : p ≢ agent = λ is. omega (arith, h.ordered, e, is) in
             let how : (x < both_end_by fleet agent p) ⊎ (Leaves fleet agent ⊎ Leaves fleet p) = turned p x (subst (λ (a : ℕ). (x < both_end_by fleet p a) ⊎ (Leaves fleet p ⊎ Leaves fleet a)) e h.passes) in
             let early = meets_early p x c late here h.first_there how in
-            (record { time = x; agent = p }, (refl, same_rest x c late here, inr (refl, e)), passes p x c apart (same_rest x c late here) late early h.first_there)
+            (record { time = x; agent = p }, (refl, same_rest x c late here, inr (refl, e)), apart, passes p x c apart (same_rest x c late here) late early h.first_there)
       ]
         where
           turned : (b t : ℕ) → (t < both_end_by fleet b agent) ⊎ (Leaves fleet b ⊎ Leaves fleet agent) → (t < both_end_by fleet agent b) ⊎ (Leaves fleet agent ⊎ Leaves fleet b)
@@ -128,12 +150,12 @@ module _ (index : Contents) (agent : ℕ) (route : Option Route) (fleet : Fleet)
             let here : position_of fleet agent x ≡ Some c = subst (λ (a : ℕ). position_of fleet a x ≡ Some c) e h.first_there in
             let apart : q ≢ agent = λ is. omega (arith, h.ordered, e, is) in
             let end : x ≡ both_end_by fleet agent q = subst (λ (a : ℕ). x ≡ both_end_by fleet a q) e h.rests in
-            (record { time = x; agent = q }, (refl, same_rest x c late here, inl (e, refl)), passes q x c apart (same_rest x c late here) late (omega (arith, is_last, late)) h.second_there)
+            (record { time = x; agent = q }, (refl, same_rest x c late here, inl (e, refl)), apart, passes q x c apart (same_rest x c late here) late (omega (arith, is_last, late)) h.second_there)
         | inr e ↦
             let here : position_of fleet agent x ≡ Some c = subst (λ (a : ℕ). position_of fleet a x ≡ Some c) e h.second_there in
             let apart : p ≢ agent = λ is. omega (arith, h.ordered, e, is) in
             let end : x ≡ both_end_by fleet p agent = subst (λ (a : ℕ). x ≡ both_end_by fleet p a) e h.rests in
-            (record { time = x; agent = p }, (refl, same_rest x c late here, inr (refl, e)), passes p x c apart (same_rest x c late here) late (omega (arith, is_last, late)) h.first_there)
+            (record { time = x; agent = p }, (refl, same_rest x c late here, inr (refl, e)), apart, passes p x c apart (same_rest x c late here) late (omega (arith, is_last, late)) h.first_there)
       ]
       late_place (Edge x p q c n) pair names h late = elim names [
         | inl e ↦ absurd (still x late (λ same. h.moves (same_Some c n (sym (subst (λ (a : ℕ). position_of fleet a x ≡ Some c) e h.first_from) ∙ same ∙ subst (λ (a : ℕ). position_of fleet a (x + 1) ≡ Some n) e h.first_to))))
@@ -145,7 +167,7 @@ module _ (index : Contents) (agent : ℕ) (route : Option Route) (fleet : Fleet)
             let here : position_of fleet agent x ≡ Some c = subst (λ (a : ℕ). position_of fleet a x ≡ Some c) e h.leader_there in
             let apart : f ≢ agent = λ is. h.two (is ∙ sym e) in
             let early = comes_early f x c h.moves h.follower_to in
-            (record { time = x + 1; agent = f }, (refl, same_rest x c late here, refl, e), passes f (x + 1) c apart (same_rest x c late here) (omega arith) early h.follower_to)
+            (record { time = x + 1; agent = f }, (refl, same_rest x c late here, refl, e), apart, passes f (x + 1) c apart (same_rest x c late here) (omega arith) early h.follower_to)
       ]
       late_place (Swapping x p q c n) pair names h late = elim names [
         | inl e ↦ absurd (still x late (λ same. h.moves (same_Some c n (sym (subst (λ (a : ℕ). position_of fleet a x ≡ Some c) e h.first_from) ∙ same ∙ subst (λ (a : ℕ). position_of fleet a (x + 1) ≡ Some n) e h.first_to))))

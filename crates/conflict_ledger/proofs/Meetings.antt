@@ -1,15 +1,15 @@
 -- The entries that one agent has with another where they meet.
 use Rattle.std.proofs.Common.{◌≡◌, ◌≢◌, ◌⊎◌, inl, inr, ℕ, ◌+◌, ◌<◌, Some, None, Option, refl, sym, ap, subst, ◌∙◌, arith}
-use mathlib.Core.Bool.{false≢true}
-use Rattle.std.specs.Prelude.{min, max, IsSome}
+use Rattle.std.specs.Prelude.{min, max}
 use Rattle.std.proofs.lemmas.Bool.{cases_lt}
+use Rattle.std.proofs.lemmas.Option.{same_Some}
+use Rattle.std.specs.Option.{unwrap_or}
 use Rattle.grid_cells.specs.Cell.{Point}
 use Rattle.plan_table.specs.Route.{Fleet, position_of}
-use Rattle.plan_table.proofs.Fleets.{position_sooner}
 use Rattle.mapf_rules.specs.Entries.{IsVertex, IsParked, IsEdge, IsFollowing, IsSwapping}
 use Rattle.mapf_rules.specs.Naming.{Names, time_of}
-use Rattle.conflict_ledger.specs.Gathering.{IsAgents, IsWhere, IsMet}
-use Rattle.conflict_ledger.specs.declared.gather.Place.TheVariants.{Beside, Ahead}
+use Rattle.conflict_ledger.specs.Gathering.{IsAgents, IsWhere, IsMet, AreTogether}
+use Rattle.conflict_ledger.specs.declared.places.Place.TheVariants.{Beside, Ahead, Behind}
 use Rattle.mapf_rules.specs.declared.entries.Conflict.{Conflict}
 use Rattle.mapf_rules.specs.declared.entries.Conflict.TheVariants.{Vertex, Parked, Edge, Following, Swapping}
 
@@ -37,7 +37,33 @@ module _ (one other : ℕ) where
     | inr w ↦ (omega (arith, w.0, w.1), omega (arith, w.0, w.1))
   ]
 
+  -- of two agents in order each has what both have
+  both_have : (P : ℕ → Type 0) (first second : ℕ) → first ≡ min one other → second ≡ max one other → other ≢ one → P one → P other → (first < second) × P first × P second
+  both_have P first second least most apart p q = elim (cases_lt other one) [
+    | inl lower ↦ (omega (arith), subst P (omega arith) q, subst P (omega arith) p)
+    | inr higher ↦ let lt : one < other = grind arith in (omega arith, subst P (omega arith) p, subst P (omega arith) q)
+  ]
+
+  pub together : (fleet : Fleet) (time : ℕ) (cell : Point) (first second : ℕ) → first ≡ min one other → second ≡ max one other → other ≢ one → position_of fleet one time ≡ Some cell → position_of fleet other time ≡ Some cell → AreTogether fleet time first second cell
+  together fleet time cell first second least most apart here there =
+      let both = both_have (λ (a : ℕ). position_of fleet a time ≡ Some cell) first second least most apart here there in
+      record { ordered = both.0; first_there = both.1; second_there = both.2 }
+
 module _ (fleet : Fleet) (agent other time : ℕ) (here next : Point) (place : IsWhere fleet agent time here next) where
+  pub at_now : (cell : Point) → position_of fleet agent time ≡ Some cell → cell ≡ here
+  at_now cell at = same_Some cell here (sym at ∙ place.now)
+
+  pub at_later : (cell : Point) → position_of fleet agent (time + 1) ≡ Some cell → cell ≡ next
+  at_later cell at = ap (λ (o : Option Point). unwrap_or o here) (sym at) ∙ place.later
+
+  -- an agent that doesn't stay goes to the next cell
+  pub goes_on : here ≢ next → position_of fleet agent (time + 1) ≡ Some next
+  goes_on moves = by_place (position_of fleet agent (time + 1)) refl
+    where
+      by_place : (o : Option Point) → position_of fleet agent (time + 1) ≡ o → position_of fleet agent (time + 1) ≡ Some next
+      by_place None e = absurd (moves (ap (λ (o : Option Point). unwrap_or o here) (sym e) ∙ place.later))
+      by_place (Some cell) e = e ∙ ap Some (at_later cell e)
+
   module _ (first second : ℕ) (least : first ≡ min agent other) (most : second ≡ max agent other) (m e : Option Conflict)
       (vs : IsVertex fleet time first second here → m ≡ Some (Vertex time first second here)) (ps : IsParked fleet time first second here → m ≡ Some (Parked time first second here))
       (es : IsEdge fleet time first second here next → e ≡ Some (Edge time first second here next)) where
@@ -51,18 +77,18 @@ module _ (fleet : Fleet) (agent other time : ℕ) (here next : Point) (place : I
     met_beside (Vertex x a b c) is at two apart met =
         let same = ordered agent other a b first second least most is.stands.ordered (both_named agent other a b is.names two apart) in
         let h : IsVertex fleet time first second c = rw (← at, ← same.0, ← same.1) is.stands in
-        let cell : c ≡ here = place.now c (both_at time c h.first_there h.second_there) in
+        let cell : c ≡ here = at_now c (both_at time c h.first_there h.second_there) in
         inl (vs (rw (← cell) h) ∙ rw (at, same.0, same.1, cell) refl)
     met_beside (Parked x a b c) is at two apart met =
         let same = ordered agent other a b first second least most is.stands.ordered (both_named agent other a b is.names two apart) in
         let h : IsParked fleet time first second c = rw (← at, ← same.0, ← same.1) is.stands in
-        let cell : c ≡ here = place.now c (both_at time c h.first_there h.second_there) in
+        let cell : c ≡ here = at_now c (both_at time c h.first_there h.second_there) in
         inl (ps (rw (← cell) h) ∙ rw (at, same.0, same.1, cell) refl)
     met_beside (Edge x a b c n) is at two apart met =
         let same = ordered agent other a b first second least most is.stands.ordered (both_named agent other a b is.names two apart) in
         let h : IsEdge fleet time first second c n = rw (← at, ← same.0, ← same.1) is.stands in
-        let cell : c ≡ here = place.now c (both_at time c h.first_from h.second_from) in
-        let goal : n ≡ next = place.later n (both_at (time + 1) n h.first_to h.second_to) in
+        let cell : c ≡ here = at_now c (both_at time c h.first_from h.second_from) in
+        let goal : n ≡ next = at_later n (both_at (time + 1) n h.first_to h.second_to) in
         inr (es (rw (← cell, ← goal) h) ∙ rw (at, same.0, same.1, cell, goal) refl)
     met_beside entry is at two apart met = absurd met
 
@@ -72,29 +98,25 @@ module _ (fleet : Fleet) (agent other time : ℕ) (here next : Point) (place : I
   met_ahead f s t fs ss ts (Following x a b c) is at two apart met =
       let led : b ≡ other = elim two [ inl e ↦ absurd (apart (sym e ∙ met)) | inr e ↦ e ] in
       let h : IsFollowing fleet time agent other c = rw (← at, ← met, ← led) is.stands in
-      let cell : c ≡ next = place.later c h.follower_to in
+      let cell : c ≡ next = at_later c h.follower_to in
       inl (fs (rw (← cell) h) ∙ rw (at, met, led, cell) refl)
   met_ahead f s t fs ss ts (Swapping x a b c n) is at two apart met = elim (both_named agent other a b is.names two apart) [
     | inl w ↦
         let h : IsSwapping fleet time agent other c n = rw (← at, ← w.0, ← w.1) is.stands in
-        let cell : c ≡ here = place.now c h.first_from in
-        let goal : n ≡ next = place.later n h.first_to in
+        let cell : c ≡ here = at_now c h.first_from in
+        let goal : n ≡ next = at_later n h.first_to in
         inr (inl (ss (rw (← cell, ← goal) h) ∙ rw (at, w.0, w.1, cell, goal) refl))
     | inr w ↦
         let h : IsSwapping fleet time other agent c n = rw (← at, ← w.0, ← w.1) is.stands in
-        let cell : n ≡ here = place.now n h.second_from in
-        let goal : c ≡ next = place.later c h.second_to in
+        let cell : n ≡ here = at_now n h.second_from in
+        let goal : c ≡ next = at_later c h.second_to in
         inr (inr (ts (rw (← cell, ← goal) h) ∙ rw (at, w.0, w.1, cell, goal) refl))
   ]
   met_ahead f s t fs ss ts entry is at two apart met = absurd met
 
   -- an agent that goes on to the cell where it is doesn't move
   moved : here ≡ next → (cell : Point) → position_of fleet agent (time + 1) ≡ Some cell → position_of fleet agent time ≡ Some cell
-  moved still cell to = by_place (position_of fleet agent time) refl (position_sooner fleet agent time (rw to refl))
-    where
-      by_place : (o : Option Point) → position_of fleet agent time ≡ o → IsSome o → position_of fleet agent time ≡ Some cell
-      by_place None e some = absurd (false≢true some)
-      by_place (Some start) e some = e ∙ ap Some (place.now start e ∙ (still ∙ sym (place.later cell to)))
+  moved still cell to = place.now ∙ ap Some (still ∙ sym (at_later cell to))
 
   -- and meets nobody ahead
   pub still_ahead : here ≡ next → (entry : Conflict) → IsAgents fleet agent entry → time_of entry ≡ time → IsMet Ahead entry agent → ⊥
@@ -104,9 +126,17 @@ module _ (fleet : Fleet) (agent other time : ℕ) (here next : Point) (place : I
   still_ahead still (Swapping x a b c n) is at met = elim is.names [
     | inl e ↦
         let h : IsSwapping fleet time agent b c n = rw (← at, ← e) is.stands in
-        h.moves (place.now c h.first_from ∙ (still ∙ sym (place.later n h.first_to)))
+        h.moves (at_now c h.first_from ∙ (still ∙ sym (at_later n h.first_to)))
     | inr e ↦
         let h : IsSwapping fleet time a agent c n = rw (← at, ← e) is.stands in
-        h.moves (place.later c h.second_to ∙ (sym still ∙ sym (place.now n h.second_from)))
+        h.moves (at_later c h.second_to ∙ (sym still ∙ sym (at_now n h.second_from)))
   ]
   still_ahead still entry is at met = absurd met
+
+  -- an agent that is in the cell already follows nobody into it
+  pub behind_moves : (entry : Conflict) → IsAgents fleet agent entry → time_of entry ≡ time → Names entry other → other ≢ agent → IsMet Behind entry agent → position_of fleet other time ≡ Some here → ⊥
+  behind_moves (Following x a b c) is at two apart met there =
+      let led : a ≡ other = elim two [ inl e ↦ e | inr e ↦ absurd (apart (sym e ∙ met)) ] in
+      let h : IsFollowing fleet time other agent c = rw (← at, ← led, ← met) is.stands in
+      h.moves (there ∙ ap Some (sym (at_now c h.leader_there)))
+  behind_moves entry is at two apart met there = absurd met

@@ -1,5 +1,6 @@
 -- What a search beside one agent's track has gathered: words for the ledger's own steps (this project's choice).
-use Rattle.std.specs.Prelude.{◌≡◌, ◌≢◌, ◌⊎◌, ℕ, ◌+◌, Some, List, Contains}
+use Rattle.std.specs.Prelude.{◌≡◌, ◌≢◌, ◌⊎◌, ℕ, ◌+◌, ◌<◌, ◌≤◌, Bool, nat_lt, if◌then◌else◌, Some, List, Contains}
+use Rattle.std.specs.Option.{unwrap_or}
 use Rattle.grid_cells.specs.Cell.{Point}
 use Rattle.plan_table.specs.Route.{Fleet, position_of}
 use Rattle.mapf_rules.specs.ConflictList.{Stands}
@@ -9,8 +10,9 @@ use Rattle.conflict_ledger.specs.Spans.{IsIn}
 use Rattle.conflict_ledger.specs.declared.spans.Span.{Span}
 use Rattle.mapf_rules.specs.declared.entries.Conflict.{Conflict}
 use Rattle.mapf_rules.specs.declared.entries.Conflict.TheVariants.{Vertex, Parked, Edge, Following, Swapping, Cycle}
-use Rattle.conflict_ledger.specs.declared.gather.Place.{Place}
-use Rattle.conflict_ledger.specs.declared.gather.Place.TheVariants.{Beside, Ahead, Behind}
+use Rattle.where_index.specs.declared.spots.Spot.{Spot}
+use Rattle.conflict_ledger.specs.declared.places.Place.{Place}
+use Rattle.conflict_ledger.specs.declared.places.Place.TheVariants.{Beside, Ahead, Behind}
 
 -- the entry is of two agents, stands, and names the agent
 pub record IsAgents (fleet : Fleet) (agent : ℕ) (entry : Conflict) : Type 0 where
@@ -28,10 +30,30 @@ pub record AreAgents (fleet : Fleet) (agent : ℕ) (span : Span) (entries : List
   pub only : (entry : Conflict) → Contains entries entry → IsAgents fleet agent entry × IsIn span (time_of entry)
   pub has : (entry : Conflict) → IsAgents fleet agent entry → IsIn span (time_of entry) → Contains entries entry
 
--- the agent is in the cell at the time, if it is anywhere, and in the next one a step later
+-- the agent is in the cell at the time, and one step later in the next one, or nowhere
 pub record IsWhere (fleet : Fleet) (agent time : ℕ) (here next : Point) : Type 0 where
-  pub now : (cell : Point) → position_of fleet agent time ≡ Some cell → cell ≡ here
-  pub later : (cell : Point) → position_of fleet agent (time + 1) ≡ Some cell → cell ≡ next
+  pub now : position_of fleet agent time ≡ Some here
+  pub later : unwrap_or (position_of fleet agent (time + 1)) here ≡ next
+
+-- two agents, in order, are in the cell at the time
+pub record AreTogether (fleet : Fleet) (time first second : ℕ) (cell : Point) : Type 0 where
+  pub ordered : first < second
+  pub first_there : position_of fleet first time ≡ Some cell
+  pub second_there : position_of fleet second time ≡ Some cell
+
+-- the other agent is in that place, where one goes from here to the next cell in the step that begins at the time
+abbrev pub IsNear : Place → Fleet → ℕ → ℕ → Point → Point → Type 0
+IsNear Beside fleet other time here next = position_of fleet other time ≡ Some here
+IsNear Ahead fleet other time here next = (here ≢ next) × (position_of fleet other time ≡ Some next)
+IsNear Behind fleet other time here next = position_of fleet other (time + 1) ≡ Some here
+
+-- in which place the spot shows its agent, ahead or in the cell where one is as the step begins
+abbrev pub place_of : Bool → Spot → ℕ → Place
+place_of ahead s time = if ahead then Ahead else (if nat_lt time s.time then Behind else Beside)
+
+-- the spots of others show them in their places
+abbrev pub AreNear : Fleet → ℕ → ℕ → Bool → Point → Point → List Spot → Type 0
+AreNear fleet agent time ahead here next spots = (s : Spot) → Contains spots s → s.agent ≢ agent → IsNear (place_of ahead s time) fleet s.agent time here next
 
 -- the agent meets the other one of the entry in that place
 abbrev pub IsMet : Place → Conflict → ℕ → Type 0
@@ -48,6 +70,10 @@ abbrev pub HasMet : Fleet → ℕ → ℕ → Place → ℕ → List Conflict �
 HasMet fleet agent time place other entries =
     (entry : Conflict) → IsAgents fleet agent entry → time_of entry ≡ time → Names entry other → other ≢ agent → IsMet place entry agent → Contains entries entry
 
+-- each entry of the agent at that time with one whom the spots show is there
+abbrev pub HasSpots : Fleet → ℕ → ℕ → Bool → List Spot → List Conflict → Type 0
+HasSpots fleet agent time ahead spots entries = (s : Spot) → Contains spots s → HasMet fleet agent time (place_of ahead s time) s.agent entries
+
 -- each entry of two agents that names the agent, at that time, is there
 abbrev pub HasTime : Fleet → ℕ → ℕ → List Conflict → Type 0
 HasTime fleet agent time entries = (entry : Conflict) → IsAgents fleet agent entry → time_of entry ≡ time → Contains entries entry
@@ -62,6 +88,12 @@ IsLateOf (Following time follower leader cell) x agent other rest = (time + 1 �
 IsLateOf (Swapping time first second cell next) x agent other rest = ⊥
 IsLateOf (Cycle time ring) x agent other rest = ⊥
 
--- each such entry is there
+-- the agent rests in the cell where the other one is at the time, and is in it one step before too
+pub record IsPassed (fleet : Fleet) (time agent other : ℕ) (rest : Point) : Type 0 where
+  pub apart : other ≢ agent
+  pub there : position_of fleet other time ≡ Some rest
+  pub rests : (t : ℕ) → time ≤ t + 1 → position_of fleet agent t ≡ Some rest
+
+-- each such entry of another one is there
 abbrev pub HasLate : Fleet → ℕ → ℕ → ℕ → Point → List Conflict → Type 0
-HasLate fleet time agent other rest entries = (entry : Conflict) → Stands fleet entry → IsLateOf entry time agent other rest → Contains entries entry
+HasLate fleet time agent other rest entries = other ≢ agent → (entry : Conflict) → Stands fleet entry → IsLateOf entry time agent other rest → Contains entries entry

@@ -1,151 +1,22 @@
 ghost use Rattle.std.specs.Prelude.{◌≡◌, ◌⊎◌, ◌↔◌, ℕ, ◌+◌, ◌-◌, ◌<◌, ◌≤◌, ◌≢◌, min, max, Some, OnOk, IfOk, IfSome, Contains};
-ghost use Rattle.std.specs.Option.{option_map};
 ghost use Rattle.grid_cells.specs.Cell.{Point};
-ghost use Rattle.plan_table.specs.Route.{Fleet, position_of, last_of, route_of};
+ghost use Rattle.plan_table.specs.Route.{Fleet, position_of, last_of};
 ghost use Rattle.mapf_rules.specs.declared.entries.Conflict.{Conflict};
-ghost use Rattle.conflict_ledger.specs.declared.gather.Place.{Place};
-ghost use Rattle.mapf_rules.specs.Entries.{IsVertex, IsParked, IsEdge, IsFollowing, IsSwapping};
-ghost use Rattle.mapf_rules.specs.ConflictList.{Stands};
-ghost use Rattle.mapf_rules.specs.Naming.{IsOfPair};
+ghost use Rattle.conflict_ledger.specs.declared.places.Place.{Place};
 ghost use Rattle.conflict_ledger.specs.Sight.{Sees};
-ghost use Rattle.conflict_ledger.specs.Gathering.{Gathers, AreAgents, IsWhere, HasMet, HasTime, HasLate};
+ghost use Rattle.conflict_ledger.specs.Gathering.{Gathers, AreAgents, IsWhere, IsNear, AreNear, HasMet, HasSpots, HasTime};
 ghost use Rattle.mapf_rules.specs.Finding.{Offers};
 ghost use Rattle.conflict_ledger.specs.Spans.{Fits};
 
+use crate::places::{Place, edge_of, following_of, in_order, meeting_of, place_of, swapping_of};
+use crate::resting::gather_late;
 use crate::sight::Sight;
 use crate::spans::Span;
 use grid_cells::{Agent, Cell, OutOfMemory, Step};
 use mapf_rules::{Conflict, offer};
 use std::alloc::Global;
-
-// Where the agent meets the other one of an entry: beside it as the step begins, ahead of it then, or
-// behind it as the step ends.
-#[derive(Clone, Copy)]
-pub enum Place {
-    Beside,
-    Ahead,
-    Behind,
-}
-
-// The entry of two agents that meet in the cell at the time: Vertex or Parked, and never both.
-fn meeting_of(
-    sight: &Sight<'_>,
-    time: u32,
-    first: Agent,
-    second: Agent,
-    cell: Cell,
-) -> Option<Conflict>
-    ensures stands { (fleet : Fleet) → Sees sight.now fleet → IfSome result (Stands fleet) }
-    ensures pair { IfSome result (λ entry. IsOfPair entry time first second) }
-    ensures vertex { (fleet : Fleet) → Sees sight.now fleet → IsVertex fleet time first second cell → result ≡ Some (Conflict.Vertex time first second cell) }
-    ensures parked { (fleet : Fleet) → Sees sight.now fleet → IsParked fleet time first second cell → result ≡ Some (Conflict.Parked time first second cell) }
-{
-    if sight.vertex(time, first, second, cell) {
-        return Some(Conflict::Vertex {
-            time: Step::new(time),
-            first,
-            second,
-            cell,
-        });
-    }
-    if sight.parked(time, first, second, cell) {
-        Some(Conflict::Parked {
-            time: Step::new(time),
-            first,
-            second,
-            cell,
-        })
-    } else {
-        None
-    }
-}
-
-fn edge_of(
-    sight: &Sight<'_>,
-    time: u32,
-    first: Agent,
-    second: Agent,
-    cell: Cell,
-    next: Cell,
-) -> Option<Conflict>
-    requires { time < u32.MAX }
-    ensures stands { (fleet : Fleet) → Sees sight.now fleet → IfSome result (Stands fleet) }
-    ensures pair { IfSome result (λ entry. IsOfPair entry time first second) }
-    ensures found { (fleet : Fleet) → Sees sight.now fleet → IsEdge fleet time first second cell next → result ≡ Some (Conflict.Edge time first second cell next) }
-{
-    if sight.edge(time, first, second, cell, next) {
-        Some(Conflict::Edge {
-            time: Step::new(time),
-            first,
-            second,
-            cell,
-            next,
-        })
-    } else {
-        None
-    }
-}
-
-fn following_of(
-    sight: &Sight<'_>,
-    time: u32,
-    follower: Agent,
-    leader: Agent,
-    cell: Cell,
-) -> Option<Conflict>
-    requires { time < u32.MAX }
-    ensures stands { (fleet : Fleet) → Sees sight.now fleet → IfSome result (Stands fleet) }
-    ensures pair { IfSome result (λ entry. IsOfPair entry time follower leader) }
-    ensures found { (fleet : Fleet) → Sees sight.now fleet → IsFollowing fleet time follower leader cell → result ≡ Some (Conflict.Following time follower leader cell) }
-{
-    if sight.following(time, follower, leader, cell) {
-        Some(Conflict::Following {
-            time: Step::new(time),
-            follower,
-            leader,
-            cell,
-        })
-    } else {
-        None
-    }
-}
-
-fn swapping_of(
-    sight: &Sight<'_>,
-    time: u32,
-    first: Agent,
-    second: Agent,
-    cell: Cell,
-    other: Cell,
-) -> Option<Conflict>
-    requires { time < u32.MAX }
-    ensures stands { (fleet : Fleet) → Sees sight.now fleet → IfSome result (Stands fleet) }
-    ensures pair { IfSome result (λ entry. IsOfPair entry time first second) }
-    ensures found { (fleet : Fleet) → Sees sight.now fleet → IsSwapping fleet time first second cell other → result ≡ Some (Conflict.Swapping time first second cell other) }
-{
-    if sight.swapping(time, first, second, cell, other) {
-        Some(Conflict::Swapping {
-            time: Step::new(time),
-            first,
-            second,
-            cell,
-            other,
-        })
-    } else {
-        None
-    }
-}
-
-// The lesser and the greater of two agents.
-fn in_order(one: Agent, other: Agent) -> (Agent, Agent)
-    ensures { (result.0 ≡ min one other) × (result.1 ≡ max one other) }
-{
-    if one < other {
-        (one, other)
-    } else {
-        (other, one)
-    }
-}
+use std::collections::btree_set::Range;
+use where_index::Spot;
 
 // Adds the entries that the agent has in that step with the other one where they meet in that place.
 fn offer_met(
@@ -158,10 +29,13 @@ fn offer_met(
     next: Cell,
 ) -> Result<(), OutOfMemory>
     requires { time < u32.MAX }
-    ensures gathers { OnOk result ((fleet : Fleet) → Sees sight.now fleet → Gathers fleet sight.now.agent (λ t. t ≡ time) entries.old.items entries.new.items) }
+    ensures gathers { OnOk result ((fleet : Fleet) → Sees sight.now fleet → IsWhere fleet sight.now.agent time here next → (other ≢ sight.now.agent → IsNear place fleet other time here next) → Gathers fleet sight.now.agent (λ t. t ≡ time) entries.old.items entries.new.items) }
     ensures has { OnOk result ((fleet : Fleet) → Sees sight.now fleet → IsWhere fleet sight.now.agent time here next → HasMet fleet sight.now.agent time place other entries.new.items) }
 {
     let agent = sight.agent;
+    if other == agent {
+        return Ok(());
+    }
     match place {
         Place::Beside => {
             let (first, second) = in_order(agent, other);
@@ -182,22 +56,23 @@ fn offer_met(
     }
 }
 
-// Adds the entries that the agent has in that step with each of the others met in that place.
-fn offer_all(
+// Adds the entries that the agent has in that step with each whom the spots show, ahead of it or not.
+fn offer_spots(
     sight: &Sight<'_>,
     entries: &mut Vec<Conflict>,
     time: u32,
-    place: Place,
-    others: &[Agent],
+    ahead: bool,
+    spots: Range<'_, Spot>,
     here: Cell,
     next: Cell,
 ) -> Result<(), OutOfMemory>
     requires { time < u32.MAX }
-    ensures gathers { OnOk result ((fleet : Fleet) → Sees sight.now fleet → Gathers fleet sight.now.agent (λ t. t ≡ time) entries.old.items entries.new.items) }
-    ensures has { OnOk result ((fleet : Fleet) → Sees sight.now fleet → IsWhere fleet sight.now.agent time here next → (other : ℕ) → Contains others.now other → HasMet fleet sight.now.agent time place other entries.new.items) }
+    ensures gathers { OnOk result ((fleet : Fleet) → Sees sight.now fleet → IsWhere fleet sight.now.agent time here next → AreNear fleet sight.now.agent time ahead here next spots.entry → Gathers fleet sight.now.agent (λ t. t ≡ time) entries.old.items entries.new.items) }
+    ensures has { OnOk result ((fleet : Fleet) → Sees sight.now fleet → IsWhere fleet sight.now.agent time here next → AreNear fleet sight.now.agent time ahead here next spots.entry → HasSpots fleet sight.now.agent time ahead spots.entry entries.new.items) }
 {
-    for other in others {
-        offer_met(sight, entries, time, place, *other, here, next)?;
+    for spot in spots {
+        let place = place_of(ahead, spot, time);
+        offer_met(sight, entries, time, place, spot.agent, here, next)?;
     }
     Ok(())
 }
@@ -211,26 +86,16 @@ fn gather_ahead(
     next: Cell,
 ) -> Result<(), OutOfMemory>
     requires { time < u32.MAX }
-    ensures gathers { OnOk result ((fleet : Fleet) → Sees sight.now fleet → Gathers fleet sight.now.agent (λ t. t ≡ time) entries.old.items entries.new.items) }
+    ensures gathers { OnOk result ((fleet : Fleet) → Sees sight.now fleet → IsWhere fleet sight.now.agent time here next → Gathers fleet sight.now.agent (λ t. t ≡ time) entries.old.items entries.new.items) }
     ensures has { OnOk result ((fleet : Fleet) → Sees sight.now fleet → IsWhere fleet sight.now.agent time here next → (other : ℕ) → other ≢ sight.now.agent → position_of fleet other time ≡ Some next → HasMet fleet sight.now.agent time Place.Ahead other entries.new.items) }
 {
     if here == next {
         return Ok(());
     }
     let now = Step::new(time);
-    if !sight.index.is_shared(next, now, now, sight.agent) {
-        return Ok(());
-    }
-    let ahead = sight.index.standing_at(now, next)?;
-    offer_all(
-        sight,
-        entries,
-        time,
-        Place::Ahead,
-        ahead.items(),
-        here,
-        next,
-    )?;
+    let found = sight.index.occupants(next, now, now);
+    offer_spots(sight, entries, time, true, found.stands, here, next)?;
+    offer_spots(sight, entries, time, true, found.tails, here, next)?;
     Ok(())
 }
 
@@ -243,34 +108,15 @@ fn gather_here(
     next: Cell,
 ) -> Result<(), OutOfMemory>
     requires { time < u32.MAX }
-    ensures gathers { OnOk result ((fleet : Fleet) → Sees sight.now fleet → Gathers fleet sight.now.agent (λ t. t ≡ time) entries.old.items entries.new.items) }
+    ensures gathers { OnOk result ((fleet : Fleet) → Sees sight.now fleet → IsWhere fleet sight.now.agent time here next → Gathers fleet sight.now.agent (λ t. t ≡ time) entries.old.items entries.new.items) }
     ensures beside { OnOk result ((fleet : Fleet) → Sees sight.now fleet → IsWhere fleet sight.now.agent time here next → (other : ℕ) → other ≢ sight.now.agent → position_of fleet other time ≡ Some here → HasMet fleet sight.now.agent time Place.Beside other entries.new.items) }
     ensures behind { OnOk result ((fleet : Fleet) → Sees sight.now fleet → IsWhere fleet sight.now.agent time here next → (other : ℕ) → other ≢ sight.now.agent → position_of fleet other (time + 1) ≡ Some here → HasMet fleet sight.now.agent time Place.Behind other entries.new.items) }
 {
-    let (now, later) = (Step::new(time), Step::new(time + 1));
-    if !sight.index.is_shared(here, now, later, sight.agent) {
-        return Ok(());
-    }
-    let beside = sight.index.standing_at(now, here)?;
-    offer_all(
-        sight,
-        entries,
-        time,
-        Place::Beside,
-        beside.items(),
-        here,
-        next,
-    )?;
-    let behind = sight.index.standing_at(later, here)?;
-    offer_all(
-        sight,
-        entries,
-        time,
-        Place::Behind,
-        behind.items(),
-        here,
-        next,
-    )?;
+    let found = sight
+        .index
+        .occupants(here, Step::new(time), Step::new(time + 1));
+    offer_spots(sight, entries, time, false, found.stands, here, next)?;
+    offer_spots(sight, entries, time, false, found.tails, here, next)?;
     Ok(())
 }
 
@@ -283,7 +129,7 @@ fn gather_step(
     next: Cell,
 ) -> Result<(), OutOfMemory>
     requires { time < u32.MAX }
-    ensures gathers { OnOk result ((fleet : Fleet) → Sees sight.now fleet → Gathers fleet sight.now.agent (λ t. t ≡ time) entries.old.items entries.new.items) }
+    ensures gathers { OnOk result ((fleet : Fleet) → Sees sight.now fleet → IsWhere fleet sight.now.agent time here next → Gathers fleet sight.now.agent (λ t. t ≡ time) entries.old.items entries.new.items) }
     ensures has { OnOk result ((fleet : Fleet) → Sees sight.now fleet → IsWhere fleet sight.now.agent time here next → HasTime fleet sight.now.agent time entries.new.items) }
 {
     gather_ahead(sight, entries, time, here, next)?;
@@ -317,44 +163,6 @@ fn gather_path(
 {
     for time in from..last + 1 {
         gather_at(sight, entries, time)?;
-    }
-    Ok(())
-}
-
-// Adds the entries of the agent, at rest in that cell, and another one that is there at the time.
-fn offer_passing(
-    sight: &Sight<'_>,
-    entries: &mut Vec<Conflict>,
-    time: u32,
-    other: Agent,
-    rest: Cell,
-) -> Result<(), OutOfMemory>
-    ensures gathers { OnOk result ((fleet : Fleet) → Sees sight.now fleet → Gathers fleet sight.now.agent (λ t. time ≤ t + 1) entries.old.items entries.new.items) }
-    ensures has { OnOk result ((fleet : Fleet) → Sees sight.now fleet → HasLate fleet time sight.now.agent other rest entries.new.items) }
-{
-    let (first, second) = in_order(sight.agent, other);
-    offer(entries, meeting_of(sight, time, first, second, rest))?;
-    if time > 0 {
-        offer(
-            entries,
-            following_of(sight, time - 1, other, sight.agent, rest),
-        )?;
-    }
-    Ok(())
-}
-
-// Adds the entries of the agent after the last index of its path.
-fn gather_late(sight: &Sight<'_>, entries: &mut Vec<Conflict>, last: u32) -> Result<(), OutOfMemory>
-    requires { last < u32.MAX }
-    ensures gathers { OnOk result ((fleet : Fleet) → Sees sight.now fleet → Gathers fleet sight.now.agent (λ t. last ≤ t) entries.old.items entries.new.items) }
-    ensures has { OnOk result ((fleet : Fleet) → Sees sight.now fleet → last ≡ last_of fleet sight.now.agent → (time : ℕ) → last < time → HasTime fleet sight.now.agent time entries.new.items) }
-{
-    let Some(rest) = sight.own(last + 1) else {
-        return Ok(());
-    };
-    let passings = sight.index.coming_through(rest, Step::new(last + 1))?;
-    for passing in passings.items() {
-        offer_passing(sight, entries, passing.time, passing.agent, rest)?;
     }
     Ok(())
 }

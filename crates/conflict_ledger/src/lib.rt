@@ -7,6 +7,8 @@ mod kept;
 mod least;
 mod ledger;
 mod movers;
+mod places;
+mod resting;
 mod sight;
 mod spans;
 mod turns;

@@ -1,6 +1,4 @@
 ghost use Rattle.std.specs.Prelude.{◌≡◌, ◌⊎◌, ◌↔◌, ◌≢◌, ℕ, ◌+◌, ◌<◌, Option, Some, None, IfSome, IfNone, IsSome, IsTrue, Contains, length, slice_index_or};
-ghost use Rattle.std.specs.Option.{option_map};
-ghost use Rattle.plan_table.specs.Route.{route_of};
 ghost use Rattle.grid_cells.specs.Cell.{Point};
 ghost use Rattle.where_index.specs.declared.moves.Move.{Move};
 ghost use Rattle.where_index.specs.Index.{StandsFor};

@@ -2,7 +2,7 @@ ghost use Rattle.std.specs.Prelude.{◌≡◌, ◌≢◌, ◌⊎◌, ◌↔◌, 
 ghost use Rattle.std.specs.Option.{option_map, option_and_then};
 ghost use Rattle.grid_cells.specs.Cell.{Point};
 ghost use Rattle.plan_table.specs.Route.{Fleet, position, position_of, last_of, leaves_of, Leaves, route_of};
-ghost use Rattle.mapf_rules.specs.Entries.{both_end_by, IsVertex, IsParked, IsEdge, IsFollowing, IsSwapping};
+ghost use Rattle.mapf_rules.specs.Entries.{both_end_by};
 ghost use Rattle.conflict_ledger.specs.Sight.{Sees, own_place};
 
 use grid_cells::{Agent, Cell, Step};
@@ -118,77 +118,16 @@ impl Sight<'_> {
     }
 
     // The greater of the two agents' last indices.
-    fn both_end(&self, first: Agent, second: Agent) -> u32
+    pub fn both_end(&self, first: Agent, second: Agent) -> u32
         ensures { (fleet : Fleet) → Sees self.now fleet → result ≡ both_end_by fleet first second }
     {
         self.last(first).max(self.last(second))
     }
 
     // Whether one of the two agents still moves at the time, or is to leave.
-    fn passes(&self, time: u32, first: Agent, second: Agent) -> bool
+    pub fn passes(&self, time: u32, first: Agent, second: Agent) -> bool
         ensures { (fleet : Fleet) → Sees self.now fleet → IsTrue result ↔ ((time < both_end_by fleet first second) ⊎ (Leaves fleet first ⊎ Leaves fleet second)) }
     {
         time < self.both_end(first, second) || self.leaves(first) || self.leaves(second)
-    }
-
-    // Whether a Vertex entry of the two agents stands at the time.
-    pub fn vertex(&self, time: u32, first: Agent, second: Agent, cell: Cell) -> bool
-        ensures { (fleet : Fleet) → Sees self.now fleet → IsTrue result ↔ IsVertex fleet time first second cell }
-    {
-        first < second
-            && self.is_at(first, time, cell)
-            && self.is_at(second, time, cell)
-            && self.passes(time, first, second)
-    }
-
-    // Whether a Parked entry of the two agents stands at the time.
-    pub fn parked(&self, time: u32, first: Agent, second: Agent, cell: Cell) -> bool
-        ensures { (fleet : Fleet) → Sees self.now fleet → IsTrue result ↔ IsParked fleet time first second cell }
-    {
-        first < second
-            && self.is_at(first, time, cell)
-            && self.is_at(second, time, cell)
-            && time == self.both_end(first, second)
-            && !self.leaves(first)
-            && !self.leaves(second)
-    }
-
-    // Whether an Edge entry of the two agents stands at the time. Where they start is mostly known to
-    // be so, and asked last; so it is below.
-    pub fn edge(&self, time: u32, first: Agent, second: Agent, cell: Cell, next: Cell) -> bool
-        requires { time < u32.MAX }
-        ensures { (fleet : Fleet) → Sees self.now fleet → IsTrue result ↔ IsEdge fleet time first second cell next }
-    {
-        first < second
-            && cell != next
-            && self.is_at(first, time + 1, next)
-            && self.is_at(second, time + 1, next)
-            && self.is_at(first, time, cell)
-            && self.is_at(second, time, cell)
-    }
-
-    // Whether a Following entry of the two agents stands at the time.
-    pub fn following(&self, time: u32, follower: Agent, leader: Agent, cell: Cell) -> bool
-        requires { time < u32.MAX }
-        ensures { (fleet : Fleet) → Sees self.now fleet → IsTrue result ↔ IsFollowing fleet time follower leader cell }
-    {
-        follower != leader
-            && !self.is_at(follower, time, cell)
-            && self.has_position(leader, time + 1)
-            && self.is_at(follower, time + 1, cell)
-            && self.is_at(leader, time, cell)
-    }
-
-    // Whether a Swapping entry of the two agents stands at the time.
-    pub fn swapping(&self, time: u32, first: Agent, second: Agent, cell: Cell, other: Cell) -> bool
-        requires { time < u32.MAX }
-        ensures { (fleet : Fleet) → Sees self.now fleet → IsTrue result ↔ IsSwapping fleet time first second cell other }
-    {
-        first < second
-            && cell != other
-            && self.is_at(first, time + 1, other)
-            && self.is_at(second, time + 1, cell)
-            && self.is_at(first, time, cell)
-            && self.is_at(second, time, other)
     }
 }

@@ -1,33 +1,29 @@
-use Rattle.std.proofs.Common.{◌+◌, sym, ◌∙◌, arith}
-use mathlib.Core.Bool.{false≢true}
-use Rattle.where_index.specs.Asked.{AreStandingAt}
-use Rattle.conflict_ledger.proofs.Gathers.{gathers_nothing, gathers_on}
-use Rattle.conflict_ledger.proofs.Late.{base_there, shares}
+use Rattle.std.proofs.Common.{◌+◌, false, refl, arith}
+use Rattle.conflict_ledger.proofs.Gathers.{gathers_on}
+use Rattle.conflict_ledger.proofs.Late.{base_there}
+use Rattle.conflict_ledger.proofs.Occupied.{stands_near, tails_near, has_beside, has_behind}
 use Rattle.conflict_ledger.proofs.gather.gather_here.Goals as goal
 
-pub returns-then-not-is_shared-clause-gathers : goal.returns-then-not-is_shared-clause-gathers
-returns-then-not-is_shared-clause-gathers c fleet shows = gathers_nothing fleet _ _ _
-
-pub returns-then-not-is_shared-clause-beside : goal.returns-then-not-is_shared-clause-beside
-returns-then-not-is_shared-clause-beside c fleet shows place other apart there =
-    let shared = rw (c.new-now.ensures, c.new-later.ensures) at (c.is_shared.ensures shows.base shows.stands) in
-    absurd (false≢true (sym c.if-not-is_shared.true ∙ shared.1 (shares _ _ _ fleet shows other c.args.time c.args.time (c.args.time + 1) c.args.here apart (omega arith) (omega arith) there)))
-
-pub returns-then-not-is_shared-clause-behind : goal.returns-then-not-is_shared-clause-behind
-returns-then-not-is_shared-clause-behind c fleet shows place other apart there =
-    let shared = rw (c.new-now.ensures, c.new-later.ensures) at (c.is_shared.ensures shows.base shows.stands) in
-    absurd (false≢true (sym c.if-not-is_shared.true ∙ shared.1 (shares _ _ _ fleet shows other (c.args.time + 1) c.args.time (c.args.time + 1) c.args.here apart (omega arith) (omega arith) there)))
-
 pub returns-clause-gathers : goal.returns-clause-gathers
-returns-clause-gathers c fleet shows = gathers_on fleet _ _ _ _ _ (c.in_ok-offer_all.ensures.gathers fleet shows) (c.in_ok-offer_all-2.ensures.gathers fleet shows)
+returns-clause-gathers c fleet shows place =
+    let found = rw (c.new.ensures, c.new-2.ensures) at (c.occupants-found.ensures shows.base shows.stands) in
+    gathers_on fleet _ _ _ _ _ (c.in_ok-offer_spots.ensures.gathers fleet shows place (stands_near _ _ _ fleet shows c.args.time c.args.here c.args.next _ found.standing))
+    (c.in_ok-offer_spots-2.ensures.gathers fleet shows place (tails_near _ _ _ fleet shows c.args.time c.args.here c.args.next _ found.resting))
 
 pub returns-clause-beside : goal.returns-clause-beside
-returns-clause-beside c fleet shows place other apart there entry is at two _ met =
-    let standing : AreStandingAt shows.base c.args.time c.args.here c.items.result.now = rw (c.items.ensures, ← c.new-now.ensures) (c.in_ok-beside.ensures shows.base shows.stands) in
-    let has = c.in_ok-offer_all.ensures.has fleet shows place other ((standing.exact other).1 (base_there _ _ _ fleet shows other c.args.time c.args.here apart there)) in
-    (c.in_ok-offer_all-2.ensures.gathers fleet shows).keeps entry (has entry is at two apart met)
+returns-clause-beside c fleet shows place other apart there =
+    let found = rw (c.new.ensures, c.new-2.ensures) at (c.occupants-found.ensures shows.base shows.stands) in
+    let stood = stands_near _ _ _ fleet shows c.args.time c.args.here c.args.next _ found.standing in
+    let rested = tails_near _ _ _ fleet shows c.args.time c.args.here c.args.next _ found.resting in
+    has_beside _ _ _ fleet shows c.args.time c.args.here c.args.next false c.occupants-found.result.stands c.occupants-found.result.tails c.offer_spots.new.entries.items c.offer_spots-2.new.entries.items
+    (c.in_ok-offer_spots.ensures.has fleet shows place stood) (c.in_ok-offer_spots-2.ensures.gathers fleet shows place rested).keeps (c.in_ok-offer_spots-2.ensures.has fleet shows place rested) refl
+    other c.args.here (found.all other c.args.time (omega arith) (omega arith) (base_there _ _ _ fleet shows other c.args.time c.args.here apart there))
 
 pub returns-clause-behind : goal.returns-clause-behind
 returns-clause-behind c fleet shows place other apart there =
-    let standing : AreStandingAt shows.base (c.args.time + 1) c.args.here c.items-2.result.now = rw (c.items-2.ensures, ← c.new-later.ensures) (c.in_ok-behind.ensures shows.base shows.stands) in
-    c.in_ok-offer_all-2.ensures.has fleet shows place other ((standing.exact other).1 (base_there _ _ _ fleet shows other (c.args.time + 1) c.args.here apart there))
+    let found = rw (c.new.ensures, c.new-2.ensures) at (c.occupants-found.ensures shows.base shows.stands) in
+    let stood = stands_near _ _ _ fleet shows c.args.time c.args.here c.args.next _ found.standing in
+    let rested = tails_near _ _ _ fleet shows c.args.time c.args.here c.args.next _ found.resting in
+    has_behind _ _ _ fleet shows c.args.time c.args.here c.args.next false c.occupants-found.result.stands c.occupants-found.result.tails c.offer_spots.new.entries.items c.offer_spots-2.new.entries.items
+    (c.in_ok-offer_spots.ensures.has fleet shows place stood) (c.in_ok-offer_spots-2.ensures.gathers fleet shows place rested).keeps (c.in_ok-offer_spots-2.ensures.has fleet shows place rested) refl
+    place found.resting other c.args.here (found.all other (c.args.time + 1) (omega arith) (omega arith) (base_there _ _ _ fleet shows other (c.args.time + 1) c.args.here apart there))

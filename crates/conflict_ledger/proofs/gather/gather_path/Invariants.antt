@@ -1,6 +1,5 @@
 use Rattle.std.proofs.Common.{ℕ, ◌<◌, ◌≤◌}
-use Rattle.std.specs.Option.{option_map}
-use Rattle.plan_table.specs.Route.{Fleet, route_of}
+use Rattle.plan_table.specs.Route.{Fleet}
 use Rattle.conflict_ledger.specs.Sight.{Sees}
 use Rattle.conflict_ledger.specs.Gathering.{Gathers, HasTime}
 use Rattle.conflict_ledger.proofs.gather.gather_path.Given as goal
