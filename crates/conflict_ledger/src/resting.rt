@@ -34,7 +34,11 @@ fn offer_passing(
 }
 
 // Adds the entries of the agent after the last index of its path.
-pub(crate) fn gather_late(sight: &Sight<'_>, entries: &mut Vec<Conflict>, last: u32) -> Result<(), OutOfMemory>
+pub(crate) fn gather_late(
+    sight: &Sight<'_>,
+    entries: &mut Vec<Conflict>,
+    last: u32,
+) -> Result<(), OutOfMemory>
     requires { last < u32.MAX }
     ensures gathers { OnOk result ((fleet : Fleet) → Sees sight.now fleet → last ≡ last_of fleet sight.now.agent → Gathers fleet sight.now.agent (λ t. last ≤ t) entries.old.items entries.new.items) }
     ensures has { OnOk result ((fleet : Fleet) → Sees sight.now fleet → last ≡ last_of fleet sight.now.agent → (time : ℕ) → last < time → HasTime fleet sight.now.agent time entries.new.items) }

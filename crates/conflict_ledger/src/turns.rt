@@ -13,11 +13,15 @@ use mapf_rules::{Conflict, Movers, offer, ring_out_of};
 use std::alloc::Global;
 
 // Whether the view can show a ring in that step at the cell. Where nobody moves the opposite way of
-// the agent that moves out of it, there is none, however long the chain of agents ahead is.
+// the agent that moves out of it, there is none, however long the chain of agents ahead is. The way
+// of the view's own agent is known without a look at who moves out of the cell.
 fn may_ring(view: &Sight<'_>, time: u32, cell: Cell) -> bool
     requires { time < u32.MAX }
     ensures { (fleet : Fleet) (ring : List ℕ) → Sees view.now fleet → IsRingAt fleet time cell ring → IsTrue result }
 {
+    if let Some(to) = view.own_move(time, cell) {
+        return view.may_close(time, cell, to);
+    }
     match view.sole_mover(time, cell) {
         Some(mover) => view.may_close(time, cell, mover.1),
         None => false,

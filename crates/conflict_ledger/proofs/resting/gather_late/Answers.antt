@@ -19,10 +19,10 @@ returns-in_default-clause-has c fleet shows is_last time late =
 pub loop-passing-preserved : goal.loop-passing-preserved
 loop-passing-preserved c =
     let more = λ (fleet : Fleet) (shows : Sees c.args.sight.now fleet) (is_last : c.args.last ≡ last_of fleet c.args.sight.now.agent).
-        let through : ArePassing shows.base c.in-Some.rest (c.args.last + 1) c.items-passing-items.result.now = rw (c.items-passing-items.ensures, ← c.new.ensures) (c.in_ok-passings.ensures shows.base shows.stands) in
-        let passes = (through.exact c.passing-item.result).0 (c.loop-passing.passing-index, omega arith, sym c.passing-item.is) in
-        let rests : position_of fleet c.args.sight.now.agent (c.args.last + 1) ≡ Some c.in-Some.rest = ap (λ (o : Option Route). option_and_then (λ r. position r (c.args.last + 1)) o) shows.own ∙ (sym c.own.ensures ∙ c.in-Some.is) in
-        gathers_at fleet _ _ (λ (t : ℕ). c.args.last ≤ t) _ _ (λ t w. omega (arith, passes.not_before, w)) (c.in_ok-offer_passing.ensures.gathers fleet shows (λ apart. passed _ _ _ fleet shows c.args.last is_last c.in-Some.rest rests c.passing-item.result apart passes)) in record {
+    let through : ArePassing shows.base c.in-Some.rest (c.args.last + 1) c.items-passing-items.result.now = rw (c.items-passing-items.ensures, ← c.new.ensures) (c.in_ok-passings.ensures shows.base shows.stands) in
+    let passes = (through.exact c.passing-item.result).0 (c.loop-passing.passing-index, omega arith, sym c.passing-item.is) in
+    let rests : position_of fleet c.args.sight.now.agent (c.args.last + 1) ≡ Some c.in-Some.rest = ap (λ (o : Option Route). option_and_then (λ r. position r (c.args.last + 1)) o) shows.own ∙ (sym c.own.ensures ∙ c.in-Some.is) in
+    gathers_at fleet _ _ (λ (t : ℕ). c.args.last ≤ t) _ _ (λ t w. omega (arith, passes.not_before, w)) (c.in_ok-offer_passing.ensures.gathers fleet shows (λ apart. passed _ _ _ fleet shows c.args.last is_last c.in-Some.rest rests c.passing-item.result apart passes)) in record {
       gathers = λ fleet shows is_last. gathers_on fleet _ _ _ _ _ (c.loop-passing.invariant.gathers fleet shows is_last) (more fleet shows is_last);
       has = λ fleet shows is_last k d lt. elim (cases_lt k c.loop-passing.passing-index) [
         | inl lower ↦ λ apart entry stands of. (more fleet shows is_last).keeps entry (c.loop-passing.invariant.has fleet shows is_last k d lower apart entry stands of)
