@@ -11,7 +11,7 @@ use Rattle.desk_shared.specs.Calls.{IsClosed, IsFirst, IsJoined, IsSplit}
 use Rattle.desk_shared.specs.Passes.{PassState, Held, Sharing, AreOfPlanners, HasJust, own_of, version_at}
 use Rattle.desk_runs.proofs.Gathering.{own_kept, one_more_joined}
 use Rattle.desk_runs.specs.Drills.{AreJoined}
-use Rattle.desk_window.specs.Windows.{window_on}
+use Rattle.desk_session.specs.Windows.{window_on}
 use Rattle.desk_hosts.specs.Hosts.{AreSeated, HasHosted, Hosts, Inputs, IsCompared, IsEnded, IsSeated}
 use Rattle.desk_hosts.specs.declared.hosting.HostEnd.{HostEnd}
 use Rattle.desk_hosts.specs.declared.seats.SeatFault.{SeatFault}

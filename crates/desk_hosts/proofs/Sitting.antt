@@ -3,8 +3,8 @@ use Rattle.std.proofs.Common.{◌≡◌, ℕ, List, Option, Result, Ok, Err, ref
 use Rattle.desk_session.specs.declared.bounds.ServeFault.{ServeFault}
 use Rattle.desk_session.specs.declared.drafts.Session.TheVariants.{Idle}
 use Rattle.desk_shared.specs.Passes.{Held, Sharing}
-use Rattle.desk_window.specs.Windows.{WindowState, window_on, window_counting}
-use Rattle.desk_window.proofs.Staying.{IsKept, serves}
+use Rattle.desk_session.specs.Windows.{WindowState, window_on, window_counting}
+use Rattle.desk_session.proofs.Staying.{IsKept, serves}
 use Rattle.desk_runs.specs.Runs.{run_bounds}
 use Rattle.desk_hosts.specs.Hosts.{IsEnded}
 use Rattle.desk_hosts.specs.Seats.{IsHeard, Sits}

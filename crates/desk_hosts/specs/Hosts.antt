@@ -9,7 +9,7 @@ use Rattle.desk_core.specs.Replays.{IsLegal}
 use Rattle.desk_core.specs.State.{DeskState, after}
 use Rattle.desk_core.specs.declared.answers.Reading.{Reading}
 use Rattle.desk_shared.specs.Passes.{PassState, Held, Sharing, Owns, own_of, version_at, AreOfPlanners, HasJust}
-use Rattle.desk_window.specs.Windows.{window_counting, window_on}
+use Rattle.desk_session.specs.Windows.{window_counting, window_on}
 use Rattle.desk_runs.specs.Drills.{AreJoined}
 use Rattle.desk_hosts.specs.Seats.{Sits}
 use Rattle.desk_hosts.specs.declared.hosting.HostEnd.{HostEnd}

@@ -4,8 +4,8 @@ ghost use Rattle.desk_shared.specs.Passes.{Owns};
 ghost use Rattle.desk_hosts.specs.Hosts.{IsEnded};
 
 use crate::seats::{Outcome, SeatFault, Seats};
+use desk_session::Window;
 use desk_shared::{Pass, SharedDesk};
-use desk_window::Window;
 use std::alloc::Global;
 use std::snapshot::Snapshot;
 use std::sync::Wait;

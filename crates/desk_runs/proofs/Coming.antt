@@ -12,7 +12,7 @@ use Rattle.desk_session.specs.Session.{Serves}
 use Rattle.desk_session.specs.declared.bounds.Bounds.{Bounds}
 use Rattle.desk_session.specs.declared.bounds.ServeFault.{ServeFault}
 use Rattle.desk_session.specs.declared.drafts.Session.{Session}
-use Rattle.desk_window.proofs.Staying.{IsKept, serves}
+use Rattle.desk_session.proofs.Staying.{IsKept, serves}
 use Rattle.desk_runs.specs.Opened.{Replays}
 
 -- the desk after entries that are legal at the one before

@@ -11,11 +11,11 @@ use Rattle.desk_core.specs.declared.answers.Reading.{Reading}
 use Rattle.desk_core.specs.declared.journals.ReplayFault.{ReplayFault}
 use Rattle.desk_core.proofs.Headline.{entries_make_the_scene_holds}
 use Rattle.desk_core.proofs.LegalJournals.{legal_journals_replay_holds}
-use Rattle.desk_journal.specs.Ranges.{IsJournal}
-use Rattle.desk_journal.specs.Reading.{ReadsAs}
-use Rattle.desk_journal.specs.declared.faults.JournalFault.{JournalFault}
-use Rattle.desk_journal.proofs.BadLines.{one-journal}
-use Rattle.desk_journal.proofs.OneAnswer.{reads-back}
+use Rattle.desk_session.specs.JournalText.Ranges.{IsJournal}
+use Rattle.desk_session.specs.JournalText.Reading.{ReadsAs}
+use Rattle.desk_session.specs.declared.journals.faults.JournalFault.{JournalFault}
+use Rattle.desk_session.proofs.JournalText.BadLines.{one-journal}
+use Rattle.desk_session.proofs.JournalText.OneAnswer.{reads-back}
 use Rattle.desk_runs.specs.Faults.{of_journal, of_replay}
 use Rattle.desk_runs.specs.Opened.{ReplaysAs}
 use Rattle.desk_runs.specs.Saved.{SavedDesksComeBack, log_of, saved_text, under}

@@ -10,8 +10,8 @@ use Rattle.desk_session.specs.declared.bounds.ServeFault.{ServeFault}
 use Rattle.desk_session.specs.declared.drafts.Session.{Session}
 use Rattle.desk_session.specs.declared.drafts.Session.TheVariants.{Idle}
 use Rattle.desk_shared.specs.Passes.{PassState, Held, Sharing, own_of}
-use Rattle.desk_window.specs.Windows.{WindowState, window_on, window_counting}
-use Rattle.desk_window.proofs.Staying.{window_stays}
+use Rattle.desk_session.specs.Windows.{WindowState, window_on, window_counting}
+use Rattle.desk_session.proofs.Staying.{window_stays}
 use Rattle.desk_runs.specs.Drills.{IsSession, IsServed, AreServed, texts_of}
 use Rattle.desk_runs.specs.Runs.{run_bounds}
 

@@ -9,8 +9,8 @@ use Rattle.scene_edits.specs.declared.tasks.TaskFault.TheVariants as tasks
 use Rattle.plan_table.specs.declared.tracks.Mode.{Mode}
 use Rattle.desk_core.specs.declared.journals.ReplayFault.{ReplayFault}
 use Rattle.desk_core.specs.declared.journals.ReplayFault.TheVariants as replay
-use Rattle.desk_journal.specs.declared.faults.JournalFault.{JournalFault}
-use Rattle.desk_journal.specs.declared.faults.JournalFault.TheVariants as journal
+use Rattle.desk_session.specs.declared.journals.faults.JournalFault.{JournalFault}
+use Rattle.desk_session.specs.declared.journals.faults.JournalFault.TheVariants as journal
 use Rattle.desk_session.specs.Session.{is_read_failed, is_write_failed}
 use Rattle.desk_session.specs.Start.{StopsInMap}
 use Rattle.desk_session.specs.declared.bounds.ServeFault.{ServeFault}

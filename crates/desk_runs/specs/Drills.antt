@@ -20,7 +20,7 @@ use Rattle.desk_session.specs.Session.{Serves, is_write_failed}
 use Rattle.desk_session.specs.declared.bounds.ServeFault.{ServeFault}
 use Rattle.desk_session.specs.declared.drafts.Session.{Session}
 use Rattle.desk_session.specs.declared.drafts.Session.TheVariants.{Idle}
-use Rattle.desk_window.specs.Windows.{window_counting}
+use Rattle.desk_session.specs.Windows.{window_counting}
 use Rattle.desk_runs.specs.Opens.{Opens}
 use Rattle.desk_runs.specs.Reported.{reported_text}
 use Rattle.desk_runs.specs.Runs.{run_bounds}

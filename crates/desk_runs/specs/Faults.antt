@@ -8,8 +8,8 @@ use Rattle.scene_edits.specs.declared.tasks.TaskFault.{TaskFault}
 use Rattle.scene_edits.specs.declared.tasks.TaskFault.TheVariants as tasks
 use Rattle.desk_core.specs.declared.journals.ReplayFault.{ReplayFault}
 use Rattle.desk_core.specs.declared.journals.ReplayFault.TheVariants as replay
-use Rattle.desk_journal.specs.declared.faults.JournalFault.{JournalFault}
-use Rattle.desk_journal.specs.declared.faults.JournalFault.TheVariants as journal
+use Rattle.desk_session.specs.declared.journals.faults.JournalFault.{JournalFault}
+use Rattle.desk_session.specs.declared.journals.faults.JournalFault.TheVariants as journal
 use Rattle.desk_session.specs.declared.bounds.ServeFault.{ServeFault}
 use Rattle.desk_session.specs.declared.bounds.ServeFault.TheVariants as session
 use Rattle.desk_session.specs.declared.bounds.StartFault.{StartFault}

@@ -5,8 +5,8 @@ use Rattle.scene_edits.specs.Scene.{SceneState}
 use Rattle.desk_core.specs.State.{DeskState, opening}
 use Rattle.desk_core.specs.Replays.{Log, IsReplay}
 use Rattle.desk_core.specs.declared.journals.ReplayFault.{ReplayFault}
-use Rattle.desk_journal.specs.Reading.{ReadsAs}
-use Rattle.desk_journal.specs.declared.faults.JournalFault.{JournalFault}
+use Rattle.desk_session.specs.JournalText.Reading.{ReadsAs}
+use Rattle.desk_session.specs.declared.journals.faults.JournalFault.{JournalFault}
 use Rattle.desk_runs.specs.Faults.{of_journal, of_replay}
 use Rattle.desk_runs.specs.Opens.{Opens, IsOpenFault}
 use Rattle.desk_runs.specs.declared.faults.RunFault.{RunFault}

@@ -5,8 +5,8 @@ use Rattle.desk_core.specs.Questions.{Shows}
 use Rattle.desk_core.specs.Replays.{Log}
 use Rattle.desk_core.specs.State.{DeskState}
 use Rattle.desk_core.specs.declared.answers.Reading.{Reading}
-use Rattle.desk_journal.specs.JournalText.{journal_text}
-use Rattle.desk_journal.specs.Ranges.{IsJournal}
+use Rattle.desk_session.specs.JournalText.Lines.{journal_text}
+use Rattle.desk_session.specs.JournalText.Ranges.{IsJournal}
 use Rattle.desk_session.specs.Answer.{answering}
 use Rattle.desk_session.specs.Counting.{desk_counting}
 use Rattle.desk_session.specs.Session.{Serves}

@@ -1,7 +1,7 @@
 ghost use Rattle.std.specs.Prelude.{◌≡◌, OnOk, OnErr, is_err, ◌||◌};
 ghost use Rattle.std.specs.Io.KnownBytes.{Appends};
 ghost use Rattle.desk_report.specs.Bytes.{AppendsFront};
-ghost use Rattle.desk_journal.specs.Ranges.{IsJournal};
+ghost use Rattle.desk_session.specs.JournalText.Ranges.{IsJournal};
 ghost use Rattle.desk_runs.specs.Saved.{log_of, saved_text};
 
 use desk_core::Desk;

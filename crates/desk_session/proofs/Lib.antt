@@ -5,3 +5,5 @@ pub mod Endings
 pub mod Reading
 pub mod MapLines
 pub mod MapDesk
+pub mod Staying
+pub mod JournalText

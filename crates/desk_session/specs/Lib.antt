@@ -9,3 +9,5 @@ pub mod Session
 pub mod Reads
 pub mod Answer
 pub mod Start
+pub mod JournalText
+pub mod Windows

@@ -3,9 +3,8 @@ ghost use Rattle.desk_shared.specs.Passes.{Owns};
 
 use desk_core::{Desk, Limit};
 use desk_report::{Source, Spout, Tap};
-use desk_session::{Bounds, serve};
+use desk_session::{Bounds, Window, serve};
 use desk_shared::{Pass, SharedDesk};
-use desk_window::Window;
 use grid_cells::{Agent, Cell, Grid, Size};
 use scene_edits::{Edit, Scene};
 use std::alloc::Global;

@@ -2,7 +2,7 @@
 use super::chance::edited;
 use super::plain::journals::first_bad;
 use super::plain::words::shown;
-use desk_journal::{JournalFault, read_journal, upgrade_journal};
+use desk_session::{JournalFault, read_journal, upgrade_journal};
 use plan_table::Mode;
 use std::alloc::Global;
 use std::process::Abort;

@@ -1,8 +1,8 @@
 //! Journals written by hand, read, written and upgraded, and texts that are no journals.
 use super::samples::{ALL, FIRST, SECOND, all, one};
 use desk_core::MOST_ENTRIES;
-use desk_journal::{Journal, JournalFault, read_journal, upgrade_journal, write_journal};
 use desk_report::Spout;
+use desk_session::{Journal, JournalFault, read_journal, upgrade_journal, write_journal};
 use plan_table::Mode;
 use std::alloc::Global;
 use std::process::Abort;

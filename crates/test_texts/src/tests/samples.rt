@@ -1,6 +1,6 @@
 //! Journals, and their texts.
 use desk_core::{Commit, Edit, Thing};
-use desk_journal::Journal;
+use desk_session::Journal;
 use grid_cells::{Agent, Cell, List, Planner, Step};
 use plan_table::Mode;
 use std::alloc::Global;

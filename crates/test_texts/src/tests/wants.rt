@@ -1,6 +1,6 @@
 //! Journals read and upgraded with too little memory.
 use super::samples::{FIRST, SECOND, one};
-use desk_journal::{JournalFault, read_journal, upgrade_journal};
+use desk_session::{JournalFault, read_journal, upgrade_journal};
 use std::alloc::Global;
 use std::process::Abort;
 use test_droughts::Drought;

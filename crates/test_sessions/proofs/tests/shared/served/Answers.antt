@@ -1,7 +1,7 @@
 use Rattle.std.proofs.Common.{◌∙◌, ap}
 use Rattle.desk_shared.specs.Passes.{Sharing}
-use Rattle.desk_window.specs.Windows.{WindowState}
-use Rattle.desk_window.proofs.Staying.{window_stays}
+use Rattle.desk_session.specs.Windows.{WindowState}
+use Rattle.desk_session.proofs.Staying.{window_stays}
 use Rattle.test_sessions.proofs.tests.shared.served.Goals as goal
 
 pub returns : goal.returns

@@ -1,0 +1,17 @@
+//! The text of journals: written, read in both versions, and upgraded.
+mod entries;
+mod faults;
+mod laws;
+mod lines;
+mod places;
+mod reading;
+mod spelling;
+mod steps;
+mod upgrading;
+mod writing;
+
+pub use faults::JournalFault;
+pub use laws::{one_journal_answer, written_reads_back};
+pub use reading::read_journal;
+pub use upgrading::upgrade_journal;
+pub use writing::write_journal;

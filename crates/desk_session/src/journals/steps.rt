@@ -1,0 +1,203 @@
+//! Where a line of a journal leads.
+ghost use Rattle.std.specs.Prelude.{◌≡◌, ◌<◌, ◌≤◌, [], length, IfOk};
+ghost use Rattle.desk_session.specs.JournalText.Begun.{fresh, IsBegun};
+ghost use Rattle.desk_session.specs.JournalText.Places.{settled, IsPlace, LeadsTo};
+
+use crate::journals::lines::{edit_of, head_of, thing_of};
+use crate::journals::places::{Begun, Head, Heading, Place};
+use crate::journals::spelling::is_end;
+use desk_core::{Commit, MOST_ENTRIES};
+use grid_cells::{List, OutOfMemory};
+use plan_table::Mode;
+use std::alloc::Global;
+
+// Behind a heading.
+fn headed(alloc: Global, heading: Heading) -> Place
+    ensures { result ≡ Place.Between heading [] }
+{
+    Place::Between {
+        heading,
+        entries: List::new(Vec::new(alloc)),
+    }
+}
+
+// From the start.
+fn start(alloc: Global, line: &[u8]) -> Option<Place>
+    ensures { LeadsTo Place.Start line.now result }
+{
+    if line == b"journal 1".as_slice() {
+        Some(headed(alloc, Heading::First))
+    } else if line == b"journal 2".as_slice() {
+        Some(Place::Versioned)
+    } else {
+        None
+    }
+}
+
+// From behind `journal 2`.
+fn versioned(alloc: Global, line: &[u8]) -> Option<Place>
+    ensures { LeadsTo Place.Versioned line.now result }
+{
+    if line == b"mode stay".as_slice() {
+        Some(headed(alloc, Heading::Second(Mode::Stay)))
+    } else if line == b"mode disappear".as_slice() {
+        Some(headed(alloc, Heading::Second(Mode::Disappear)))
+    } else {
+        None
+    }
+}
+
+// Inside the entry, or behind it where it lacks nothing.
+fn settled(heading: Heading, entries: List<Commit>, entry: Begun) -> Result<Place, OutOfMemory>
+    requires { IsBegun entry }
+    ensures { IfOk result (λ place. place ≡ settled heading entries entry) }
+{
+    if entry.watch.items().len() < entry.head.watches
+        || entry.edits.items().len() < entry.head.edits
+    {
+        return Ok(Place::Inside {
+            heading,
+            entries,
+            entry,
+        });
+    }
+    let Begun { head, watch, edits } = entry;
+    let made = Commit::new(
+        head.planner,
+        head.base,
+        watch.into_items(),
+        edits.into_items(),
+    );
+    let commit = match made {
+        Ok(commit) => commit,
+        Err(_) => unreachable!(),
+    };
+    let mut entries = entries.into_items();
+    match entries.push(commit) {
+        Ok(()) => {}
+        Err(_) => return Err(OutOfMemory),
+    }
+    Ok(Place::Between {
+        heading,
+        entries: List::new(entries),
+    })
+}
+
+// An entry of which no watch and no edit is read.
+fn fresh(alloc: Global, head: Head) -> Begun
+    ensures { result ≡ fresh head }
+{
+    Begun {
+        head,
+        watch: List::new(Vec::new(alloc)),
+        edits: List::new(Vec::new(alloc)),
+    }
+}
+
+// From between two entries.
+fn between(
+    alloc: Global,
+    heading: Heading,
+    entries: List<Commit>,
+    line: &[u8],
+) -> Result<Option<Place>, OutOfMemory>
+    requires { IsPlace (Place.Between heading entries) }
+    ensures { IfOk result (LeadsTo (Place.Between heading entries) line.now) }
+{
+    let count = entries.items().len();
+    if is_end(line, count) {
+        return Ok(Some(Place::Over { heading, entries }));
+    }
+    if count >= MOST_ENTRIES as usize {
+        return Ok(None);
+    }
+    match head_of(alloc, line)? {
+        Some(head) => {
+            let entry = fresh(alloc, head);
+            Ok(Some(settled(heading, entries, entry)?))
+        }
+        None => Ok(None),
+    }
+}
+
+// One more watch.
+fn watched(
+    alloc: Global,
+    heading: Heading,
+    entries: List<Commit>,
+    entry: Begun,
+    line: &[u8],
+) -> Result<Option<Place>, OutOfMemory>
+    requires place { IsPlace (Place.Inside heading entries entry) }
+    requires due { length entry.watch < entry.head.watches }
+    ensures { IfOk result (LeadsTo (Place.Inside heading entries entry) line.now) }
+{
+    let Some(thing) = thing_of(alloc, line)? else {
+        return Ok(None);
+    };
+    let Begun { head, watch, edits } = entry;
+    let mut watch = watch.into_items();
+    match watch.push(thing) {
+        Ok(()) => {}
+        Err(_) => return Err(OutOfMemory),
+    }
+    let entry = Begun {
+        head,
+        watch: List::new(watch),
+        edits,
+    };
+    Ok(Some(settled(heading, entries, entry)?))
+}
+
+// One more edit.
+fn edited(
+    alloc: Global,
+    heading: Heading,
+    entries: List<Commit>,
+    entry: Begun,
+    line: &[u8],
+) -> Result<Option<Place>, OutOfMemory>
+    requires place { IsPlace (Place.Inside heading entries entry) }
+    requires done { entry.head.watches ≤ length entry.watch }
+    ensures { IfOk result (LeadsTo (Place.Inside heading entries entry) line.now) }
+{
+    let Some(edit) = edit_of(alloc, line)? else {
+        return Ok(None);
+    };
+    let Begun { head, watch, edits } = entry;
+    let mut edits = edits.into_items();
+    match edits.push(edit) {
+        Ok(()) => {}
+        Err(_) => return Err(OutOfMemory),
+    }
+    let entry = Begun {
+        head,
+        watch,
+        edits: List::new(edits),
+    };
+    Ok(Some(settled(heading, entries, entry)?))
+}
+
+/// Where the line leads, if it fits.
+pub(crate) fn next(alloc: Global, place: Place, line: &[u8]) -> Result<Option<Place>, OutOfMemory>
+    requires { IsPlace place }
+    ensures { IfOk result (LeadsTo place line.now) }
+{
+    match place {
+        Place::Start => Ok(start(alloc, line)),
+        Place::Versioned => Ok(versioned(alloc, line)),
+        Place::Between { heading, entries } => between(alloc, heading, entries, line),
+        Place::Inside {
+            heading,
+            entries,
+            entry,
+        } => {
+            if entry.watch.items().len() < entry.head.watches {
+                watched(alloc, heading, entries, entry, line)
+            } else {
+                edited(alloc, heading, entries, entry, line)
+            }
+        }
+        Place::Over { .. } => Ok(None),
+    }
+}

@@ -1,6 +1,0 @@
-//! A shared desk as sessions see it: through the pass of one planner.
-#![tactic(auto)]
-
-mod windows;
-
-pub use windows::Window;
