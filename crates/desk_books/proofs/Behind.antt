@@ -9,9 +9,9 @@ use Rattle.scene_edits.specs.Scene.{SceneState}
 use Rattle.scene_edits.specs.InOrder.{edited_all}
 use Rattle.scene_edits.specs.declared.changes.Change.{Change}
 use Rattle.scene_edits.proofs.Returning.{edits_keep_size_holds}
-use Rattle.former_rows.specs.Formers.{AreFormers}
-use Rattle.former_rows.specs.Flips.{HoldFlips}
-use Rattle.former_rows.specs.declared.agents.Former.{Former}
+use Rattle.desk_books.specs.Formers.{AreFormers}
+use Rattle.desk_books.specs.Flips.{HoldFlips}
+use Rattle.desk_books.specs.declared.named_agents.Former.{Former}
 use Rattle.desk_books.specs.Books.{BooksState, Keep, AreOf}
 use Rattle.desk_books.specs.Following.{ChangedBy, AreLeft}
 

@@ -7,7 +7,7 @@ use Rattle.std.proofs.lemmas.Option.{none-some, slice_get_within, get_or_from_sl
 use Rattle.plan_table.specs.Plans.{row_of, IsByAgent}
 use Rattle.plan_table.specs.declared.plans.Row.{Row}
 use Rattle.plan_table.proofs.Rows.{first_below, tail_by_agent}
-use Rattle.price_books.specs.Prices.{with_row}
+use Rattle.desk_books.specs.Prices.{with_row}
 
 -- a row that no other one of its agent comes before
 row_of_last : (rows : List (ℕ × Row)) (agent : ℕ) (row : Row) → row_of rows agent ≡ None → (a : ℕ) → row_of (rows ++ (agent, row) ∷ []) a ≡ (if a == agent then Some row else row_of rows a)

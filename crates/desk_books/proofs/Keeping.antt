@@ -6,8 +6,8 @@ use Rattle.plan_table.specs.Route.{Fleet, route_in}
 use Rattle.plan_table.specs.declared.plans.Row.{Row}
 use Rattle.plan_table.specs.declared.tracks.Mode.{Mode}
 use Rattle.where_index.specs.Index.{with_route}
-use Rattle.fleet_books.specs.Fleet as fleets
-use Rattle.price_books.specs.Prices as prices
+use Rattle.desk_books.specs.Fleet as fleets
+use Rattle.desk_books.specs.Prices as prices
 use Rattle.desk_books.specs.Books.{BooksState, Keep, fleet_of}
 use Rattle.desk_books.proofs.Rows.{fleet_with}
 

@@ -3,8 +3,8 @@ use Rattle.std.proofs.Common.{◌≡◌, ℕ, suc, ◌+◌, ◌<◌, List, [], �
 use Rattle.std.proofs.Math.Seq.{drop-cons}
 use Rattle.std.proofs.lemmas.Bool.Decides.{eqb_tells}
 use Rattle.plan_table.proofs.Order.{AllPairs-head, AllPairs-tail, Contains-nil, Contains-cons_tail, Contains-cons_cases}
-use Rattle.price_books.specs.Prices.{Rows, with_row}
-use Rattle.former_rows.specs.declared.agents.Former.{Former}
+use Rattle.desk_books.specs.Prices.{Rows, with_row}
+use Rattle.desk_books.specs.declared.named_agents.Former.{Former}
 use Rattle.desk_books.specs.Following.{AreLeft}
 
 -- what is left of a list from a place on

@@ -6,7 +6,7 @@ use Rattle.plan_table.specs.Route.{route_in}
 use Rattle.plan_table.specs.declared.plans.Row.{Row}
 use Rattle.plan_table.specs.declared.tracks.Mode.{Mode}
 use Rattle.where_index.specs.Index.{with_route}
-use Rattle.price_books.specs.Prices.{Rows, with_row}
+use Rattle.desk_books.specs.Prices.{Rows, with_row}
 use Rattle.desk_books.specs.Books.{fleet_of}
 
 -- one agent's row after another in its place

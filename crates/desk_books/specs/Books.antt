@@ -7,8 +7,8 @@ use Rattle.plan_table.specs.Plans.{row_of}
 use Rattle.plan_table.specs.declared.plans.Row.{Row}
 use Rattle.plan_table.specs.declared.tracks.Mode.{Mode}
 use Rattle.scene_edits.specs.Scene.{SceneState}
-use Rattle.fleet_books.specs.Fleet as fleets
-use Rattle.price_books.specs.Prices as prices
+use Rattle.desk_books.specs.Fleet as fleets
+use Rattle.desk_books.specs.Prices as prices
 
 -- what is kept of the agents' places and conflicts, and of their costs, visits and goals
 pub record BooksState : Type 0 where

@@ -5,9 +5,9 @@ use Rattle.scene_edits.specs.Scene.{SceneState, IsScene}
 use Rattle.scene_edits.specs.InOrder.{edited_all, AreAllowed, AreChanges}
 use Rattle.scene_edits.specs.declared.edits.Edit.{Edit}
 use Rattle.scene_edits.specs.declared.changes.Change.{Change}
-use Rattle.former_rows.specs.Formers.{former_row}
-use Rattle.former_rows.specs.declared.agents.Former.{Former}
-use Rattle.price_books.specs.Prices.{Rows}
+use Rattle.desk_books.specs.Formers.{former_row}
+use Rattle.desk_books.specs.declared.named_agents.Former.{Former}
+use Rattle.desk_books.specs.Prices.{Rows}
 use Rattle.desk_books.specs.Books.{BooksState, AreOf}
 
 -- edits made the one scene of the other, and those are their changes

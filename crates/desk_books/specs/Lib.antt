@@ -1,2 +1,14 @@
 pub mod Books
 pub mod Following
+pub mod Flips
+pub mod Formers
+pub mod Kept
+pub mod Named
+pub mod Fleet
+pub mod FleetLaws
+pub mod Aims
+pub mod Goals
+pub mod Prices
+pub mod PriceLaws
+pub mod Rows
+pub mod Asked

@@ -8,12 +8,13 @@ ghost use Rattle.scene_edits.specs.Scene.{SceneState};
 ghost use Rattle.desk_books.specs.Books.{AreOf};
 ghost use Rattle.desk_books.specs.Following.{AreBehind};
 
+use crate::fleet::FleetBooks;
+use crate::flipped_cells::flipped;
+use crate::named_agents::formers;
+use crate::prices::PriceBooks;
+use crate::reports::quick_report;
 use desk_report::Report;
-use fleet_books::FleetBooks;
-use former_rows::{flipped, formers};
 use grid_cells::{Cell, OutOfMemory};
-use price_books::PriceBooks;
-use quick_report::quick_report;
 use scene_edits::{Change, Scene};
 use std::alloc::Global;
 use std::marker::Model;

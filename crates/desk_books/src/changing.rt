@@ -1,18 +1,18 @@
 //! One agent's row becomes another.
 ghost use Rattle.std.specs.Prelude.{◌≡◌, IfOk, Some, None};
 ghost use Rattle.grid_cells.specs.Size.{Holds};
-ghost use Rattle.price_books.specs.Prices.{Rows, with_row};
-ghost use Rattle.price_books.specs.Prices as priced;
-ghost use Rattle.former_rows.specs.Formers.{former_row};
+ghost use Rattle.desk_books.specs.Prices.{Rows, with_row};
+ghost use Rattle.desk_books.specs.Prices as priced;
+ghost use Rattle.desk_books.specs.Formers.{former_row};
 ghost use Rattle.plan_table.specs.Plans.{row_of};
 ghost use Rattle.desk_books.specs.Books.{Keep, Know};
 
 use crate::books::Books;
 use crate::former::{is_same_plan, track_of};
-use former_rows::Former;
+use crate::named_agents::Former;
+use crate::prices::PriceBooks;
 use grid_cells::{Agent, Cell, Grid, OutOfMemory};
 use plan_table::{Plan, Row};
-use price_books::PriceBooks;
 use scene_edits::Scene;
 
 impl Books {

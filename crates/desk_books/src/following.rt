@@ -3,12 +3,12 @@ ghost use Rattle.std.specs.Prelude.{◌≡◌, IfOk};
 ghost use Rattle.grid_cells.specs.Grid.{Chart};
 ghost use Rattle.goal_fields.specs.Target.{Covers};
 ghost use Rattle.plan_table.specs.Plans.{row_of};
-ghost use Rattle.price_books.specs.Prices.{Rows};
+ghost use Rattle.desk_books.specs.Prices.{Rows};
 ghost use Rattle.desk_books.specs.Books.{AreOf, Keep};
 ghost use Rattle.desk_books.specs.Following.{AreLeft};
 
 use crate::books::Books;
-use former_rows::Former;
+use crate::named_agents::Former;
 use grid_cells::{Cell, OutOfMemory};
 use scene_edits::Scene;
 

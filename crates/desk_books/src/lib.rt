@@ -1,12 +1,36 @@
 //! The books of a desk: what is kept beside a scene, so that a commit and a reading cost what changed.
 #![tactic(auto)]
 
+mod aims;
 mod books;
+mod bounds;
 mod builds;
 mod changing;
+mod fleet;
+mod fleet_laws;
+mod flipped_cells;
 mod following;
 mod former;
+mod goals;
+mod judging;
+mod lines;
+mod named_agents;
+mod price_flips;
+mod price_laws;
+mod prices;
+mod reports;
 mod solving;
+mod taking_back;
+mod totals;
+mod visitors;
 
 pub use books::Books;
 pub use builds::BuildCount;
+pub use fleet::FleetBooks;
+pub use fleet_laws::routes_fix_books;
+pub use flipped_cells::flipped;
+pub use judging::quick_solves;
+pub use named_agents::{Former, FormerRow, formers};
+pub use price_laws::same_rows_same_books;
+pub use prices::PriceBooks;
+pub use reports::quick_report;

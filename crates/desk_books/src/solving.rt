@@ -3,8 +3,8 @@ ghost use Rattle.desk_report.specs.Solves.{IsVerdict};
 ghost use Rattle.desk_books.specs.Books.{AreOf};
 
 use crate::books::Books;
+use crate::judging::quick_solves;
 use desk_report::Kinds;
-use quick_report::quick_solves;
 use scene_edits::Scene;
 
 impl Books {

@@ -1,5 +1,5 @@
 //! The rows that agents had before changes, and the cells that flip.
-use former_rows::{Former, flipped, formers};
+use desk_books::{Former, flipped, formers};
 use grid_cells::{Cell, List};
 use scene_edits::{Change, Scene};
 use std::alloc::Global;

@@ -2,7 +2,7 @@ use Rattle.std.proofs.Common.{subst, arith}
 use Rattle.std.proofs.lemmas.List.{drop_all}
 use Rattle.plan_table.specs.Plans.{row_of}
 use Rattle.plan_table.proofs.Order.{Contains-cons_head}
-use Rattle.price_books.specs.Prices.{Rows, with_row}
+use Rattle.desk_books.specs.Prices.{Rows, with_row}
 use Rattle.desk_books.specs.Books.{Keep}
 use Rattle.desk_books.proofs.Leaving.{left_from, left_fewer, none_left}
 use Rattle.desk_books.proofs.books.Books.catch_up.Goals as goal

@@ -1,6 +1,6 @@
 use Rattle.std.proofs.Common.{drop}
 use Rattle.plan_table.specs.Plans.{row_of}
-use Rattle.price_books.specs.Prices.{Rows}
+use Rattle.desk_books.specs.Prices.{Rows}
 use Rattle.desk_books.specs.Books.{Keep}
 use Rattle.desk_books.specs.Following.{AreLeft}
 use Rattle.desk_books.proofs.books.Books.catch_up.Given as goal

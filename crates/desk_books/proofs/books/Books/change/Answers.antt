@@ -2,7 +2,7 @@ use Rattle.std.proofs.Common.{◌≡◌, Some, None, List, ℕ, Option, sym, ap,
 use Rattle.std.proofs.lemmas.Result.{IfOk-weaker}
 use Rattle.plan_table.specs.Plans.{row_of}
 use Rattle.plan_table.specs.declared.plans.Row.{Row}
-use Rattle.price_books.specs.Prices.{Rows, with_row}
+use Rattle.desk_books.specs.Prices.{Rows, with_row}
 use Rattle.desk_books.specs.Books.{Keep}
 use Rattle.desk_books.proofs.Rows.{unchanged}
 use Rattle.desk_books.proofs.Live.{goal_inside}

@@ -1,7 +1,7 @@
 use Rattle.std.proofs.Common.{◌≡◌, Some, take, subst}
 use Rattle.std.specs.List.{slice_get}
 use Rattle.plan_table.specs.Plans.{row_of}
-use Rattle.price_books.specs.Prices.{Rows}
+use Rattle.desk_books.specs.Prices.{Rows}
 use Rattle.desk_books.specs.Books.{Keep}
 use Rattle.desk_books.proofs.Entering.{row_of_before, row_of_more}
 use Rattle.desk_books.proofs.Live.{goal_inside_at}

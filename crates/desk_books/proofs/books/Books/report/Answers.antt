@@ -3,7 +3,7 @@ use Rattle.std.proofs.lemmas.Result.{IfOk-weaker}
 use Rattle.plan_table.specs.Route.{tracks_of}
 use Rattle.plan_table.proofs.OneTable.{one_table_holds}
 use Rattle.mapf_rules.specs.ConflictList.{AreConflicts}
-use Rattle.quick_report.specs.Rows.{HavePathsOn}
+use Rattle.desk_books.specs.Rows.{HavePathsOn}
 use Rattle.desk_books.proofs.books.Books.report.Goals as goal
 
 pub quick_report-requires : goal.quick_report-requires

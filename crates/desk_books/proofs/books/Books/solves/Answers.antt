@@ -2,7 +2,7 @@ use Rattle.std.proofs.Common.{◌≡◌, ℕ, List, subst, refl}
 use Rattle.plan_table.specs.declared.plans.Row.{Row}
 use Rattle.plan_table.proofs.OneTable.{one_table_holds}
 use Rattle.desk_report.specs.Solves.{IsVerdict}
-use Rattle.quick_report.specs.Rows.{HaveFields, HavePathsOn}
+use Rattle.desk_books.specs.Rows.{HaveFields, HavePathsOn}
 use Rattle.desk_books.proofs.books.Books.solves.Goals as goal
 
 pub returns : goal.returns

@@ -1,0 +1,44 @@
+-- Fleets of which one route is given and taken back, and their books.
+use Rattle.std.proofs.Common.{◌≡◌, ℕ, List, Bool, true, false, eqb, cond, Option, refl, sym, ap, subst, ◌∙◌}
+use Rattle.std.proofs.lemmas.Bool.{eqb-true, eq-eqb}
+use Rattle.plan_table.specs.Route.{Route, Fleet}
+use Rattle.where_index.specs.Index.{with_route}
+use Rattle.conflict_ledger.specs.Kept.{HasEntries}
+use Rattle.mapf_rules.specs.declared.entries.Conflict.{Conflict}
+use Rattle.desk_books.specs.Fleet.{FleetState, AreOf}
+use Rattle.desk_books.specs.FleetLaws.{RoutesFixBooks}
+
+-- fleets with the same route for each agent are one fleet
+pub same_fleet : (one other : Fleet) → ((agent : ℕ) → one agent ≡ other agent) → one ≡ other
+same_fleet one other same = λ i agent. same agent i
+
+pub routes_fix : RoutesFixBooks
+routes_fix one other books same are = subst (λ (fleet : Fleet). AreOf fleet books) (same_fleet one other same) are
+
+-- an agent's route put in place of another is the one that it has then
+pub with_own : (fleet : Fleet) (agent : ℕ) (route : Option Route) → with_route fleet agent route agent ≡ route
+with_own fleet agent route = ap (λ (b : Bool). cond b route (fleet agent)) (eq-eqb agent agent refl)
+
+-- a route that is taken back leaves the fleet as it was
+pub with_back : (fleet : Fleet) (agent : ℕ) (route was : Option Route) → fleet agent ≡ was → with_route (with_route fleet agent route) agent was ≡ fleet
+with_back fleet agent route was is = same_fleet _ fleet (λ a. at a (eqb a agent) refl)
+  where
+    at : (a : ℕ) (b : Bool) → eqb a agent ≡ b → cond b was (cond b route (fleet a)) ≡ fleet a
+    at a true e = sym (ap fleet (eqb-true a agent e) ∙ is)
+    at a false e = refl
+
+-- a fleet with the route that an agent has is that fleet
+pub with_same : (fleet : Fleet) (agent : ℕ) (route : Option Route) → fleet agent ≡ route → with_route fleet agent route ≡ fleet
+with_same fleet agent route is = same_fleet _ fleet (λ a. at a (eqb a agent) refl)
+  where
+    at : (a : ℕ) (b : Bool) → eqb a agent ≡ b → cond b route (fleet a) ≡ fleet a
+    at a true e = sym (ap fleet (eqb-true a agent e) ∙ is)
+    at a false e = refl
+
+-- the entries of a fleet are those of the same fleet after a route was given and taken back
+pub entries_back : (kept : List Conflict) (fleet : Fleet) (agent : ℕ) (route was : Option Route) → fleet agent ≡ was → HasEntries kept fleet → HasEntries kept (with_route (with_route fleet agent route) agent was)
+entries_back kept fleet agent route was is has = subst (λ (f : Fleet). HasEntries kept f) (sym (with_back fleet agent route was is)) has
+
+-- books of a fleet are those of the fleet with the route that an agent has
+pub are_same : (books : FleetState) (fleet : Fleet) (agent : ℕ) (route : Option Route) → fleet agent ≡ route → AreOf fleet books → AreOf (with_route fleet agent route) books
+are_same books fleet agent route is are = subst (λ (f : Fleet). AreOf f books) (sym (with_same fleet agent route is)) are

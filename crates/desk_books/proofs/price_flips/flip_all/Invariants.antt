@@ -1,0 +1,9 @@
+use Rattle.std.proofs.Common.{◌≡◌, take}
+use Rattle.grid_cells.specs.Grid.{Chart}
+use Rattle.cost_ledger.specs.Ledger.{StandsFor}
+use Rattle.desk_books.proofs.Turning.{turned}
+use Rattle.desk_books.proofs.price_flips.flip_all.Given as goal
+
+abbrev pub invariant-loop-cell : goal.invariant-loop-cell
+invariant-loop-cell l = (l.ledger.rows ≡ l.fn.costs.rows)
+    × ((old : Chart) → old.size ≡ l.grid.size → StandsFor l.fn.costs old → StandsFor l.ledger (turned old l.grid (take l.cell-index l.cells)))

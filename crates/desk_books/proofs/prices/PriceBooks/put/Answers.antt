@@ -1,0 +1,15 @@
+use Rattle.std.proofs.Common.{subst, sym}
+use Rattle.goal_fields.specs.Held.{StandFor}
+use Rattle.desk_books.specs.Prices.{Prices}
+use Rattle.desk_books.proofs.Fleets.{books_put}
+use Rattle.desk_books.proofs.prices.PriceBooks.put.Goals as goal
+
+pub add-requires-clause-stand : goal.add-requires-clause-stand
+add-requires-clause-stand c = subst (λ (books : Prices). StandFor c.args.grid.now books.fields) (sym c.self.view_is) c.requires.stand
+
+pub returns-clause-kept : goal.returns-clause-kept
+returns-clause-kept c = λ fleet are.
+    let costs = c.in_ok-costs.ensures in
+    let goals = c.in_ok-goals.ensures in
+    books_put c.args.grid.now fleet _ c.args.agent (record { goal = c.args.goal; plan = c.args.plan.now }) c.in_ok-costs.costs c.in_ok-goals.goals.aims c.in_ok-goals.goals.fields
+    (rw (← c.self.view_is) at are) (rw (← c.self.view_is) at c.requires.absent) costs.row costs.by_agent costs.stands goals.aims goals.stand goals.held

@@ -1,0 +1,27 @@
+-- The rows that agents had before edits (this project's choice).
+use Rattle.std.specs.Prelude.{◌≡◌, ℕ, ◌<◌, Option, List, Contains}
+use Rattle.std.specs.List.{AllPairs}
+use Rattle.plan_table.specs.Plans.{row_of}
+use Rattle.plan_table.specs.declared.plans.Row.{Row}
+use Rattle.desk_books.specs.declared.named_agents.Former.{Former}
+use Rattle.desk_books.specs.declared.named_agents.FormerRow.{FormerRow}
+use Rattle.desk_books.specs.declared.taking_back.Kept.{Kept}
+use Rattle.desk_books.specs.Kept.{row_with}
+
+-- a former row as a row of a table
+abbrev pub as_row : FormerRow → Row
+as_row former = record { goal = former.goal; plan = former.plan.now }
+
+-- the row that an agent had, if it had one
+abbrev pub former_row : Former → Option Row
+former_row former = row_with former.goal former.plan
+
+-- what is kept for an agent, as its former row
+abbrev pub former_of : ℕ × Kept → Former
+former_of entry = record { agent = entry.0; goal = entry.1.goal; plan = entry.1.plan }
+
+-- agents in their order, none twice, with the rows that they had; an agent that isn't among them has the row that it had
+pub record AreFormers (old new : List (ℕ × Row)) (formers : List Former) : Type 0 where
+  pub rising : AllPairs (λ a b. a.agent < b.agent) formers
+  pub was : (former : Former) → Contains formers former → row_of old former.agent ≡ former_row former
+  pub others : (agent : ℕ) → ((former : Former) → Contains formers former → former.agent ≡ agent → ⊥) → row_of old agent ≡ row_of new agent

@@ -1,0 +1,24 @@
+ghost use Rattle.std.specs.Prelude.{IfOk, List, Contains, All};
+ghost use Rattle.scene_edits.specs.Scene.{SceneState, IsScene};
+ghost use Rattle.scene_edits.specs.InOrder.{edited_all, AreAllowed, AreChanges};
+ghost use Rattle.scene_edits.specs.declared.edits.Edit.{Edit};
+ghost use Rattle.desk_books.specs.Flips.{HoldFlips};
+
+use grid_cells::{Cell, OutOfMemory};
+use scene_edits::Change;
+use std::alloc::Global;
+
+/// Cells that the changes opened or closed: each cell of the map whose state before them isn't the
+/// state after them is among these.
+pub fn flipped(alloc: Global, changes: &[Change]) -> Result<Vec<Cell>, OutOfMemory>
+    ensures flips { IfOk result (λ cells. (before : SceneState) (edits : List Edit) → IsScene before → AreAllowed before edits → AreChanges before edits changes.now → HoldFlips before.grid (edited_all before edits).grid cells.items) }
+    ensures named { IfOk result (λ cells. All (λ cell. Contains changes.now (Change.Flipped cell)) cells.items) }
+{
+    let mut cells = Vec::new(alloc);
+    for change in changes {
+        if let Change::Flipped { cell } = change {
+            cells.push(*cell)?;
+        }
+    }
+    Ok(cells)
+}

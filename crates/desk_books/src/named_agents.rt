@@ -1,0 +1,93 @@
+ghost use Rattle.std.specs.Prelude.{◌≡◌, ℕ, List, IfOk, All, map};
+ghost use Rattle.std.specs.Option.{option_map};
+ghost use Rattle.std.specs.Ordering.{nat_cmp};
+ghost use Rattle.std.specs.BTreeMap.{IsOrdered};
+ghost use Rattle.scene_edits.specs.Scene.{SceneState, IsScene};
+ghost use Rattle.scene_edits.specs.InOrder.{edited_all, AreAllowed, AreChanges};
+ghost use Rattle.scene_edits.specs.declared.edits.Edit.{Edit};
+ghost use Rattle.desk_books.specs.Named.{IsNamed};
+ghost use Rattle.desk_books.specs.Formers.{as_row, former_row, former_of, AreFormers};
+
+use crate::taking_back::{Kept, take_back};
+use grid_cells::{Agent, Cell, OutOfMemory};
+use plan_table::{Plan, Plans};
+use scene_edits::Change;
+use std::alloc::Global;
+use std::collections::BTreeMap;
+
+/// An agent that changes name, and the row that it had before them.
+#[derive(Clone, Copy, Debug)]
+pub struct Former<'a> {
+    pub agent: Agent,
+    // Of no meaning where there is no plan.
+    goal: Cell,
+    plan: Option<&'a Plan>,
+}
+
+/// A row that an agent had.
+#[derive(Clone, Copy, Debug)]
+pub struct FormerRow<'a> {
+    pub goal: Cell,
+    pub plan: &'a Plan,
+}
+
+impl<'a> Former<'a> {
+    /// The agent's row before the changes, if it had one.
+    pub fn row(&self) -> Option<FormerRow<'a>>
+        ensures { option_map as_row result ≡ former_row self.now }
+    {
+        match self.plan {
+            None => None,
+            Some(plan) => Some(FormerRow {
+                goal: self.goal,
+                plan,
+            }),
+        }
+    }
+}
+
+/// Agents that the changes name, in the order of the agents, with their rows before the changes;
+/// `plans` is the table after them. An agent that isn't among them has the row that it had.
+pub fn formers<'a>(
+    alloc: Global,
+    changes: &'a [Change],
+    plans: &'a Plans,
+) -> Result<Vec<Former<'a>>, OutOfMemory>
+    ensures rows { IfOk result (λ formers. (before : SceneState) (edits : List Edit) → IsScene before → AreAllowed before edits → AreChanges before edits changes.now → (edited_all before edits).rows ≡ plans.now.rows → AreFormers before.rows plans.now.rows formers.items) }
+    ensures named { IfOk result (λ formers. All (λ former. IsNamed changes.now former.agent) formers.items) }
+{
+    let mut rows = BTreeMap::new(alloc);
+    let mut left = changes.len();
+    while left > 0 {
+        left -= 1;
+        match take_back(&mut rows, &changes[left], plans) {
+            Ok(()) => {}
+            Err(refused) => return Err(refused),
+        }
+    }
+    listed(alloc, &rows)
+}
+
+// What is kept for each agent, in order.
+fn listed<'a>(
+    alloc: Global,
+    rows: &BTreeMap<Agent, Kept<'a>>,
+) -> Result<Vec<Former<'a>>, OutOfMemory>
+    ensures entries { IfOk result (λ formers. formers.items ≡ map former_of rows.now.entries) }
+    ensures ordered { IsOrdered nat_cmp rows.now }
+{
+    let _many = rows.len();
+    let mut formers = Vec::new(alloc);
+    for (agent, kept) in rows {
+        let former = Former {
+            agent: *agent,
+            goal: kept.goal,
+            plan: kept.plan,
+        };
+        match formers.push(former) {
+            Ok(()) => {}
+            Err(_) => return Err(OutOfMemory),
+        }
+    }
+    Ok(formers)
+}

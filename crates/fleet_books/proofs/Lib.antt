@@ -1,3 +1,0 @@
-pub mod RouteChanges
-pub mod SameRoutes
-pub mod NoneApart

@@ -1,2 +1,0 @@
-pub mod Fleet
-pub mod Laws

@@ -1,4 +1,0 @@
-pub mod FlippedCells
-pub mod RowsBefore
-pub mod KeptRows
-pub mod NamedAgents

@@ -1,6 +1,0 @@
-use Rattle.std.proofs.Common.{◌≡◌, ◌++◌, map}
-use Rattle.former_rows.specs.Formers.{former_of}
-use Rattle.former_rows.proofs.agents.listed.Given as goal
-
-abbrev pub invariant-loop-agent : goal.invariant-loop-agent
-invariant-loop-agent l = l.formers.items ++ map former_of l.agent-iterator ≡ map former_of l.rows.entries

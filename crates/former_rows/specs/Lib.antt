@@ -1,4 +1,0 @@
-pub mod Flips
-pub mod Formers
-pub mod Kept
-pub mod Named

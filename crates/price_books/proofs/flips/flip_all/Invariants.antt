@@ -1,9 +1,0 @@
-use Rattle.std.proofs.Common.{◌≡◌, take}
-use Rattle.grid_cells.specs.Grid.{Chart}
-use Rattle.cost_ledger.specs.Ledger.{StandsFor}
-use Rattle.price_books.proofs.Turning.{turned}
-use Rattle.price_books.proofs.flips.flip_all.Given as goal
-
-abbrev pub invariant-loop-cell : goal.invariant-loop-cell
-invariant-loop-cell l = (l.ledger.rows ≡ l.fn.costs.rows)
-    × ((old : Chart) → old.size ≡ l.grid.size → StandsFor l.fn.costs old → StandsFor l.ledger (turned old l.grid (take l.cell-index l.cells)))

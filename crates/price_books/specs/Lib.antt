@@ -1,4 +1,0 @@
-pub mod Aims
-pub mod Goals
-pub mod Prices
-pub mod Laws

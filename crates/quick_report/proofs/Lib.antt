@@ -1,4 +1,0 @@
-pub mod Parts
-pub mod Blocking
-pub mod Deciding
-pub mod Verdicts
