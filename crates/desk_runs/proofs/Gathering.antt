@@ -46,16 +46,22 @@ join_gathered old mid on other new split others joined =
       kept = joined.kept;
     }
 
+-- numbers of passes that were joined have the same entries in both journals
+pub own_at : (made found : List Entry) (past : List Numbered) → All (HasJust made) past → All (HasJust found) past → (number : ℕ) → Any (λ (numbered : Numbered). numbered.0 ≡ number) past → own_of number found ≡ own_of number made
+own_at made found past before now number (at, numbered, inside, there, is) =
+    let here : own_of numbered.0 found ≡ numbered.1 = subst (HasJust found) there (now at numbered inside) in
+    let then : own_of numbered.0 made ≡ numbered.1 = subst (HasJust made) there (before at numbered inside) in
+    subst (λ (n : ℕ). own_of n found ≡ own_of n made) is (here ∙ sym then)
+
 module _ (on other new : PassState) (joined : IsJoined on other new) where
   -- the passes that were joined before have no more entries
   pub own_kept : All (HasJust on.made) on.past → (number : ℕ) → Any (λ (numbered : Numbered). numbered.0 ≡ number) on.past → own_of number new.made ≡ own_of number on.made
-  own_kept before number (at, numbered, inside, there, is) =
+  own_kept before number joined_before =
       let both : All (HasJust new.made) (on.past ++ (other.planner, own_of other.planner other.made) ∷ other.past) = subst (All (HasJust new.made)) joined.past joined.kept in
-      let still : get_or (on.past ++ (other.planner, own_of other.planner other.made) ∷ other.past) at numbered ≡ numbered = get_or_append_left on.past _ numbered at inside ∙ there in
-      let more : at < length (on.past ++ (other.planner, own_of other.planner other.made) ∷ other.past) = omega (arith, length-append on.past ((other.planner, own_of other.planner other.made) ∷ other.past)) in
-      let now : own_of numbered.0 new.made ≡ numbered.1 = subst (HasJust new.made) still (both at numbered more) in
-      let then : own_of numbered.0 on.made ≡ numbered.1 = subst (HasJust on.made) there (before at numbered inside) in
-      subst (λ (n : ℕ). own_of n new.made ≡ own_of n on.made) is (now ∙ sym then)
+      let still : All (HasJust new.made) on.past = λ at numbered inside.
+          let more : at < length (on.past ++ (other.planner, own_of other.planner other.made) ∷ other.past) = omega (arith, length-append on.past ((other.planner, own_of other.planner other.made) ∷ other.past)) in
+          subst (HasJust new.made) (get_or_append_left on.past _ numbered at inside) (both at numbered more) in
+      own_at on.made new.made on.past before still number joined_before
 
   -- and so was the one before them
   pub one_more_joined : (first many : ℕ) → other.planner ≡ first → AreJoined (first + 1) many on.past → AreJoined first (suc many) new.past

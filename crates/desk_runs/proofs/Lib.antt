@@ -1,10 +1,15 @@
-pub mod Running
-pub mod Unserved
-pub mod ScriptSessions
-pub mod Numbering
-pub mod Gathering
-pub mod SameReports
-pub mod Coming
-pub mod Returning
-pub mod ScriptFaults
-pub mod Drilled
+mod Running
+mod Unserved
+mod ScriptSessions
+mod Numbering
+mod Gathering
+mod SameReports
+mod Coming
+mod Returning
+mod ScriptFaults
+mod Drilled
+mod OfPaths
+mod Refusing
+mod Stopping
+mod Sitting
+mod Joining

@@ -15,7 +15,7 @@ use Rattle.desk_session.proofs.Staying.{window_stays}
 use Rattle.desk_runs.specs.Drills.{IsSession, IsServed, AreServed, texts_of}
 use Rattle.desk_runs.specs.Runs.{run_bounds}
 
-IsPrefix-trans : {A : Type 0} (xs ys zs : List A) → IsPrefix xs ys → IsPrefix ys zs → IsPrefix xs zs
+pub IsPrefix-trans : {A : Type 0} (xs ys zs : List A) → IsPrefix xs ys → IsPrefix ys zs → IsPrefix xs zs
 IsPrefix-trans xs ys zs (rest, is) (more, then) = (rest ++ more, sym (append_assoc xs rest more) ∙ ap (λ l. l ++ more) is ∙ then)
 
 -- a session over a window on a desk

@@ -8,3 +8,12 @@ pub mod Reported
 pub mod Audits
 pub mod Drills
 pub mod DrillFaults
+pub mod CheckEdits
+pub mod CheckTimes
+pub mod CheckTexts
+pub mod CheckFaults
+pub mod Checks
+pub mod Draws
+pub mod Seats
+pub mod Hosts
+pub mod WholeLines

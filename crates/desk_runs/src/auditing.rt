@@ -7,9 +7,11 @@ use crate::faults::RunFault;
 use crate::opening::open_desk;
 use crate::reporting::put_report;
 use desk_audit::{AuditFault, NoGate, audit};
-use desk_core::{Desk, Limit, MOST_ENTRIES};
+use desk_core::{Limit, MOST_ENTRIES};
 use desk_report::{Report, Sink, WriteFailed};
+use grid_cells::OutOfMemory;
 use plan_table::Mode;
+use scene_edits::Scene;
 use std::alloc::Global;
 use std::sync::Wait;
 use std::thread::Threads;
@@ -47,9 +49,9 @@ pub fn run_audit<T: Threads + Wait, W: Sink>(
         Ok(desk) => desk,
         Err(fault) => return Err(fault),
     };
-    let report = match report_of(rt, alloc, &desk, workers) {
+    let report = match report_of(rt, alloc, desk.scene(), workers) {
         Ok(report) => report,
-        Err(fault) => return Err(fault),
+        Err(OutOfMemory) => return Err(RunFault::OutOfMemory),
     };
     match put_report(writer, desk.version(), &report) {
         Ok(()) => Ok(()),
@@ -57,24 +59,23 @@ pub fn run_audit<T: Threads + Wait, W: Sink>(
     }
 }
 
-/// The report of the desk's scene, made from scratch by so many threads.
+/// The report of the scene, made from scratch by so many threads.
 ///
 /// # Errors
 ///
 /// Want of memory, or the start of a thread was refused.
-pub fn report_of<T: Threads + Wait>(
+pub(crate) fn report_of<T: Threads + Wait>(
     rt: &T,
     alloc: Global,
-    desk: &Desk,
+    scene: &Scene,
     workers: u32,
-) -> Result<Report, RunFault>
+) -> Result<Report, OutOfMemory>
     requires workers { (1 ≤ workers) × (workers ≤ 64) }
-    ensures report { IfOk result (IsReportOf desk.now.scene.grid desk.now.scene.mode desk.now.scene.rows) }
-    ensures refused { IfErr result (λ fault. fault ≡ RunFault.OutOfMemory) }
+    ensures { IfOk result (IsReportOf scene.now.grid scene.now.mode scene.now.rows) }
 {
-    match audit(rt, alloc, desk.scene(), workers, &NoGate) {
+    match audit(rt, alloc, scene, workers, &NoGate) {
         Ok(report) => Ok(report),
         Err(AuditFault::BadWorkers) => unreachable!(),
-        Err(AuditFault::OutOfMemory) => Err(RunFault::OutOfMemory),
+        Err(AuditFault::OutOfMemory) => Err(OutOfMemory),
     }
 }

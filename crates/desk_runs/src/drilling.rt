@@ -136,9 +136,9 @@ fn drilled<R: Threads + Wait + Sync, H: Hearing + Sync>(
         Ok(ended) => ended,
         Err(fault) => return Err(fault),
     };
-    let audited = match report_of(rt, alloc, &desk, workers) {
+    let audited = match report_of(rt, alloc, desk.scene(), workers) {
         Ok(report) => report,
-        Err(fault) => return Err(fault),
+        Err(OutOfMemory) => return Err(RunFault::OutOfMemory),
     };
     let same = is_same(&reading.report, &audited);
     Ok((reading, same))
@@ -182,7 +182,7 @@ fn end_sharing<R: Wait>(
 }
 
 /// Whether the reports are equal.
-pub fn is_same(report: &Report, other: &Report) -> bool
+pub(crate) fn is_same(report: &Report, other: &Report) -> bool
     ensures { IsTrue result ↔ (report.now ≡ other.now) }
 {
     report == other

@@ -1,11 +1,16 @@
-//! What the program's words do, over texts: a session, an audit, a drill.
+//! What the program's words do, over texts: a session, an audit, a drill, a verdict on a solver's
+//! paths, a picture, and planners hosted over one desk.
 #![tactic(auto)]
 
 mod auditing;
+mod checks;
+mod courses;
+mod drawing;
 mod drilling;
 mod faults;
 mod heard;
 mod hearing;
+mod hosts;
 mod laws;
 mod opening;
 mod reporting;
@@ -14,12 +19,17 @@ mod scenes;
 mod scripts;
 mod serving;
 
-pub use auditing::{report_of, run_audit};
-pub use drilling::{MOST_SCRIPTS, hear_drill, is_same, run_drill};
+pub use auditing::run_audit;
+pub use checks::{CheckFault, run_check};
+pub use courses::Courses;
+pub use drawing::run_draw;
+pub use drilling::{MOST_SCRIPTS, hear_drill, run_drill};
 pub use faults::{Fault, RunFault};
 pub use hearing::{Hearing, MOST_HEARD};
+pub use hosts::{
+    HostEnd, HostFault, MOST_HOSTED, Outcome, SeatFault, Seats, WholeLines, host_planners,
+};
 pub use laws::saved_desks_come_back;
 pub use opening::open_desk;
 pub use saving::save_desk;
-pub use scenes::scene_of;
 pub use serving::{BOUNDS, MOST_BYTES, run_serve, serve_desk};

@@ -12,7 +12,7 @@ use std::alloc::Global;
 /// # Errors
 ///
 /// The first fault of the map, the scenario and the tasks, or want of memory.
-pub fn scene_of(
+pub(crate) fn scene_of(
     alloc: Global,
     map: &[u8],
     scen: Option<&[u8]>,

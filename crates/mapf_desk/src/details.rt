@@ -1,8 +1,7 @@
 //! What more is known of a run's fault, by the texts that it is about.
 use bench_reader::{MapFault, ScenFault};
-use desk_checks::CheckFault;
 use desk_core::{EditFault, Refusal, ReplayFault, Thing};
-use desk_runs::RunFault;
+use desk_runs::{CheckFault, RunFault};
 use desk_session::JournalFault;
 use solver_paths::PathsFault;
 use std::alloc::{AllocError, Global};

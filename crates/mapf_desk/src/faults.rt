@@ -1,6 +1,4 @@
-use desk_checks::CheckFault;
-use desk_hosts::HostFault;
-use desk_runs::Fault;
+use desk_runs::{CheckFault, Fault, HostFault};
 use thiserror::Error;
 
 /// Why the program did not do what its words ask for.

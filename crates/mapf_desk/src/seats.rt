@@ -1,10 +1,10 @@
 //! The seats of planners at pipes, or other files, and of the operator at standard input and output.
 ghost use Rattle.std.specs.Prelude.{None};
-ghost use Rattle.desk_hosts.specs.Seats.{Sits};
+ghost use Rattle.desk_runs.specs.Seats.{Sits};
 
 use crate::doors::{Doors, Stage};
 use crate::sittings::sit_between;
-use desk_hosts::{Outcome, SeatFault, Seats};
+use desk_runs::{Outcome, SeatFault, Seats};
 use desk_session::{Counter, ServeFault};
 use std::alloc::{AllocError, Global};
 use std::fs::OpenOptions;

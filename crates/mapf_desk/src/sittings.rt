@@ -1,11 +1,10 @@
 //! A planner's session between two files.
 ghost use Rattle.std.specs.Prelude.{None};
-ghost use Rattle.desk_hosts.specs.Seats.{IsHeard, Sits};
+ghost use Rattle.desk_runs.specs.Seats.{IsHeard, Sits};
 
 use crate::streams::{Answers, Lines, Outlet};
-use desk_hosts::{Outcome, SeatFault, WholeLines};
 use desk_report::{Sink, Source, Spout, Tap};
-use desk_runs::BOUNDS;
+use desk_runs::{BOUNDS, Outcome, SeatFault, WholeLines};
 use desk_session::{Counter, ServeFault, serve};
 use std::alloc::Global;
 use std::cell::RefCell;

@@ -1,2 +1,0 @@
-mod OfPaths
-mod Refusing

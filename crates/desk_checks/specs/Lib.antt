@@ -1,5 +1,0 @@
-pub mod Edits
-pub mod Times
-pub mod Texts
-pub mod Faults
-pub mod Checks

@@ -1,0 +1,30 @@
+use Rattle.std.proofs.Common.{◌≡◌, ◌+◌, ◌<◌, length, arith, refl}
+use Rattle.desk_runs.specs.Hosts.{IsEnded}
+use Rattle.desk_runs.proofs.Joining.{none_hosted, one_more_hosted}
+use Rattle.desk_runs.proofs.Sitting.{as_promised}
+use Rattle.desk_runs.proofs.Numbering.{keeps_some, least_is_first}
+use Rattle.desk_runs.proofs.hosts.hosting.+host_all.Goals as goal
+use Rattle.desk_runs.proofs.hosts.hosting.+host_all.Goals.{in-Ok-sitting, in-Err}
+
+pub returns-in_default-clause-hosted : goal.returns-in_default-clause-hosted
+returns-in_default-clause-hosted g t c =
+    none_hosted c.args.desk.now (g.S.Seats.inputs c.args.seats.now) c.args.first c.sit.result.0 _ c.args.outcomes.now _ c.in_default.ensures.cases c.requires.nothing_seen c.requires.none_joined c.requires.operator c.sit.ensures
+
+pub unreachable-requires : goal.unreachable-requires
+unreachable-requires g t c =
+    let some : c.args.number + 1 < c.args.number + length c.args.outcomes.now + 1 = omega (arith, c.in-Some.ensures.cases.1) in
+    keeps_some _ _ c.args.first.known c.requires.kept some c.in_default-split.ensures.fault.0
+
+pub returns-clause-hosted : goal.returns-clause-hosted
+returns-clause-hosted g t c =
+    let some : c.args.number + 1 < c.args.number + length c.args.outcomes.now + 1 = omega (arith, c.in-Some.ensures.cases.1) in
+    let split = c.in-Ok.ensures.split in
+    let number : c.in-Ok.pass.known.planner ≡ c.args.number + 1 = least_is_first _ _ c.args.first.known _ c.requires.kept some split.number in
+    let ends : IsEnded c.args.desk.now (g.S.Seats.inputs c.args.seats.now (c.args.number + 1)) c.in-Ok.pass c.match-sitting.pass.0 c.match-sitting.pass.1 =
+    elim c.match-sitting.branch [
+      | in-Ok-sitting w ↦ as_promised c.args.desk.now _ (g.S.Seats.inputs c.args.seats.now (c.args.number + 1)) _ c.in-Ok.pass _ c.match-sitting.pass w.join.result
+          w.in-Ok-sitting.ensures.begun (λ i. g.S.Seats.inputs (w.in-Ok-sitting.ensures.seated.0 i) (w.in-Ok-sitting.ensures.seated.1 i)) w.in-Ok-sitting.ensures.before w.pass-is w.join.ensures
+      | in-Err w ↦ as_promised c.args.desk.now _ (g.S.Seats.inputs c.args.seats.now (c.args.number + 1)) _ c.in-Ok.pass _ c.match-sitting.pass w.in-Err.missed refl refl refl w.pass-is w.in-Err.ensures.missed
+    ] in
+    one_more_hosted c.args.desk.now (g.S.Seats.inputs c.args.seats.now) c.args.first.known c.split.new.pass.known c.host_all-first.result.0.known c.join-2.new.pass.known c.in-Ok.pass c.match-sitting.pass.0 (c.args.number + 1) c.match-sitting.pass.1 c.host_all-first.result.1 c.host_all-first.new.outcomes
+    c.requires.nothing_seen c.requires.operator number split c.host_all-first.ensures.hosted ends c.join-2.ensures.joined

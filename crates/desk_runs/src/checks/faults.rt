@@ -1,0 +1,74 @@
+ghost use Rattle.std.specs.Prelude.{◌≡◌};
+ghost use Rattle.desk_runs.specs.CheckFaults.{of_paths, of_run};
+
+use crate::faults::RunFault;
+use grid_cells::Agent;
+use scene_edits::EditFault;
+use solver_paths::PathsFault;
+use thiserror::Error;
+
+/// Why there is no verdict on a text of paths, or no picture.
+#[derive(Clone, Copy, Debug, PartialEq, Eq, Error)]
+pub enum CheckFault {
+    /// The text spells no paths.
+    #[error("paths: {0}")]
+    Paths(PathsFault),
+    /// The map and the tasks make no scene.
+    #[error("{0}")]
+    Run(RunFault),
+    /// The agent isn't taken, with the start and the goal that the text tells.
+    #[error("paths: agent {}: {}", .agent.number(), word_of(*.why))]
+    Agent {
+        agent: Agent,
+        why: EditFault,
+    },
+    /// The agent's path isn't taken; the time, in steps, is that of the first cell that is why.
+    #[error("paths: agent {} at time {time}: {}", .agent.number(), word_of(*.why))]
+    Path {
+        agent: Agent,
+        time: usize,
+        why: EditFault,
+    },
+    /// The verdict or the picture could not be written.
+    #[error("write failed")]
+    WriteFailed,
+    #[error("out of memory")]
+    OutOfMemory,
+}
+
+impl From<PathsFault> for CheckFault {
+    ghost from_gives = { λ why fault. fault ≡ of_paths why };
+
+    fn from(fault: PathsFault) -> CheckFault {
+        match fault {
+            PathsFault::OutOfMemory => CheckFault::OutOfMemory,
+            fault => CheckFault::Paths(fault),
+        }
+    }
+}
+
+impl From<RunFault> for CheckFault {
+    ghost from_gives = { λ why fault. fault ≡ of_run why };
+
+    fn from(fault: RunFault) -> CheckFault {
+        match fault {
+            RunFault::OutOfMemory => CheckFault::OutOfMemory,
+            fault => CheckFault::Run(fault),
+        }
+    }
+}
+
+// The word of a session for the fault of an edit.
+fn word_of(why: EditFault) -> &'static str {
+    match why {
+        EditFault::UnknownAgent => "unknown-agent",
+        EditFault::AgentTaken => "agent-taken",
+        EditFault::TooManyAgents => "too-many-agents",
+        EditFault::OutOfMap => "out-of-map",
+        EditFault::EmptyPath => "empty-path",
+        EditFault::NotFromStart => "not-from-start",
+        EditFault::NoSuchTime => "no-such-time",
+        EditFault::NotAStep { .. } => "not-a-step",
+        EditFault::TooLong => "too-long",
+    }
+}

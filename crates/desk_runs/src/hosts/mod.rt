@@ -1,0 +1,10 @@
+//! Planners who edit one fleet at once, each at a seat of its own, over one shared desk.
+mod hosting;
+mod seats;
+mod sharing;
+mod sittings;
+mod whole_lines;
+
+pub use hosting::{HostEnd, HostFault, MOST_HOSTED, host_planners};
+pub use seats::{Outcome, SeatFault, Seats};
+pub use whole_lines::WholeLines;
