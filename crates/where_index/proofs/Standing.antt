@@ -8,12 +8,11 @@ use Rattle.std.proofs.lemmas.Map.Lookups.{exact_unsigned}
 use Rattle.grid_cells.specs.Cell.{Point}
 use Rattle.plan_table.specs.Path.{last_index, place}
 use Rattle.plan_table.specs.Route.{Route, Fleet, last_of, position}
-use Rattle.where_index.specs.declared.trails.Hop.{Hop}
 use Rattle.where_index.specs.declared.ends.End.{End}
 use Rattle.where_index.specs.declared.traffic.Traffic.{Traffic}
 use Rattle.where_index.specs.Records.{stand_at, tail_at, hop_at, hop_between}
-use Rattle.where_index.specs.Changes.{HasSpots, HaveSameAt, set_row}
-use Rattle.where_index.specs.Traffic.{HasTraffic}
+use Rattle.where_index.specs.Changes.{HaveSameAt, set_row, ChangesSpots}
+use Rattle.where_index.specs.Traffic.{ChangesMoves}
 use Rattle.where_index.specs.Index.{Contents, end_in, all_of, StandsFor, with_route}
 use Rattle.where_index.specs.Ends.{IsEndOf}
 use Rattle.where_index.specs.Records.{nothing}
@@ -116,9 +115,9 @@ module _ (fleet : Fleet) (agent : ℕ) (before next : Option Route) (was : fleet
 
   -- the index after the records, the end and the horizon are changed
   pub stands_next : (index new : Contents) (end : Option End) → StandsFor index fleet
-      → (((f : ℕ → ℕ → Option Point) → HasSpots index.stands f → ((t : ℕ) → f agent t ≡ stand_at (unwrap_or before nothing) t) → HasSpots new.stands (set_row f agent (stand_at (unwrap_or next nothing)))))
-      → (((f : ℕ → ℕ → Option Point) → HasSpots index.tails f → ((t : ℕ) → f agent t ≡ tail_at (unwrap_or before nothing) t) → HasSpots new.tails (set_row f agent (tail_at (unwrap_or next nothing)))))
-      → (((f : ℕ → ℕ → Option Hop) → HasTraffic (traffic_in index) f → ((t : ℕ) → f agent t ≡ hop_at (unwrap_or before nothing).path t) → HasTraffic (traffic_in new) (set_row f agent (hop_at (unwrap_or next nothing).path))))
+      → ChangesSpots index.stands new.stands agent (stand_at (unwrap_or before nothing)) (stand_at (unwrap_or next nothing))
+      → ChangesSpots index.tails new.tails agent (tail_at (unwrap_or before nothing)) (tail_at (unwrap_or next nothing))
+      → ChangesMoves (traffic_in index) (traffic_in new) agent (hop_at (unwrap_or before nothing).path) (hop_at (unwrap_or next nothing).path)
       → ((q : ℕ) → end_in new.ends q ≡ cond (is_eq (nat_cmp agent q)) end (end_in index.ends q)) → IsEndOf end next
       → index.horizon ≤ new.horizon → last_index (unwrap_or next nothing).path ≤ new.horizon
       → StandsFor new (with_route fleet agent next)

@@ -25,6 +25,14 @@ set_at f agent time v a t = if (a == agent && (t == time)) then v else f a t
 abbrev pub set_row : {X : Type 0} → (ℕ → ℕ → X) → ℕ → (ℕ → X) → ℕ → ℕ → X
 set_row f agent v a t = if a == agent then v t else f a t
 
+-- the agent's spots by the one row give way to those by the other
+abbrev pub ChangesSpots : List Spot → List Spot → ℕ → (ℕ → Option Point) → (ℕ → Option Point) → Type 0
+ChangesSpots spots changed agent old new = (f : ℕ → ℕ → Option Point) → HasSpots spots f → ((t : ℕ) → f agent t ≡ old t) → HasSpots changed (set_row f agent new)
+
+-- the agent's spot at a time gives way to another
+abbrev pub ChangesSpot : List Spot → List Spot → ℕ → ℕ → Option Point → Option Point → Type 0
+ChangesSpot spots changed agent time old new = (f : ℕ → ℕ → Option Point) → HasSpots spots f → f agent time ≡ old → HasSpots changed (set_at f agent time new)
+
 -- new before a time, old from it on
 abbrev pub mixed : {X : Type 0} → (ℕ → X) → (ℕ → X) → ℕ → ℕ → X
 mixed old new x t = if nat_lt t x then new t else old t

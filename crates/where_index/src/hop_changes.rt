@@ -1,9 +1,7 @@
-ghost use Rattle.std.specs.Prelude.{◌≡◌, ℕ, ◌+◌, ◌*◌, ◌<◌, ◌≤◌, length, Option, None, OnOk, IsOk, IfOk};
+ghost use Rattle.std.specs.Prelude.{◌≡◌, ℕ, ◌+◌, ◌*◌, ◌<◌, ◌≤◌, length, None, OnOk, IsOk, IfOk};
 ghost use Rattle.plan_table.specs.declared.paths.TheConstants.{MOST_LAST_INDEX};
-ghost use Rattle.where_index.specs.declared.trails.Hop.{Hop};
 ghost use Rattle.where_index.specs.Records.{hop_at, changed_hop, changes_below};
-ghost use Rattle.where_index.specs.Changes.{set_at, set_row};
-ghost use Rattle.where_index.specs.Traffic.{HasTraffic};
+ghost use Rattle.where_index.specs.Traffic.{ChangesMoves, ChangesMove};
 
 use crate::traffic::Traffic;
 use crate::trails::{Hop, Trail};
@@ -23,7 +21,7 @@ pub fn change_hops(
     requires end { to ≤ MOST_LAST_INDEX + 1 }
     requires same_before { (t : ℕ) → t < from → hop_at old.now.path t ≡ hop_at new.now.path t }
     requires same_after { (t : ℕ) → to ≤ t → hop_at old.now.path t ≡ hop_at new.now.path t }
-    ensures set { (f : ℕ → ℕ → Option Hop) → HasTraffic traffic.old f → ((t : ℕ) → f agent t ≡ hop_at old.now.path t) → OnOk result (HasTraffic traffic.new (set_row f agent (hop_at new.now.path))) }
+    ensures set { OnOk result (ChangesMoves traffic.old traffic.new agent (hop_at old.now.path) (hop_at new.now.path)) }
     ensures free { length new.now.path ≡ 0 → IsOk result }
     ensures few { IfOk result (λ n. n ≤ 2 * to) }
     ensures count { IfOk result (λ n. n ≡ changes_below changed_hop (hop_at old.now.path) (hop_at new.now.path) to) }
@@ -44,7 +42,7 @@ fn replace_hop(
     old: Option<Hop>,
     new: Option<Hop>,
 ) -> Result<u32, OutOfMemory>
-    ensures set { (f : ℕ → ℕ → Option Hop) → HasTraffic traffic.old f → f agent time ≡ old → OnOk result (HasTraffic traffic.new (set_at f agent time new)) }
+    ensures set { OnOk result (ChangesMove traffic.old traffic.new agent time old new) }
     ensures free { new ≡ None → IsOk result }
     ensures count { IfOk result (λ n. n ≡ changed_hop old new) }
     ensures few { IfOk result (λ n. n ≤ 2) }
@@ -82,7 +80,7 @@ fn set_hop(
     old: Option<Hop>,
     new: Option<Hop>,
 ) -> Result<(), OutOfMemory>
-    ensures set { (f : ℕ → ℕ → Option Hop) → HasTraffic traffic.old f → f agent time ≡ old → OnOk result (HasTraffic traffic.new (set_at f agent time new)) }
+    ensures set { OnOk result (ChangesMove traffic.old traffic.new agent time old new) }
     ensures free { new ≡ None → IsOk result }
 {
     clear_hop(traffic, agent, time, old);
@@ -90,7 +88,7 @@ fn set_hop(
 }
 
 fn clear_hop(traffic: &mut Traffic, agent: Agent, time: u32, old: Option<Hop>)
-    ensures { (f : ℕ → ℕ → Option Hop) → HasTraffic traffic.old f → f agent time ≡ old → HasTraffic traffic.new (set_at f agent time None) }
+    ensures { ChangesMove traffic.old traffic.new agent time old None }
 {
     match old {
         Some(hop) => traffic.lose(agent, time, hop),
@@ -104,7 +102,7 @@ fn fill_hop(
     time: u32,
     new: Option<Hop>,
 ) -> Result<(), OutOfMemory>
-    ensures set { (f : ℕ → ℕ → Option Hop) → HasTraffic traffic.old f → f agent time ≡ None → OnOk result (HasTraffic traffic.new (set_at f agent time new)) }
+    ensures set { OnOk result (ChangesMove traffic.old traffic.new agent time None new) }
     ensures free { new ≡ None → IsOk result }
 {
     match new {

@@ -1,10 +1,8 @@
-ghost use Rattle.std.specs.Prelude.{◌≡◌, ℕ, ◌+◌, ◌<◌, ◌≤◌, length, Option, None, OnOk, IsOk, IfOk, []};
-ghost use Rattle.grid_cells.specs.Cell.{Point};
+ghost use Rattle.std.specs.Prelude.{◌≡◌, ℕ, ◌+◌, ◌<◌, ◌≤◌, length, None, OnOk, IsOk, IfOk, []};
 ghost use Rattle.plan_table.specs.declared.paths.TheConstants.{MOST_LAST_INDEX};
-ghost use Rattle.where_index.specs.declared.trails.Hop.{Hop};
 ghost use Rattle.where_index.specs.Records.{stand_at, tail_at, hop_at, apart_below};
-ghost use Rattle.where_index.specs.Changes.{HasSpots, set_row, HaveSameAt};
-ghost use Rattle.where_index.specs.Traffic.{HasTraffic};
+ghost use Rattle.where_index.specs.Changes.{ChangesSpots, HaveSameAt};
+ghost use Rattle.where_index.specs.Traffic.{HasTraffic, ChangesMoves};
 
 use crate::hop_changes::change_hops;
 use crate::spot_changes::{change_stands, change_tails};
@@ -50,9 +48,9 @@ impl Records {
         requires end { to ≤ MOST_LAST_INDEX + 1 }
         requires same_before { (t : ℕ) → t < from → HaveSameAt old.now new.now t }
         requires same_after { (t : ℕ) → to ≤ t → HaveSameAt old.now new.now t }
-        ensures stands { (f : ℕ → ℕ → Option Point) → HasSpots self.old.stands f → ((t : ℕ) → f agent t ≡ stand_at old.now t) → OnOk result (HasSpots self.new.stands (set_row f agent (stand_at new.now))) }
-        ensures tails { (f : ℕ → ℕ → Option Point) → HasSpots self.old.tails f → ((t : ℕ) → f agent t ≡ tail_at old.now t) → OnOk result (HasSpots self.new.tails (set_row f agent (tail_at new.now))) }
-        ensures traffic { (f : ℕ → ℕ → Option Hop) → HasTraffic self.old.traffic f → ((t : ℕ) → f agent t ≡ hop_at old.now.path t) → OnOk result (HasTraffic self.new.traffic (set_row f agent (hop_at new.now.path))) }
+        ensures stands { OnOk result (ChangesSpots self.old.stands self.new.stands agent (stand_at old.now) (stand_at new.now)) }
+        ensures tails { OnOk result (ChangesSpots self.old.tails self.new.tails agent (tail_at old.now) (tail_at new.now)) }
+        ensures traffic { OnOk result (ChangesMoves self.old.traffic self.new.traffic agent (hop_at old.now.path) (hop_at new.now.path)) }
         ensures free { length new.now.path ≡ 0 → IsOk result }
         ensures count { IfOk result (λ n. n ≡ apart_below old.now new.now to) }
     {

@@ -1,8 +1,7 @@
-ghost use Rattle.std.specs.Prelude.{◌≡◌, ℕ, ◌+◌, ◌*◌, ◌<◌, ◌≤◌, length, Option, None, OnOk, IsOk, IfOk};
-ghost use Rattle.grid_cells.specs.Cell.{Point};
+ghost use Rattle.std.specs.Prelude.{◌≡◌, ℕ, ◌+◌, ◌*◌, ◌<◌, ◌≤◌, length, None, OnOk, IsOk, IfOk};
 ghost use Rattle.plan_table.specs.declared.paths.TheConstants.{MOST_LAST_INDEX};
 ghost use Rattle.where_index.specs.Records.{stand_at, tail_at, changed, changes_below};
-ghost use Rattle.where_index.specs.Changes.{HasSpots, set_at, set_row};
+ghost use Rattle.where_index.specs.Changes.{ChangesSpots, ChangesSpot};
 
 use crate::spots::Spots;
 use crate::trails::Trail;
@@ -22,7 +21,7 @@ pub fn change_stands(
     requires end { to ≤ MOST_LAST_INDEX + 1 }
     requires same_before { (t : ℕ) → t < from → stand_at old.now t ≡ stand_at new.now t }
     requires same_after { (t : ℕ) → to ≤ t → stand_at old.now t ≡ stand_at new.now t }
-    ensures set { (f : ℕ → ℕ → Option Point) → HasSpots stands.old f → ((t : ℕ) → f agent t ≡ stand_at old.now t) → OnOk result (HasSpots stands.new (set_row f agent (stand_at new.now))) }
+    ensures set { OnOk result (ChangesSpots stands.old stands.new agent (stand_at old.now) (stand_at new.now)) }
     ensures free { length new.now.path ≡ 0 → IsOk result }
     ensures few { IfOk result (λ n. n ≤ 2 * to) }
     ensures count { IfOk result (λ n. n ≡ changes_below changed (stand_at old.now) (stand_at new.now) to) }
@@ -44,7 +43,7 @@ pub fn change_tails(
     to: u32,
 ) -> Result<u32, OutOfMemory>
     requires same_after { (t : ℕ) → to ≤ t → tail_at old.now t ≡ tail_at new.now t }
-    ensures set { (f : ℕ → ℕ → Option Point) → HasSpots tails.old f → ((t : ℕ) → f agent t ≡ tail_at old.now t) → OnOk result (HasSpots tails.new (set_row f agent (tail_at new.now))) }
+    ensures set { OnOk result (ChangesSpots tails.old tails.new agent (tail_at old.now) (tail_at new.now)) }
     ensures free { length new.now.path ≡ 0 → IsOk result }
     ensures few { IfOk result (λ n. n ≤ 4) }
     ensures count { IfOk result (λ n. n ≡ changes_below changed (tail_at old.now) (tail_at new.now) to) }
@@ -67,7 +66,7 @@ fn replace_spot(
     old: Option<Cell>,
     new: Option<Cell>,
 ) -> Result<u32, OutOfMemory>
-    ensures set { (f : ℕ → ℕ → Option Point) → HasSpots spots.old f → f agent time ≡ old → OnOk result (HasSpots spots.new (set_at f agent time new)) }
+    ensures set { OnOk result (ChangesSpot spots.old spots.new agent time old new) }
     ensures free { new ≡ None → IsOk result }
     ensures count { IfOk result (λ n. n ≡ changed old new) }
     ensures few { IfOk result (λ n. n ≤ 2) }
@@ -101,7 +100,7 @@ fn set_spot(
     old: Option<Cell>,
     new: Option<Cell>,
 ) -> Result<(), OutOfMemory>
-    ensures set { (f : ℕ → ℕ → Option Point) → HasSpots spots.old f → f agent time ≡ old → OnOk result (HasSpots spots.new (set_at f agent time new)) }
+    ensures set { OnOk result (ChangesSpot spots.old spots.new agent time old new) }
     ensures free { new ≡ None → IsOk result }
 {
     clear_spot(spots, agent, time, old);
@@ -109,7 +108,7 @@ fn set_spot(
 }
 
 fn clear_spot(spots: &mut Spots, agent: Agent, time: u32, old: Option<Cell>)
-    ensures { (f : ℕ → ℕ → Option Point) → HasSpots spots.old f → f agent time ≡ old → HasSpots spots.new (set_at f agent time None) }
+    ensures { ChangesSpot spots.old spots.new agent time old None }
 {
     match old {
         Some(cell) => spots.lose(cell, time, agent),
@@ -123,7 +122,7 @@ fn fill_spot(
     time: u32,
     new: Option<Cell>,
 ) -> Result<(), OutOfMemory>
-    ensures set { (f : ℕ → ℕ → Option Point) → HasSpots spots.old f → f agent time ≡ None → OnOk result (HasSpots spots.new (set_at f agent time new)) }
+    ensures set { OnOk result (ChangesSpot spots.old spots.new agent time None new) }
     ensures free { new ≡ None → IsOk result }
 {
     match new {

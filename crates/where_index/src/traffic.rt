@@ -1,7 +1,5 @@
-ghost use Rattle.std.specs.Prelude.{◌≡◌, ℕ, Option, Some, None, OnOk};
-ghost use Rattle.where_index.specs.declared.trails.Hop.{Hop};
-ghost use Rattle.where_index.specs.Changes.{set_at};
-ghost use Rattle.where_index.specs.Traffic.{HasTraffic};
+ghost use Rattle.std.specs.Prelude.{Some, None, OnOk};
+ghost use Rattle.where_index.specs.Traffic.{HasTraffic, ChangesMove};
 
 use crate::flows::Flows;
 use crate::hops::Hops;
@@ -30,7 +28,7 @@ impl Traffic {
 
     /// Adds the agent's move in that step, where it has none.
     pub fn add(&mut self, agent: Agent, time: u32, hop: Hop) -> Result<(), OutOfMemory>
-        ensures { (f : ℕ → ℕ → Option Hop) → HasTraffic self.old f → f agent time ≡ None → OnOk result (HasTraffic self.new (set_at f agent time (Some hop))) }
+        ensures { OnOk result (ChangesMove self.old self.new agent time None (Some hop)) }
     {
         let (from, to) = (hop.from, hop.to);
         self.flows.add(agent, time, &hop)?;
@@ -39,7 +37,7 @@ impl Traffic {
 
     /// Takes the agent's move in that step out.
     pub fn lose(&mut self, agent: Agent, time: u32, hop: Hop)
-        ensures { (f : ℕ → ℕ → Option Hop) → HasTraffic self.old f → f agent time ≡ Some hop → HasTraffic self.new (set_at f agent time None) }
+        ensures { ChangesMove self.old self.new agent time (Some hop) None }
     {
         let from = hop.from;
         self.flows.lose(agent, time, &hop);

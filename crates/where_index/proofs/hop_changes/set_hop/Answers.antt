@@ -6,7 +6,8 @@ use Rattle.where_index.proofs.Changes.{set_twice, set_itself}
 use Rattle.where_index.proofs.hop_changes.set_hop.Goals as goal
 
 pub returns-clause-set : goal.returns-clause-set
-returns-clause-set c = λ f has is.
+returns-clause-set c = IfOk-weaker c.fill_hop.result _ _ (λ _ g f has is.
     let mid = set_at f c.args.agent c.args.time None in
-    IfOk-weaker c.fill_hop.result _ _ (λ _ g. HasTraffic-ext c.fill_hop.new.traffic (set_at mid c.args.agent c.args.time c.args.new) (set_at f c.args.agent c.args.time c.args.new) (set_twice f c.args.agent c.args.time None c.args.new) g)
-    (c.fill_hop.ensures.set mid (c.clear_hop.ensures f has is) (set_itself f c.args.agent c.args.time None))
+    HasTraffic-ext c.fill_hop.new.traffic (set_at mid c.args.agent c.args.time c.args.new) (set_at f c.args.agent c.args.time c.args.new) (set_twice f c.args.agent c.args.time None c.args.new)
+    (g mid (c.clear_hop.ensures f has is) (set_itself f c.args.agent c.args.time None)))
+    c.fill_hop.ensures.set

@@ -5,7 +5,8 @@ use Rattle.where_index.proofs.Changes.{HasSpots-ext, set_twice, set_itself}
 use Rattle.where_index.proofs.spot_changes.set_spot.Goals as goal
 
 pub returns-clause-set : goal.returns-clause-set
-returns-clause-set c = λ f has is.
+returns-clause-set c = IfOk-weaker c.fill_spot.result _ _ (λ _ g f has is.
     let mid = set_at f c.args.agent c.args.time None in
-    IfOk-weaker c.fill_spot.result _ _ (λ _ g. HasSpots-ext c.fill_spot.new.spots (set_at mid c.args.agent c.args.time c.args.new) (set_at f c.args.agent c.args.time c.args.new) (set_twice f c.args.agent c.args.time None c.args.new) g)
-    (c.fill_spot.ensures.set mid (c.clear_spot.ensures f has is) (set_itself f c.args.agent c.args.time None))
+    HasSpots-ext c.fill_spot.new.spots (set_at mid c.args.agent c.args.time c.args.new) (set_at f c.args.agent c.args.time c.args.new) (set_twice f c.args.agent c.args.time None c.args.new)
+    (g mid (c.clear_spot.ensures f has is) (set_itself f c.args.agent c.args.time None)))
+    c.fill_spot.ensures.set
