@@ -1,11 +1,9 @@
-ghost use Rattle.std.specs.Prelude.{◌≡◌, ◌⊎◌, ◌↔◌, ℕ, ◌+◌, ◌-◌, ◌<◌, ◌≤◌, ◌≢◌, min, max, Some, OnOk, IfOk, IfSome, Contains};
-ghost use Rattle.grid_cells.specs.Cell.{Point};
+ghost use Rattle.std.specs.Prelude.{◌≡◌, ◌≢◌, ℕ, ◌+◌, ◌<◌, ◌≤◌, Some, OnOk, IfOk};
 ghost use Rattle.plan_table.specs.Route.{Fleet, position_of, last_of};
 ghost use Rattle.mapf_rules.specs.declared.entries.Conflict.{Conflict};
 ghost use Rattle.conflict_ledger.specs.declared.places.Place.{Place};
 ghost use Rattle.conflict_ledger.specs.Sight.{Sees};
 ghost use Rattle.conflict_ledger.specs.Gathering.{Gathers, AreAgents, IsWhere, IsNear, AreNear, HasMet, HasSpots, HasTime};
-ghost use Rattle.mapf_rules.specs.Finding.{Offers};
 ghost use Rattle.conflict_ledger.specs.Spans.{Fits};
 
 use crate::places::{Place, edge_of, following_of, in_order, meeting_of, place_of, swapping_of};

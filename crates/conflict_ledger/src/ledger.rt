@@ -1,21 +1,13 @@
 ghost use Rattle.std.specs.Prelude.{◌≡◌, ◌↔◌, ℕ, ◌<◌, List, Some, None, IfOk, IsTrue};
-ghost use Rattle.plan_table.specs.Path.{last_index};
 ghost use Rattle.plan_table.specs.Route.{Fleet, position, route_of};
 ghost use Rattle.where_index.specs.Index.{StandsFor, with_route};
-ghost use Rattle.conflict_ledger.specs.Change.{SameBut};
-ghost use Rattle.mapf_rules.specs.ConflictList.{AreConflicts};
+ghost use Rattle.mapf_rules.specs.ConflictList.{AreConflicts, IsListed};
 ghost use Rattle.mapf_rules.specs.Cycles.{IsRingAt};
 ghost use Rattle.conflict_ledger.specs.Kept.{HasEntries, HasKind, many_of};
-ghost use Rattle.mapf_rules.specs.ConflictList.{IsListed};
-ghost use Rattle.conflict_ledger.specs.Sight.{Shows};
-ghost use Rattle.conflict_ledger.specs.Spans.{Fits, HasEntriesIn, SameBeside};
 
-use crate::gather::gather;
 use crate::kept::KeptEntries;
 use crate::movers::Whole;
-use crate::sight::Sight;
 use crate::spans::Span;
-use crate::turns::rings_left;
 use grid_cells::{Agent, Cell, List, OutOfMemory, Step};
 use mapf_rules::{Conflict, Kind, Ring, ring_out_of};
 use plan_table::Track;
@@ -57,14 +49,16 @@ impl ConflictLedger {
     ///
     /// Want of memory: the ledger is gone then.
     pub fn admit(
-        self,
+        mut self,
         agent: Agent,
         track: Track<'_>,
         index: &WhereIndex,
     ) -> Result<ConflictLedger, OutOfMemory>
         ensures { IfOk result (λ ledger. (fleet : Fleet) → StandsFor index.now fleet → fleet agent ≡ Some (route_of track.entry) → HasEntries self (with_route fleet agent None) → HasEntries ledger fleet) }
     {
-        self.enter(agent, track, Span::whole(), index)
+        self.kept
+            .enter(self.alloc, agent, track, Span::whole(), index)?;
+        Ok(self)
     }
 
     /// Lets go an agent with that track, which the index no longer has. Before, the ledger has the
@@ -74,14 +68,16 @@ impl ConflictLedger {
     ///
     /// Want of memory, since a removal can make a ring: the ledger is gone then.
     pub fn retract(
-        self,
+        mut self,
         agent: Agent,
         track: Track<'_>,
         index: &WhereIndex,
     ) -> Result<ConflictLedger, OutOfMemory>
         ensures { IfOk result (λ ledger. (fleet : Fleet) → StandsFor index.now fleet → fleet agent ≡ None → HasEntries self (with_route fleet agent (Some (route_of track.entry))) → HasEntries ledger fleet) }
     {
-        self.leave(agent, track, Span::whole(), index)
+        self.kept
+            .leave(self.alloc, agent, track, Span::whole(), index)?;
+        Ok(self)
     }
 
     /// Gives an agent that had the old track the new one, which the index has. Below `since` the
@@ -93,7 +89,7 @@ impl ConflictLedger {
     ///
     /// Want of memory: the ledger is gone then.
     pub fn revise(
-        self,
+        mut self,
         agent: Agent,
         old: Track<'_>,
         new: Track<'_>,
@@ -104,8 +100,9 @@ impl ConflictLedger {
         ensures { IfOk result (λ ledger. (fleet : Fleet) → StandsFor index.now fleet → fleet agent ≡ Some (route_of new.entry) → HasEntries self (with_route fleet agent (Some (route_of old.entry))) → HasEntries ledger fleet) }
     {
         let span = Span::apart(old, new, since);
-        let others = self.leave(agent, old, span, index)?;
-        others.enter(agent, new, span, index)
+        self.kept.leave(self.alloc, agent, old, span, index)?;
+        self.kept.enter(self.alloc, agent, new, span, index)?;
+        Ok(self)
     }
 
     /// The entries, in their order: by kind, time, agents and cells.
@@ -153,65 +150,5 @@ impl ConflictLedger {
         ensures once { IsListed self.now }
     {
         self.kept.has(self.alloc, kind)
-    }
-
-    // Puts in what comes with the agent's track at the span's times, beside the others of the index.
-    fn enter<'x>(
-        mut self,
-        agent: Agent,
-        track: Track<'x>,
-        span: Span,
-        index: &'x WhereIndex,
-    ) -> Result<ConflictLedger, OutOfMemory>
-        ensures mends { IfOk result (λ ledger. (before after : Fleet) → Shows index.now agent None before → Shows index.now agent (Some (route_of track.entry)) after → SameBut before after agent → Fits span (last_index track.entry.plan.now) → HasEntriesIn span self before → HasEntriesIn span ledger after) }
-        ensures beside { IfOk result (λ ledger. (after : Fleet) → Shows index.now agent (Some (route_of track.entry)) after → Fits span (last_index track.entry.plan.now) → SameBeside span self ledger) }
-    {
-        let without = Sight {
-            index,
-            agent,
-            shown: None,
-        };
-        let with = Sight {
-            index,
-            agent,
-            shown: Some(track),
-        };
-        let entries = gather(self.alloc, &with, span)?;
-        let broken = rings_left(self.alloc, &without, &with, &entries)?;
-        let joined = rings_left(self.alloc, &with, &with, &entries)?;
-        self.kept.lose_all(&broken);
-        self.kept.put_all(joined)?;
-        self.kept.put_all(entries)?;
-        Ok(self)
-    }
-
-    // Takes out what goes with the agent's track at the span's times, beside the others of the index.
-    fn leave<'x>(
-        mut self,
-        agent: Agent,
-        track: Track<'x>,
-        span: Span,
-        index: &'x WhereIndex,
-    ) -> Result<ConflictLedger, OutOfMemory>
-        ensures mends { IfOk result (λ ledger. (before after : Fleet) → Shows index.now agent (Some (route_of track.entry)) before → Shows index.now agent None after → SameBut after before agent → Fits span (last_index track.entry.plan.now) → HasEntriesIn span self before → HasEntriesIn span ledger after) }
-        ensures beside { IfOk result (λ ledger. (before : Fleet) → Shows index.now agent (Some (route_of track.entry)) before → Fits span (last_index track.entry.plan.now) → SameBeside span self ledger) }
-    {
-        let without = Sight {
-            index,
-            agent,
-            shown: None,
-        };
-        let with = Sight {
-            index,
-            agent,
-            shown: Some(track),
-        };
-        let entries = gather(self.alloc, &with, span)?;
-        let broken = rings_left(self.alloc, &without, &with, &entries)?;
-        let joined = rings_left(self.alloc, &with, &with, &entries)?;
-        self.kept.lose_all(&joined);
-        self.kept.lose_all(&entries);
-        self.kept.put_all(broken)?;
-        Ok(self)
     }
 }

@@ -1,6 +1,7 @@
 //! A ledger of the conflict entries of a fleet, kept while agents come, go and change tracks.
 #![tactic(auto)]
 
+mod changes;
 mod closing;
 mod gather;
 mod kept;

@@ -1,10 +1,9 @@
-use Rattle.std.proofs.Common.{List, None, sym, subst}
+use Rattle.std.proofs.Common.{None, subst}
 use Rattle.plan_table.specs.Route.{route_of}
 use Rattle.where_index.specs.Index.{with_route}
-use Rattle.conflict_ledger.specs.Spans.{Fits, HasEntriesIn, SameBeside}
-use Rattle.mapf_rules.specs.declared.entries.Conflict.{Conflict}
+use Rattle.conflict_ledger.specs.Spans.{Fits}
 use Rattle.conflict_ledger.proofs.Turning.{last_shown, hidden, but_hidden, enter_law, enter_beside}
-use Rattle.conflict_ledger.proofs.ledger.ConflictLedger.enter.Goals as goal
+use Rattle.conflict_ledger.proofs.kept.KeptEntries.enter.Goals as goal
 
 pub returns-clause-mends : goal.returns-clause-mends
 returns-clause-mends c before after hides shows same fits has =
@@ -12,18 +11,17 @@ returns-clause-mends c before after hides shows same fits has =
     (c.in_ok-entries.ensures after shows (subst (Fits c.args.span) (last_shown _ _ (route_of c.args.track) after shows) fits))
     (rw c.deref.ensures.value at (c.in_ok-broken.ensures.only before hides)) (rw c.deref.ensures.value at (c.in_ok-broken.ensures.has before after hides shows))
     (rw c.deref-2.ensures.value at (c.in_ok-joined.ensures.only after shows)) (rw c.deref-2.ensures.value at (c.in_ok-joined.ensures.has after after shows shows))
-    c.self.inside.kept c.lose_all.new.self c.put_all.new.self c.put_all-2.new.self
+    c.args.self.now c.lose_all.new.self c.put_all.new.self c.put_all-2.new.self
     (rw c.deref-3.ensures.value at c.lose_all.ensures) c.in_ok-put_all.ensures c.in_ok-put_all-2.ensures
-    (subst (λ (kept : List Conflict). HasEntriesIn c.args.span kept before) (sym c.self.view_is) has)
+    has
 
 pub returns-clause-beside : goal.returns-clause-beside
 returns-clause-beside c after shows fits =
     let before = with_route after c.args.agent None in
     let hides = hidden _ _ _ after shows in
-    subst (λ (kept : List Conflict). SameBeside c.args.span kept c.put_all-2.new.self) c.self.view_is
-    (enter_beside _ _ _ before after hides shows (but_hidden after c.args.agent) c.in_ok-broken.broken.items c.in_ok-joined.joined.items c.in_ok-entries.entries.items c.args.span
+    enter_beside _ _ _ before after hides shows (but_hidden after c.args.agent) c.in_ok-broken.broken.items c.in_ok-joined.joined.items c.in_ok-entries.entries.items c.args.span
     (c.in_ok-entries.ensures after shows (subst (Fits c.args.span) (last_shown _ _ (route_of c.args.track) after shows) fits))
     (rw c.deref.ensures.value at (c.in_ok-broken.ensures.only before hides)) (rw c.deref.ensures.value at (c.in_ok-broken.ensures.has before after hides shows))
     (rw c.deref-2.ensures.value at (c.in_ok-joined.ensures.only after shows)) (rw c.deref-2.ensures.value at (c.in_ok-joined.ensures.has after after shows shows))
-    c.self.inside.kept c.lose_all.new.self c.put_all.new.self c.put_all-2.new.self
-    (rw c.deref-3.ensures.value at c.lose_all.ensures) c.in_ok-put_all.ensures c.in_ok-put_all-2.ensures)
+    c.args.self.now c.lose_all.new.self c.put_all.new.self c.put_all-2.new.self
+    (rw c.deref-3.ensures.value at c.lose_all.ensures) c.in_ok-put_all.ensures c.in_ok-put_all-2.ensures

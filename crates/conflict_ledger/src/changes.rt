@@ -1,0 +1,80 @@
+ghost use Rattle.std.specs.Prelude.{Some, None, OnOk};
+ghost use Rattle.plan_table.specs.Path.{last_index};
+ghost use Rattle.plan_table.specs.Route.{Fleet, route_of};
+ghost use Rattle.conflict_ledger.specs.Change.{SameBut};
+ghost use Rattle.conflict_ledger.specs.Sight.{Shows};
+ghost use Rattle.conflict_ledger.specs.Spans.{Fits, HasEntriesIn, SameBeside};
+
+use crate::gather::gather;
+use crate::kept::KeptEntries;
+use crate::sight::Sight;
+use crate::spans::Span;
+use crate::turns::rings_left;
+use grid_cells::{Agent, OutOfMemory};
+use plan_table::Track;
+use std::alloc::Global;
+use where_index::WhereIndex;
+
+impl KeptEntries {
+    // Puts in what comes with the agent's track at the span's times, beside the others of the index.
+    pub fn enter<'x>(
+        &mut self,
+        alloc: Global,
+        agent: Agent,
+        track: Track<'x>,
+        span: Span,
+        index: &'x WhereIndex,
+    ) -> Result<(), OutOfMemory>
+        ensures mends { OnOk result ((before after : Fleet) → Shows index.now agent None before → Shows index.now agent (Some (route_of track.entry)) after → SameBut before after agent → Fits span (last_index track.entry.plan.now) → HasEntriesIn span self.old before → HasEntriesIn span self.new after) }
+        ensures beside { OnOk result ((after : Fleet) → Shows index.now agent (Some (route_of track.entry)) after → Fits span (last_index track.entry.plan.now) → SameBeside span self.old self.new) }
+    {
+        let without = Sight {
+            index,
+            agent,
+            shown: None,
+        };
+        let with = Sight {
+            index,
+            agent,
+            shown: Some(track),
+        };
+        let entries = gather(alloc, &with, span)?;
+        let broken = rings_left(alloc, &without, &with, &entries)?;
+        let joined = rings_left(alloc, &with, &with, &entries)?;
+        self.lose_all(&broken);
+        self.put_all(joined)?;
+        self.put_all(entries)?;
+        Ok(())
+    }
+
+    // Takes out what goes with the agent's track at the span's times, beside the others of the index.
+    pub fn leave<'x>(
+        &mut self,
+        alloc: Global,
+        agent: Agent,
+        track: Track<'x>,
+        span: Span,
+        index: &'x WhereIndex,
+    ) -> Result<(), OutOfMemory>
+        ensures mends { OnOk result ((before after : Fleet) → Shows index.now agent (Some (route_of track.entry)) before → Shows index.now agent None after → SameBut after before agent → Fits span (last_index track.entry.plan.now) → HasEntriesIn span self.old before → HasEntriesIn span self.new after) }
+        ensures beside { OnOk result ((before : Fleet) → Shows index.now agent (Some (route_of track.entry)) before → Fits span (last_index track.entry.plan.now) → SameBeside span self.old self.new) }
+    {
+        let without = Sight {
+            index,
+            agent,
+            shown: None,
+        };
+        let with = Sight {
+            index,
+            agent,
+            shown: Some(track),
+        };
+        let entries = gather(alloc, &with, span)?;
+        let broken = rings_left(alloc, &without, &with, &entries)?;
+        let joined = rings_left(alloc, &with, &with, &entries)?;
+        self.lose_all(&joined);
+        self.lose_all(&entries);
+        self.put_all(broken)?;
+        Ok(())
+    }
+}
