@@ -59,8 +59,8 @@ module _ (on other new : PassState) (joined : IsJoined on other new) where
   own_kept before number joined_before =
       let both : All (HasJust new.made) (on.past ++ (other.planner, own_of other.planner other.made) ∷ other.past) = subst (All (HasJust new.made)) joined.past joined.kept in
       let still : All (HasJust new.made) on.past = λ at numbered inside.
-          let more : at < length (on.past ++ (other.planner, own_of other.planner other.made) ∷ other.past) = omega (arith, length-append on.past ((other.planner, own_of other.planner other.made) ∷ other.past)) in
-          subst (HasJust new.made) (get_or_append_left on.past _ numbered at inside) (both at numbered more) in
+      let more : at < length (on.past ++ (other.planner, own_of other.planner other.made) ∷ other.past) = omega (arith, length-append on.past ((other.planner, own_of other.planner other.made) ∷ other.past)) in
+      subst (HasJust new.made) (get_or_append_left on.past _ numbered at inside) (both at numbered more) in
       own_at on.made new.made on.past before still number joined_before
 
   -- and so was the one before them
