@@ -1,0 +1,109 @@
+//! Times the index and the ledger of conflicts alone, no desk round them, on four kinds of fleets. The
+//! word `full` asks for the sizes that docs/SPEED.md tells, any other for small ones; a kind's name,
+//! as `convoy`, for that kind alone.
+//!
+//! It prints how many entries each fleet has, and how many where its edited agent has another path.
+//! `fleets` says how these numbers follow from the paths. Standard error tells what each call took, the
+//! least of several turns, and the memory that the first of them took.
+#![tactic(auto)]
+
+mod fleets;
+mod kept;
+mod lanes;
+mod measured;
+mod memory;
+mod taken;
+
+use fleets::{Shape, fleet_of};
+use measured::{Effort, Found, found_in};
+use std::rt::{Clock, Files};
+use std::{env, io};
+
+// The fleets of the small runs.
+const SMALL: [Shape; 5] = [
+    Shape::Convoy { agents: 64 },
+    Shape::Convoy { agents: 256 },
+    Shape::Crowd {
+        agents: 60,
+        side: 16,
+    },
+    Shape::Long { cells: 2_001 },
+    Shape::Apart { agents: 256 },
+];
+
+// The fleets of the full runs.
+const FULL: [Shape; 5] = [
+    Shape::Convoy { agents: 1_024 },
+    Shape::Convoy { agents: 4_096 },
+    Shape::Crowd {
+        agents: 800,
+        side: 64,
+    },
+    Shape::Long { cells: 100_001 },
+    Shape::Apart { agents: 4_096 },
+];
+
+// Whether the words name that kind, or no kind.
+fn is_asked(words: &[String], name: &str) -> bool {
+    let mut any = true;
+    for word in words {
+        if word.as_str() == name {
+            return true;
+        }
+        any = any && (word.as_str() == "small" || word.as_str() == "full");
+    }
+    any
+}
+
+// Prints what was found with a fleet.
+fn tell<R: Print + Eprint>(rt: &R, name: &str, found: &Found) -> io::Result<()> {
+    let (agents, entries, edited) = (found.agents, found.entries, found.edited);
+    let same = found.same;
+    println!(rt;
+        "{name} of {agents}: {entries} entries, {edited} with the other path; \
+        as many after each turn: {same}"
+    )?;
+    let (entering, revising) = (found.entering, found.revising);
+    let (leaving, returning) = (found.leaving, found.returning);
+    eprintln!(rt;
+        "{name} of {agents}, microseconds: put and admit {entering}, swap and revise {revising}, \
+        take and retract {leaving}, put and admit again {returning}"
+    )?;
+    if let Some(memory) = found.memory {
+        let records = found.records;
+        eprintln!(rt; "{name} of {agents}: {memory} KiB, {records} records, {entries} entries")?;
+    }
+    Ok(())
+}
+
+fn run<R: AllocGlobal + Clock + Files + Print + Eprint>(
+    rt: &R,
+    shapes: &[Shape],
+    words: &[String],
+    effort: Effort,
+) -> anyhow::Result<()> {
+    for shape in shapes {
+        let name = shape.name();
+        if is_asked(words, name) {
+            let fleet = fleet_of(rt.alloc(), *shape)?;
+            let found = found_in(rt, &fleet, effort)?;
+            tell(rt, name, &found)?;
+        }
+    }
+    Ok(())
+}
+
+fn main(rt: HostRuntime) -> anyhow::Result<()> {
+    let mut words: Vec<String> = Vec::new(rt.alloc());
+    let mut full = false;
+    for word in env::args(&rt)?.skip(1) {
+        full = full || word.as_str() == "full";
+        words.push(word)?;
+    }
+    let (shapes, effort) = if full {
+        (&FULL, Effort::FULL)
+    } else {
+        (&SMALL, Effort::SMALL)
+    };
+    run(&rt, shapes.as_slice(), words.as_slice(), effort)
+}

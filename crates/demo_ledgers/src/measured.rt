@@ -1,0 +1,176 @@
+//! What a fleet's index and ledger take: to fill them, to edit one agent, to let it go and come again.
+use crate::fleets::Fleet;
+use crate::kept::{Kept, agent_of};
+use crate::memory::resident;
+use crate::taken::Taken;
+use anyhow::bail;
+use grid_cells::Agent;
+use plan_table::Plan;
+use std::rt::{Clock, Files};
+
+/// How many turns there are, and how many pairs of edits in each.
+#[derive(Clone, Copy)]
+pub struct Effort {
+    turns: u32,
+    edits: u32,
+}
+
+impl Effort {
+    /// For the small fleets.
+    pub const SMALL: Effort = Effort { turns: 2, edits: 5 };
+    /// For the full ones.
+    pub const FULL: Effort = Effort {
+        turns: 5,
+        edits: 200,
+    };
+}
+
+/// What was found with a fleet: numbers, and what each pair of calls took.
+#[derive(Clone, Copy)]
+pub struct Found {
+    pub agents: usize,
+    /// The entries of the fleet.
+    pub entries: u64,
+    /// The entries where the edited agent has its other path.
+    pub edited: u64,
+    /// Whether there were as many in each turn, and at its end.
+    pub same: bool,
+    /// The records that the index was given.
+    pub records: u64,
+    /// The KiB that filling took from the system in the first turn.
+    pub memory: Option<u64>,
+    pub entering: Taken,
+    pub revising: Taken,
+    pub leaving: Taken,
+    pub returning: Taken,
+}
+
+impl Found {
+    // With the lesser times of those and others of the same fleet.
+    fn or_less(self, other: Found) -> Found {
+        let same = self.entries == other.entries && self.edited == other.edited;
+        Found {
+            same: self.same && other.same && same,
+            entering: self.entering.or_less(other.entering),
+            revising: self.revising.or_less(other.revising),
+            leaving: self.leaving.or_less(other.leaving),
+            returning: self.returning.or_less(other.returning),
+            ..self
+        }
+    }
+}
+
+/// What is found with the fleet, with the least times of all turns.
+pub fn found_in<R: AllocGlobal + Clock + Files>(
+    rt: &R,
+    fleet: &Fleet,
+    effort: Effort,
+) -> anyhow::Result<Found> {
+    let mut found = turn(rt, fleet, effort.edits)?;
+    for _ in 1..effort.turns {
+        found = found.or_less(turn(rt, fleet, effort.edits)?);
+    }
+    Ok(found)
+}
+
+// All agents come.
+fn filled<R: AllocGlobal + Clock>(rt: &R, plans: &[Plan]) -> anyhow::Result<(Kept, Taken)> {
+    let mut kept = Kept::new(rt.alloc());
+    let mut all = Taken::default();
+    let mut number = 0u32;
+    for plan in plans {
+        let (more, taken) = kept.enter(rt, agent_of(number)?, plan)?;
+        kept = more;
+        all = all.and(taken);
+        number = number.saturating_add(1);
+    }
+    Ok((kept, all.each(number)))
+}
+
+// How many entries there are where the agent has the other plan, which it gives back.
+fn entries_with<R: Clock>(
+    rt: &R,
+    kept: Kept,
+    agent: Agent,
+    own: &Plan,
+    other: &Plan,
+) -> anyhow::Result<(Kept, u64)> {
+    let (there, _taken) = kept.revise(rt, agent, own, other)?;
+    let entries = there.entries();
+    let (back, _taken) = there.revise(rt, agent, other, own)?;
+    Ok((back, entries))
+}
+
+// The agent gets the other plan and its own again, so many times. Answers what each edit took.
+fn after_edits<R: Clock>(
+    rt: &R,
+    mut kept: Kept,
+    agent: Agent,
+    own: &Plan,
+    other: &Plan,
+    edits: u32,
+) -> anyhow::Result<(Kept, Taken)> {
+    let mut all = Taken::default();
+    for _ in 0..edits {
+        let (there, taken) = kept.revise(rt, agent, own, other)?;
+        let (back, again) = there.revise(rt, agent, other, own)?;
+        kept = back;
+        all = all.and(taken).and(again);
+    }
+    Ok((kept, all.each(edits.saturating_mul(2))))
+}
+
+// The agent goes and comes again, so many times. Answers what each going and each coming took.
+fn gone_and_back<R: Clock>(
+    rt: &R,
+    mut kept: Kept,
+    agent: Agent,
+    own: &Plan,
+    edits: u32,
+) -> anyhow::Result<(Kept, Taken, Taken)> {
+    let (mut leaving, mut returning) = (Taken::default(), Taken::default());
+    for _ in 0..edits {
+        let (without, taken) = kept.leave(rt, agent, own)?;
+        let (with, again) = without.enter(rt, agent, own)?;
+        kept = with;
+        leaving = leaving.and(taken);
+        returning = returning.and(again);
+    }
+    Ok((kept, leaving.each(edits), returning.each(edits)))
+}
+
+// One turn.
+fn turn<R: AllocGlobal + Clock + Files>(
+    rt: &R,
+    fleet: &Fleet,
+    edits: u32,
+) -> anyhow::Result<Found> {
+    let Some(own) = fleet.plans.get(fleet.edited as usize) else {
+        bail!("no agent is edited");
+    };
+    let (agent, other) = (agent_of(fleet.edited)?, &fleet.other);
+    let before = resident(rt);
+    let (kept, entering) = filled(rt, fleet.plans.as_slice())?;
+    let memory = grown(before, resident(rt));
+    let (entries, records) = (kept.entries(), kept.index.touched());
+    let (kept, edited) = entries_with(rt, kept, agent, own, other)?;
+    let (kept, revising) = after_edits(rt, kept, agent, own, other, edits)?;
+    let (kept, leaving, returning) = gone_and_back(rt, kept, agent, own, edits)?;
+    Ok(Found {
+        agents: fleet.plans.len(),
+        entries,
+        edited,
+        same: kept.entries() == entries,
+        records,
+        memory,
+        entering,
+        revising,
+        leaving,
+        returning,
+    })
+}
+
+// How much more the process has, if both are known.
+fn grown(before: Option<u64>, after: Option<u64>) -> Option<u64> {
+    Some(after?.saturating_sub(before?))
+}
