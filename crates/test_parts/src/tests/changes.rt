@@ -4,7 +4,8 @@ ghost use Rattle.plan_table.specs.Route.{route_of, position};
 
 use super::fleets::Fleet;
 use super::records::check_touched;
-use super::walks::{any_agent, any_cell, new_row, other_row};
+use super::rows::{new_row, other_row};
+use super::walks::any_cell;
 use conflict_ledger::ConflictLedger;
 use cost_ledger::CostLedger;
 use grid_cells::{Agent, Grid};
@@ -111,18 +112,18 @@ fn revised(
     }
 }
 
-/// An agent by chance comes, goes, or gets another row.
+/// An agent comes that isn't there; one that is goes, or gets another row.
 pub fn change(
     rt: &impl Abort,
     alloc: Global,
     kept: Kept,
     fleet: &mut Fleet,
+    agent: Agent,
     chain: &mut Chain,
 ) -> Kept {
-    let agent = any_agent(rt, chain, fleet.agents);
-    let (mode, size) = (fleet.mode, fleet.grid.size());
+    let mode = fleet.mode;
     let Some(old) = fleet.plans.remove(agent) else {
-        let row = new_row(rt, alloc, chain, size);
+        let row = new_row(rt, alloc, chain, fleet, agent);
         let kept = entered(rt, kept, agent, &row, mode, &fleet.grid);
         fleet.set(rt, agent, row);
         return kept;
@@ -130,7 +131,7 @@ pub fn change(
     if chain.roll(4) == 0 {
         return left(rt, kept, agent, &old, mode);
     }
-    let new = other_row(rt, alloc, &old, chain, size);
+    let new = other_row(rt, alloc, &old, chain, fleet, agent);
     let kept = revised(rt, kept, agent, &old, &new, mode, &fleet.grid);
     fleet.set(rt, agent, new);
     kept

@@ -1,15 +1,15 @@
-//! The index and both ledgers beside plain programs, which go over all agents, times and pairs.
+//! The index and the ledger of costs beside plain programs, which go over all agents and times.
 use super::changes::Kept;
 use super::fleets::Fleet;
 use cost_ledger::CostLedger;
 use grid_cells::{Agent, Cell, Step};
 use mapf_rules::{
-    Conflict, Kind, blocked_visits, conflicts, is_finished, last, makespan, position, settle_time,
-    sum_of_costs,
+    blocked_visits, is_finished, last, makespan, position, settle_time, sum_of_costs,
 };
 use plan_table::{Mode, Row};
 use std::alloc::Global;
 use std::process::Abort;
+use test_support::Chain;
 use where_index::{Move, Passing, WhereIndex};
 
 // Compares who is in the cell at the time, and who moves out of it.
@@ -69,16 +69,32 @@ fn compare_coming(
     assert!(rt; coming.items() == passing.as_slice());
 }
 
-/// Compares who is where, and when.
-pub fn compare_index(rt: &impl Abort, alloc: Global, index: &WhereIndex, fleet: &Fleet) {
+// Compares who is where at that time, and who comes there later.
+fn compare_time(rt: &impl Abort, alloc: Global, index: &WhereIndex, fleet: &Fleet, time: u32) {
     let size = fleet.grid.size();
-    for time in 0..=index.horizon().saturating_add(1) {
-        for x in 0..size.width() {
-            for y in 0..size.height() {
-                let cell = Cell::new(x, y).expect(rt, "a cell");
-                compare_at(rt, alloc, index, fleet, time, cell);
-                compare_coming(rt, alloc, index, fleet, time, cell);
-            }
+    for x in 0..size.width() {
+        for y in 0..size.height() {
+            let cell = Cell::new(x, y).expect(rt, "a cell");
+            compare_at(rt, alloc, index, fleet, time, cell);
+            compare_coming(rt, alloc, index, fleet, time, cell);
+        }
+    }
+}
+
+/// Compares who is where, and when: at all times, or at some fifty by chance where there are more.
+pub fn compare_index(
+    rt: &impl Abort,
+    alloc: Global,
+    index: &WhereIndex,
+    fleet: &Fleet,
+    chain: &mut Chain,
+) {
+    let end = index.horizon().saturating_add(1);
+    let apart = end / 50 + 1;
+    let first = chain.roll(apart as usize) as u32;
+    for time in 0..=end {
+        if time % apart == first {
+            compare_time(rt, alloc, index, fleet, time);
         }
     }
     assert!(rt; index.count() == fleet.plans.count() as usize);
@@ -131,33 +147,4 @@ pub fn compare_costs(rt: &impl Abort, alloc: Global, kept: &Kept, fleet: &Fleet)
     let told = costs.blocked_visits().expect(rt, "memory");
     let plain = blocked_visits(alloc, &fleet.grid, plans).expect(rt, "memory");
     assert!(rt; told.items() == plain.items());
-}
-
-// How many of the entries are of that kind.
-fn many(entries: &[Conflict], kind: Kind) -> u64 {
-    let mut count = 0u64;
-    for entry in entries {
-        if entry.kind() == kind {
-            count = count.saturating_add(1);
-        }
-    }
-    count
-}
-
-/// Compares the conflicts. Answers how many rings there are.
-pub fn compare_conflicts(rt: &impl Abort, alloc: Global, kept: &Kept, fleet: &Fleet) -> u64 {
-    let listed = kept.ledger.listed().expect(rt, "memory");
-    let plain = conflicts(alloc, &fleet.plans, fleet.mode).expect(rt, "memory");
-    assert!(rt; listed.items() == plain.items());
-    for kind in [
-        Kind::Vertex,
-        Kind::Parked,
-        Kind::Edge,
-        Kind::Following,
-        Kind::Swapping,
-        Kind::Cycle,
-    ] {
-        assert!(rt; kept.ledger.count(kind) == many(plain.items(), kind));
-    }
-    kept.ledger.count(Kind::Cycle)
 }

@@ -5,6 +5,17 @@ use std::alloc::Global;
 use std::process::Abort;
 use test_support::open_grid;
 
+/// How an agent goes that comes to a fleet.
+#[derive(Clone, Copy)]
+pub enum Manner {
+    /// By chance, for a few steps.
+    Wandering,
+    /// Behind the agent of the next number, along a lane round the map's first two rows.
+    InConvoy,
+    /// To and fro, for two hundred steps and more.
+    ToAndFro,
+}
+
 /// A fleet on its map, of which the agents' numbers are below that of `agents`.
 #[derive(Drop)]
 pub struct Fleet {
@@ -12,6 +23,7 @@ pub struct Fleet {
     pub grid: Grid,
     pub mode: Mode,
     pub agents: u32,
+    pub manner: Manner,
 }
 
 impl Fleet {
@@ -22,12 +34,14 @@ impl Fleet {
         mode: Mode,
         (width, height): (u32, u32),
         agents: u32,
+        manner: Manner,
     ) -> Fleet {
         Fleet {
             plans: Plans::new(alloc),
             grid: open_grid(alloc, width, height).expect(rt, "a map"),
             mode,
             agents,
+            manner,
         }
     }
 

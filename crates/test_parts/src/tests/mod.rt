@@ -1,15 +1,18 @@
 //! By crates, from the lowest on.
 mod changes;
 mod comparisons;
+mod conflicts;
 mod edits;
 mod fields;
 mod fleets;
 mod formers;
+mod lanes;
 mod maps;
 mod orders;
 mod plans;
 mod random;
 mod records;
+mod rows;
 mod scenarios;
 mod small_types;
 mod streams;

@@ -1,7 +1,10 @@
 //! Random changes of fleets and their maps: the index and both ledgers beside plain programs.
 use super::changes::{Kept, change, flip};
-use super::comparisons::{compare_conflicts, compare_costs, compare_index};
-use super::fleets::Fleet;
+use super::comparisons::{compare_costs, compare_index};
+use super::conflicts::compare_conflicts;
+use super::fleets::{Fleet, Manner};
+use super::walks::any_agent;
+use grid_cells::Agent;
 use plan_table::Mode;
 use std::alloc::Global;
 use std::process::Abort;
@@ -9,7 +12,10 @@ use test_support::Chain;
 
 // A map's width and height, how many agents there may be, how many fleets are made of them, and of how
 // many changes each.
-const FLEETS: [((u32, u32), u32, u32, u32); 8] = [
+type Shape = ((u32, u32), u32, u32, u32);
+
+// Agents that wander, few of them and crowds.
+const FEW_AND_CROWDS: [Shape; 9] = [
     ((3, 2), 6, 5, 60),
     ((1, 1), 6, 1, 30),
     ((2, 1), 8, 1, 60),
@@ -18,16 +24,39 @@ const FLEETS: [((u32, u32), u32, u32, u32); 8] = [
     ((4, 3), 6, 2, 60),
     ((4, 1), 4, 1, 60),
     ((7, 2), 9, 1, 60),
+    ((4, 4), 30, 1, 90),
 ];
 
-// How many rings were seen, and the most agents that came through a cell as it opened or closed.
+// Convoys: round a square, where a ring may close, along one row and back, and in a row of a larger map.
+const CONVOYS: [Shape; 4] = [
+    ((2, 2), 4, 2, 40),
+    ((3, 2), 6, 2, 60),
+    ((9, 1), 8, 1, 60),
+    ((12, 3), 9, 1, 60),
+];
+
+// Agents that go to and fro.
+const LONG: [Shape; 2] = [((3, 2), 4, 1, 60), ((5, 1), 3, 1, 40)];
+
+// How many rings were seen, the most agents that came through a cell as it opened or closed, and the
+// greatest last index.
 #[derive(Clone, Copy)]
 struct Seen {
     rings: u64,
     visitors: usize,
+    last: u32,
 }
 
-// Changes by chance, with a comparison after each.
+// The agent of a change: first each in its turn, and then any.
+fn next_agent(rt: &impl Abort, fleet: &Fleet, turn: u32, chain: &mut Chain) -> Agent {
+    if turn < fleet.agents {
+        Agent::new(turn).expect(rt, "an agent")
+    } else {
+        any_agent(rt, chain, fleet.agents)
+    }
+}
+
+// All agents come, and then there are changes by chance, with a comparison after each.
 fn change_at_random(
     rt: &impl Abort,
     alloc: Global,
@@ -37,14 +66,39 @@ fn change_at_random(
     mut seen: Seen,
 ) -> Seen {
     let mut kept = Kept::new(alloc);
-    for _ in 0..changes {
+    for turn in 0..changes {
+        let agent = next_agent(rt, &fleet, turn, chain);
         let (flipped, visitors) = flip(rt, kept, &mut fleet, chain);
-        kept = change(rt, alloc, flipped, &mut fleet, chain);
-        compare_index(rt, alloc, &kept.index, &fleet);
+        kept = change(rt, alloc, flipped, &mut fleet, agent, chain);
+        compare_index(rt, alloc, &kept.index, &fleet, chain);
         compare_costs(rt, alloc, &kept, &fleet);
-        let rings = compare_conflicts(rt, alloc, &kept, &fleet);
+        let rings = compare_conflicts(rt, alloc, &kept, &fleet, chain);
         seen.rings = seen.rings.saturating_add(rings);
         seen.visitors = seen.visitors.max(visitors);
+    }
+    seen.last = seen.last.max(kept.index.horizon());
+    seen
+}
+
+// Changes the fleets of those shapes, in that manner and mode.
+fn change_all(
+    rt: &impl Abort,
+    alloc: Global,
+    shapes: &[Shape],
+    manner: Manner,
+    mode: Mode,
+    chain: &mut Chain,
+) -> Seen {
+    let mut seen = Seen {
+        rings: 0,
+        visitors: 0,
+        last: 0,
+    };
+    for (size, agents, fleets, changes) in shapes {
+        for _ in 0..*fleets {
+            let fleet = Fleet::new(rt, alloc, mode, *size, *agents, manner);
+            seen = change_at_random(rt, alloc, fleet, *changes, chain, seen);
+        }
     }
     seen
 }
@@ -54,16 +108,30 @@ fn change_at_random(
 fn all_agree_with_the_plain_programs(rt: HostRuntime) {
     let mut chain = Chain::new(1);
     for mode in [Mode::Stay, Mode::Disappear] {
-        let mut seen = Seen {
-            rings: 0,
-            visitors: 0,
-        };
-        for (size, agents, fleets, changes) in FLEETS {
-            for _ in 0..fleets {
-                let fleet = Fleet::new(&rt, rt.alloc(), mode, size, agents);
-                seen = change_at_random(&rt, rt.alloc(), fleet, changes, &mut chain, seen);
-            }
-        }
+        let shapes = FEW_AND_CROWDS.as_slice();
+        let seen = change_all(&rt, rt.alloc(), shapes, Manner::Wandering, mode, &mut chain);
         assert!(rt; seen.rings > 0 && seen.visitors > 8);
+    }
+}
+
+// There are rings.
+#[test]
+fn convoys_agree_with_the_plain_programs(rt: HostRuntime) {
+    let mut chain = Chain::new(2);
+    for mode in [Mode::Stay, Mode::Disappear] {
+        let shapes = CONVOYS.as_slice();
+        let seen = change_all(&rt, rt.alloc(), shapes, Manner::InConvoy, mode, &mut chain);
+        assert!(rt; seen.rings > 0);
+    }
+}
+
+// There are paths of more than two hundred steps.
+#[test]
+fn long_paths_agree_with_the_plain_programs(rt: HostRuntime) {
+    let mut chain = Chain::new(3);
+    for mode in [Mode::Stay, Mode::Disappear] {
+        let shapes = LONG.as_slice();
+        let seen = change_all(&rt, rt.alloc(), shapes, Manner::ToAndFro, mode, &mut chain);
+        assert!(rt; seen.last > 200);
     }
 }

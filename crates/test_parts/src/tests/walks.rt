@@ -1,6 +1,6 @@
-//! Agents, cells, paths and rows by chance, on a map of any size.
-use grid_cells::{Agent, Cell, Size, Step};
-use plan_table::{Plan, Row};
+//! Agents, cells and short walks by chance, on a map of any size.
+use grid_cells::{Agent, Cell, Size};
+use plan_table::Plan;
 use std::alloc::Global;
 use std::process::Abort;
 use test_support::Chain;
@@ -29,9 +29,9 @@ fn round_square(x: u32, y: u32) -> (u32, u32) {
     }
 }
 
-// The next cell of that round in most draws, or any that is adjacent or the same. Where the map lacks
-// it, the cell itself.
-fn next_to(size: Size, cell: Cell, turn: usize) -> Cell {
+/// The next cell of that round where the turn is above 4, or one that is adjacent or the same. Where
+/// the map lacks it, the cell itself.
+pub fn next_to(size: Size, cell: Cell, turn: usize) -> Cell {
     let (x, y) = (cell.x(), cell.y());
     let place = match turn {
         0 => (x.saturating_sub(1), y),
@@ -44,8 +44,16 @@ fn next_to(size: Size, cell: Cell, turn: usize) -> Cell {
     size.cell(place.0, place.1).unwrap_or(cell)
 }
 
-// A plan that begins with the cells, of which the last is `here`.
-fn walk_on(
+/// The plan of the cells.
+pub fn plan_of(rt: &impl Abort, cells: Vec<Cell>) -> Plan {
+    match Plan::new(cells) {
+        Ok(plan) => plan,
+        Err(_) => panic!(rt; "no plan"),
+    }
+}
+
+/// A plan that begins with the cells, of which the last is `here`, and goes on for some steps.
+pub fn walk_on(
     rt: &impl Abort,
     mut cells: Vec<Cell>,
     mut here: Cell,
@@ -56,58 +64,13 @@ fn walk_on(
         here = next_to(size, here, chain.roll(24));
         cells.push(here).expect(rt, "memory");
     }
-    match Plan::new(cells) {
-        Ok(plan) => plan,
-        Err(_) => panic!(rt; "no plan"),
-    }
+    plan_of(rt, cells)
 }
 
-// A plan from any cell.
-fn walk(rt: &impl Abort, alloc: Global, chain: &mut Chain, size: Size) -> Plan {
+/// A plan from any cell.
+pub fn walk(rt: &impl Abort, alloc: Global, chain: &mut Chain, size: Size) -> Plan {
     let start = any_cell(rt, chain, size);
     let mut cells = Vec::new(alloc);
     cells.push(start).expect(rt, "memory");
     walk_on(rt, cells, start, chain, size)
-}
-
-// A plan that begins as the old one does.
-fn other_walk(rt: &impl Abort, alloc: Global, old: &Plan, chain: &mut Chain, size: Size) -> Plan {
-    let keep = chain.roll(old.cells().len().max(1));
-    let mut cells = Vec::new(alloc);
-    let mut here = old.at(Step::new(0));
-    for (index, cell) in old.cells().iter().enumerate() {
-        if index <= keep {
-            here = *cell;
-            cells.push(here).expect(rt, "memory");
-        }
-    }
-    walk_on(rt, cells, here, chain, size)
-}
-
-// A row for the plan: its goal is the plan's end in every second draw.
-fn row(rt: &impl Abort, plan: Plan, chain: &mut Chain, size: Size) -> Row {
-    let goal = if chain.roll(2) == 0 {
-        plan.at(Step::new(plan.last()))
-    } else {
-        any_cell(rt, chain, size)
-    };
-    Row { goal, plan }
-}
-
-/// A row for any path.
-pub fn new_row(rt: &impl Abort, alloc: Global, chain: &mut Chain, size: Size) -> Row {
-    row(rt, walk(rt, alloc, chain, size), chain, size)
-}
-
-/// Another row for an agent that has this one: of another goal, of another path, or of both.
-pub fn other_row(rt: &impl Abort, alloc: Global, old: &Row, chain: &mut Chain, size: Size) -> Row {
-    if chain.roll(3) == 0 {
-        let plan = old.plan.copy().expect(rt, "memory");
-        return Row {
-            goal: any_cell(rt, chain, size),
-            plan,
-        };
-    }
-    let plan = other_walk(rt, alloc, &old.plan, chain, size);
-    row(rt, plan, chain, size)
 }
