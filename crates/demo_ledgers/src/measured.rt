@@ -20,8 +20,8 @@ impl Effort {
     pub const SMALL: Effort = Effort { turns: 2, edits: 5 };
     /// For the full ones.
     pub const FULL: Effort = Effort {
-        turns: 5,
-        edits: 200,
+        turns: 3,
+        edits: 10,
     };
 }
 
