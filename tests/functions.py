@@ -1,0 +1,99 @@
+"""The functions that a crate's sources write: their names, as the checker tells them, and where they stand."""
+import re
+from pathlib import Path
+from typing import NamedTuple
+
+FUNCTION = re.compile(r"( *)(?:pub(?:\([^)]*\))? )?(?:const )?(?:unsafe )?fn (\w+)")
+TYPE = re.compile(r"(?m)^(?:pub(?:\([^)]*\))? )?(?:struct|enum|trait) (\w+)")
+TRAIT = re.compile(r"(?:pub(?:\([^)]*\))? )?trait (\w+)")
+CLAUSE = re.compile(r"\s*(?:requires|ensures|ghost|invariant)")
+
+
+class Function(NamedTuple):
+    path: tuple  # of names below the crate, the last one its own
+    file: str  # below the crate's folder
+    first: int  # its first line, from 0
+    last: int
+    is_recursive: bool  # it calls itself by its name
+
+
+def module_of(file):
+    """The names of the module that a file of src/ is."""
+    names = file.removeprefix("src/").removesuffix(".rt").split("/")
+    return [] if names in (["lib"], ["main"]) else names[:-1] if names[-1] == "mod" else names
+
+
+def head(text):
+    """The last name of the type or trait that a text begins with."""
+    return re.match(r"(?:&(?:'\w+ )?(?:mut )?)?(?:\w+::)*(\w+)", text.strip())[1]
+
+
+def without_parameters(text):
+    """What stands behind the list of type parameters that an impl's text begins with, if it does."""
+    depth = 0
+    for at, letter in enumerate(text):
+        depth += (letter == "<") - (letter == ">" and text[at - 1] != "-")
+        if not depth:
+            return text[at + 1 :] if at else text
+    return text
+
+
+def owner_of(line, module, types):
+    """The names that the functions of an impl or a trait stand below, where the line begins one."""
+    trait = TRAIT.match(line)
+    if trait:
+        return [*module, trait[1]]
+    if not re.match(r"impl\b", line):
+        return None
+    parts = without_parameters(line.removeprefix("impl")).split(" where ")[0].rstrip("{ ").split(" for ")
+    name = head(parts[-1])
+    if len(parts) == 1:
+        places = types.get(name, [module])
+        return [*(module if module in places else places[0]), name]
+    # (what an impl of `From<T>` is called has the name of T in it)
+    of = re.search(r"<(?:\w+::)*(\w+)", parts[0])
+    return [*module, name + head(parts[0]) + (of[1] if of and head(parts[0]) == "From" else "")]
+
+
+def last_line(lines, first, indent):
+    """The last line of the function that begins there, and whether it has a body."""
+    is_open = False
+    for at in range(first, len(lines)):
+        line = lines[at].rstrip()
+        if is_open and line == f"{indent}}}":
+            return at, True
+        if not is_open and line.endswith("};" if CLAUSE.match(line) else ";"):
+            return at, False
+        if not is_open and not CLAUSE.match(line):
+            if line.endswith("{}"):
+                return at, True
+            is_open = line.endswith("{")
+    return len(lines) - 1, False
+
+
+def functions_in(file, text, types):
+    module, lines, owner, at = module_of(file), text.split("\n"), None, 0
+    while at < len(lines):
+        line = lines[at]
+        if line and not line.startswith(" "):
+            owner = None if line.startswith("}") else owner_of(line, module, types) or owner
+        found = FUNCTION.match(line)
+        if found and (not found[1] or found[1] == "    " and owner):
+            is_test = any("#[test]" in it for it in lines[max(at - 2, 0) : at])
+            first = at
+            at, has_body = last_line(lines, first, found[1])
+            if has_body and not is_test:
+                calls = rf"(?<![\w:.]){found[2]}(?:::<[^>]*>)?\(" if not found[1] else rf"(?:\bself\.|\bSelf::){found[2]}\("
+                is_recursive = bool(re.search(calls, "\n".join(lines[first + 1 : at])))
+                yield Function((*(owner if found[1] else module), found[2]), file, first, at, is_recursive)
+        at += 1
+
+
+def functions_of(crate):
+    """The functions of the crate in that folder."""
+    texts = {str(it.relative_to(crate)): it.read_text() for it in sorted(Path(crate).glob("src/**/*.rt"))}
+    types = {}
+    for file, text in texts.items():
+        for name in TYPE.findall(text):
+            types.setdefault(name, []).append(module_of(file))
+    return [it for file, text in texts.items() for it in functions_in(file, text, types)]

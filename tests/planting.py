@@ -1,0 +1,114 @@
+"""Wrong bodies of a crate, planted side by side in copies of it, where all other functions have holes for proofs."""
+import shutil
+from pathlib import Path
+
+from functions import functions_of
+
+PARTS = ("src", "specs", "proofs")
+HOLE = """use Rattle.{crate}.proofs.{path}.Statement.{{statement}}
+
+pub {name}_spec : {{M : Type 1}} → statement M
+{name}_spec = ?
+"""
+
+
+class Edit:
+    """A wrong body: a file of must-fail, with what it changes. Where that is no function, a line 'refused at: ' names one."""
+
+    def __init__(self, file):
+        self.name, self.pairs, self.paths, path, old = file.stem, [], [], None, None
+        for line in file.read_text().split("\n"):
+            if line.startswith("file: "):
+                path = line.removeprefix("file: ").strip()
+            elif line.startswith("refused at: "):
+                self.paths.append(tuple(line.removeprefix("refused at: ").split("::")))
+            elif line.startswith("old: "):
+                old = line.removeprefix("old: ")
+            elif line.startswith("new:"):
+                self.pairs.append((path, old, line.removeprefix("new:").removeprefix(" ")))
+        if not self.pairs or not all(it[0] and it[0].startswith("src/") and it[1] for it in self.pairs):
+            raise SystemExit(f"{file}: a wrong body changes a file of src/, by lines 'file: ', 'old: ' and 'new: '")
+
+    def find(self, texts, functions):
+        """Finds the functions that it changes, and whether it changes functions alone; then others may stand beside it."""
+        self.is_of_functions = True
+        for file, old, _ in self.pairs:
+            at = texts[file].find(old)
+            line = texts[file][:at].count("\n")
+            inside = [it.path for it in functions if it.file == file and it.first <= line <= it.last]
+            # (a later pair may change what an earlier one wrote)
+            if at >= 0:
+                self.is_of_functions = self.is_of_functions and bool(inside)
+                self.paths += [it for it in inside if it not in self.paths]
+
+    def changed(self, texts):
+        """The texts with this body in them, or None where an old text doesn't stand there once."""
+        texts = dict(texts)
+        for file, old, new in self.pairs:
+            if texts[file].count(old) != 1:
+                return None
+            texts[file] = texts[file].replace(old, new)
+        return texts
+
+
+class Copy:
+    """A copy of a crate with some wrong bodies in it."""
+
+    def __init__(self, folder, texts, functions):
+        self.folder, self.crate, self.texts, self.functions, self.edits = folder, folder.name, texts, functions, []
+        self.size = sum(map(len, texts.values()))
+
+    def take(self, edit):
+        """Plants a wrong body, unless others stand here that it can't stand beside."""
+        is_shared = edit.is_of_functions and all(it.is_of_functions for it in self.edits)
+        taken = {path for it in self.edits for path in it.paths}
+        texts = edit.changed(self.texts)
+        if texts is None or self.edits and (not is_shared or taken & set(edit.paths)):
+            return False
+        self.edits.append(edit)
+        self.texts = texts
+        return True
+
+    @property
+    def witness(self):
+        """A function that isn't changed and has answers of its own; the one with the least of them."""
+        changed = {path for it in self.edits for path in it.paths}
+        sizes = [(self.answers(it), it.path, it) for it in self.functions if it.path not in changed]
+        return min([it for it in sizes if it[0]] or sizes)[2]
+
+    def answers(self, function):
+        file = self.folder / "proofs" / "/".join(function.path) / "Answers.antt"
+        return file.stat().st_size if file.exists() else 0
+
+    def tried(self):
+        return [*{path: 0 for it in self.edits for path in it.paths}, self.witness.path]
+
+    def write(self, room):
+        """Writes the copy into a folder."""
+        for part in PARTS:
+            if (self.folder / part).is_dir():
+                shutil.copytree(self.folder / part, room / part)
+        for file, text in self.texts.items():
+            (room / file).write_text(text)
+        # (the proof of a function that calls itself stands elsewhere: it is proved)
+        for path in {it.path for it in self.functions if not it.is_recursive} - {*self.tried()}:
+            folder = room / "proofs" / "/".join(path)
+            shutil.rmtree(folder, ignore_errors=True)
+            folder.mkdir(parents=True)
+            hole = HOLE.format(crate=self.crate, path=".".join(path), name=path[-1])
+            (folder / "Proof.antt").write_text(hole)
+
+
+def rounds_of(folder):
+    """Copies of the crate in that folder, which hold all its wrong bodies."""
+    texts = {str(it.relative_to(folder)): it.read_text() for it in sorted(folder.glob("src/**/*.rt"))}
+    functions, copies = functions_of(folder), []
+    for file in sorted(folder.glob("must-fail/*.edit")):
+        edit = Edit(file)
+        edit.find(texts, functions)
+        if edit.changed(texts) is None or not edit.paths:
+            raise SystemExit(f"{file}: an old text doesn't stand in its file once, or in no function, and no line 'refused at: ' names one")
+        if not any(it.take(edit) for it in copies):
+            copies.append(Copy(folder, texts, functions))
+            copies[-1].take(edit)
+    return copies
