@@ -4,11 +4,13 @@
 wrong_functions.py PROVED [CRATE..]     all of them, or those of some crates; PROVED is a folder where `rt ci` has proved the crates
 The wrong bodies of a crate are planted side by side in one copy of it, in a further one where they change the same function
 or more than bodies. What isn't changed there has a hole for its proof, so it is taken at its contract, which `rt ci` has
-proved; the changed functions are proved for real, and so is one more, which has to be proved.
+proved; the changed functions are proved for real, and so is one more, which has to be proved. The copies of a crate are
+checked one after the other, and each takes over what the ones before it have checked and it has unchanged.
 The last line is 'N passed, M failed'; status 1 where one failed.
 """
 import os
 import re
+import shutil
 import subprocess
 import sys
 import tempfile
@@ -50,10 +52,11 @@ def words_of(crate, proved):
     yield from ("--antt-project", f"{KIT}/rattle/logic/antt-project.json", "--logic-built", f"{KIT}/logic_built")
 
 
-def check(copy, proved, room):
-    """What the checker says of a copy's changed functions."""
+def check(copy, proved, room, kept):
+    """What the checker says of a copy's changed functions, over what it has kept of the crate's other copies."""
     root = "src/main.rt" if (room / "src/main.rt").exists() else "src/lib.rt"
-    words = ["--crate-name", copy.crate, root, *words_of(copy.crate, proved), "--links", f"{copy.crate}=", "--jobs", "1", "--allow-holes"]
+    words = ["--crate-name", copy.crate, root, *words_of(copy.crate, proved), "--links", f"{copy.crate}=", "--jobs", "1"]
+    words += ["--allow-holes", "--incremental", kept]
     for path in copy.tried():
         words += ["--only", "::".join(path)]
     how = {"stdin": subprocess.DEVNULL, "stdout": subprocess.PIPE, "stderr": subprocess.STDOUT, "text": True, "errors": "replace"}
@@ -84,20 +87,25 @@ def refusal(copy, path, said, is_alone=False):
     return real[0] if real else f"{NAMED}: {errors[0]}" if errors else None
 
 
-def heard(copy, proved):
+def heard(copy, proved, top):
     """What the checker says of a copy; once more where it doesn't come to its end, as when it was killed for memory."""
     for _ in range(2):
-        with tempfile.TemporaryDirectory(prefix="wrong-") as room:
-            copy.write(Path(room))
-            said = check(copy, proved, Path(room))
+        shutil.rmtree(top / "crate", ignore_errors=True)
+        copy.write(top / "crate")
+        said = check(copy, proved, top / "crate", top / "kept")
         if END.search(said):
             break
     return said
 
 
-def outcomes(copy, proved):
+def outcomes_of(copies, proved):
+    """The outcomes of a crate's copies."""
+    with tempfile.TemporaryDirectory(prefix="wrong-") as top:
+        return [it for copy in copies for it in outcomes(copy, heard(copy, proved, Path(top)))]
+
+
+def outcomes(copy, said):
     """For each wrong body of a copy its name, and why it doesn't count as refused, if it doesn't."""
-    said = heard(copy, proved)
     label = lambda edit: f"{copy.crate}/{edit.name}"
     if not END.search(said):
         why = next((it for it in said.splitlines() if "error: " in it), said.strip()[-300:])
@@ -122,11 +130,11 @@ def main():
     proved, *names = sys.argv[1:]
     crates = names or sorted(it.parent.name for it in TOP.glob("crates/*/must-fail"))
     passed = failed = 0
-    copies = [copy for crate in crates for copy in rounds_of(TOP / "crates" / crate)]
+    copies = [rounds_of(TOP / "crates" / crate) for crate in crates]
     # (first those that are likely to take longest)
-    copies.sort(key=lambda it: -it.size * len(it.edits))
+    copies.sort(key=lambda those: -those[0].size * sum(len(it.edits) for it in those))
     with ThreadPoolExecutor(processors()) as pool:
-        for done in as_completed([pool.submit(outcomes, it, Path(proved).resolve()) for it in copies]):
+        for done in as_completed([pool.submit(outcomes_of, it, Path(proved).resolve()) for it in copies]):
             for name, good, why in done.result():
                 print(f"{name}: {'FAILED: ' + why if why else good}", flush=True)
                 passed, failed = passed + (not why), failed + bool(why)
