@@ -8,117 +8,147 @@ use crate::arguments::{
 use crate::helping::{
     ABOUT, AUDIT_HELP, CHECK_HELP, DRAW_HELP, DRILL_HELP, HOST_HELP, PROGRAM_HELP, SERVE_HELP,
 };
-use clap::Command;
+use clap::{Arg, Command};
 use std::alloc::{AllocError, Global};
 
+// Each word is a list of its arguments, in the order in which help names them.
+
+fn serve_arguments<'a>(alloc: Global) -> Result<Vec<Arg<'a>>, AllocError> {
+    let map = "The map, a MovingAI .map file; without it the map stands first on standard input";
+    let journal = "A journal, whose entries are committed first";
+    Ok(vec![in alloc;
+        map_argument(alloc, map),
+        scen_argument(alloc),
+        agents_argument(alloc),
+        limit_argument(alloc),
+        mode_argument(alloc),
+        journal_argument(alloc, journal),
+        save_argument(alloc),
+        verbose_argument(alloc),
+    ]?)
+}
+
+fn audit_arguments<'a>(alloc: Global) -> Result<Vec<Arg<'a>>, AllocError> {
+    let journal = "A journal, whose entries are committed before the audit";
+    Ok(vec![in alloc;
+        needed_map_argument(alloc),
+        scen_argument(alloc),
+        agents_argument(alloc),
+        mode_argument(alloc),
+        journal_argument(alloc, journal),
+        workers_argument(alloc),
+        verbose_argument(alloc),
+    ]?)
+}
+
+fn drill_arguments<'a>(alloc: Global) -> Result<Vec<Arg<'a>>, AllocError> {
+    let verbose =
+        "Say more of a fault, and how the lines of each script were answered, on standard error";
+    Ok(vec![in alloc;
+        needed_map_argument(alloc),
+        scen_argument(alloc),
+        agents_argument(alloc),
+        mode_argument(alloc),
+        workers_argument(alloc),
+        verbose_argument(alloc).help(verbose),
+        scripts_argument(alloc),
+    ]?)
+}
+
+fn host_arguments<'a>(alloc: Global) -> Result<Vec<Arg<'a>>, AllocError> {
+    let journal = "A journal, whose entries are committed first";
+    Ok(vec![in alloc;
+        needed_map_argument(alloc),
+        scen_argument(alloc),
+        agents_argument(alloc),
+        limit_argument(alloc),
+        mode_argument(alloc),
+        journal_argument(alloc, journal),
+        save_argument(alloc),
+        wait_argument(alloc),
+        workers_argument(alloc),
+        verbose_argument(alloc),
+        names_argument(alloc),
+    ]?)
+}
+
+fn check_arguments<'a>(alloc: Global) -> Result<Vec<Arg<'a>>, AllocError> {
+    let scen = "A MovingAI .scen file, whose first tasks are the agents' starts and goals";
+    Ok(vec![in alloc;
+        needed_map_argument(alloc),
+        paths_argument(alloc).required(true),
+        scen_argument(alloc).help(scen),
+        agents_of_paths_argument(alloc),
+        mode_argument(alloc),
+        form_argument(alloc),
+        solves_argument(alloc),
+        workers_argument(alloc),
+        quiet_argument(alloc),
+        verbose_argument(alloc),
+    ]?)
+}
+
+fn draw_arguments<'a>(alloc: Global) -> Result<Vec<Arg<'a>>, AllocError> {
+    let journal = "A journal, whose entries are committed before the picture";
+    let agents =
+        "How many agents the scenario gives, from 0 to 8192; where it isn't given as many as there are paths, else 0";
+    let journal = journal_argument(alloc, journal).conflicts_with("paths")?;
+    Ok(vec![in alloc;
+        needed_map_argument(alloc),
+        scen_argument(alloc),
+        agents_of_paths_argument(alloc).help(agents),
+        mode_argument(alloc),
+        journal,
+        paths_argument(alloc),
+        at_argument(alloc),
+        shown_argument(alloc),
+        verbose_argument(alloc),
+    ]?)
+}
+
+// A word with its arguments, what it does in one line, and what help says at the end.
+fn word<'a>(
+    alloc: Global,
+    name: &'a str,
+    arguments: Vec<Arg<'a>>,
+    about: &'a str,
+    help: &'a str,
+) -> Result<Command<'a>, AllocError> {
+    Command::new(alloc, name)
+        .about(about)
+        .after_help(help)
+        .args(arguments)
+}
+
 fn serve_command<'a>(alloc: Global) -> Result<Command<'a>, AllocError> {
-    let map = map_argument(alloc).help(
-        "The map, a MovingAI .map file; without it the map stands first on standard input",
-    );
-    let journal = journal_argument(alloc).help("A journal, whose entries are committed first");
-    Command::new(alloc, "serve")
-        .about("Serves one planner's session from standard input to standard output")
-        .after_help(SERVE_HELP)
-        .arg(map)?
-        .arg(scen_argument(alloc))?
-        .arg(agents_argument(alloc))?
-        .arg(limit_argument(alloc))?
-        .arg(mode_argument(alloc))?
-        .arg(journal)?
-        .arg(save_argument(alloc))?
-        .arg(verbose_argument(alloc))
+    let about = "Serves one planner's session from standard input to standard output";
+    word(alloc, "serve", serve_arguments(alloc)?, about, SERVE_HELP)
 }
 
 fn audit_command<'a>(alloc: Global) -> Result<Command<'a>, AllocError> {
-    let journal = journal_argument(alloc).help(
-        "A journal, whose entries are committed before the audit",
-    );
-    Command::new(alloc, "audit")
-        .about(
-            "Prints the report of a map, a scenario's agents and a journal, made from scratch in threads",
-        )
-        .after_help(AUDIT_HELP)
-        .arg(needed_map_argument(alloc))?
-        .arg(scen_argument(alloc))?
-        .arg(agents_argument(alloc))?
-        .arg(mode_argument(alloc))?
-        .arg(journal)?
-        .arg(workers_argument(alloc))?
-        .arg(verbose_argument(alloc))
+    let about =
+        "Prints the report of a map, a scenario's agents and a journal, made from scratch in threads";
+    word(alloc, "audit", audit_arguments(alloc)?, about, AUDIT_HELP)
 }
 
 fn drill_command<'a>(alloc: Global) -> Result<Command<'a>, AllocError> {
-    let verbose = verbose_argument(alloc).help(
-        "Say more of a fault, and how the lines of each script were answered, on standard error",
-    );
-    Command::new(alloc, "drill")
-        .about("Serves planners' scripts at once over one shared desk, and audits what they leave")
-        .after_help(DRILL_HELP)
-        .arg(needed_map_argument(alloc))?
-        .arg(scen_argument(alloc))?
-        .arg(agents_argument(alloc))?
-        .arg(mode_argument(alloc))?
-        .arg(workers_argument(alloc))?
-        .arg(verbose)?
-        .arg(scripts_argument(alloc))
+    let about = "Serves planners' scripts at once over one shared desk, and audits what they leave";
+    word(alloc, "drill", drill_arguments(alloc)?, about, DRILL_HELP)
 }
 
 fn host_command<'a>(alloc: Global) -> Result<Command<'a>, AllocError> {
-    let journal = journal_argument(alloc).help("A journal, whose entries are committed first");
-    Command::new(alloc, "host")
-        .about("Shares one desk among planners that are programs of their own, over pipes")
-        .after_help(HOST_HELP)
-        .arg(needed_map_argument(alloc))?
-        .arg(scen_argument(alloc))?
-        .arg(agents_argument(alloc))?
-        .arg(limit_argument(alloc))?
-        .arg(mode_argument(alloc))?
-        .arg(journal)?
-        .arg(save_argument(alloc))?
-        .arg(wait_argument(alloc))?
-        .arg(workers_argument(alloc))?
-        .arg(verbose_argument(alloc))?
-        .arg(names_argument(alloc))
+    let about = "Shares one desk among planners that are programs of their own, over pipes";
+    word(alloc, "host", host_arguments(alloc)?, about, HOST_HELP)
 }
 
 fn check_command<'a>(alloc: Global) -> Result<Command<'a>, AllocError> {
-    let scen = scen_argument(alloc).help(
-        "A MovingAI .scen file, whose first tasks are the agents' starts and goals",
-    );
-    Command::new(alloc, "check")
-        .about("Gives a verdict on the paths that a solver wrote, by its status too")
-        .after_help(CHECK_HELP)
-        .arg(needed_map_argument(alloc))?
-        .arg(paths_argument(alloc).required(true))?
-        .arg(scen)?
-        .arg(agents_of_paths_argument(alloc))?
-        .arg(mode_argument(alloc))?
-        .arg(form_argument(alloc))?
-        .arg(solves_argument(alloc))?
-        .arg(workers_argument(alloc))?
-        .arg(quiet_argument(alloc))?
-        .arg(verbose_argument(alloc))
+    let about = "Gives a verdict on the paths that a solver wrote, by its status too";
+    word(alloc, "check", check_arguments(alloc)?, about, CHECK_HELP)
 }
 
 fn draw_command<'a>(alloc: Global) -> Result<Command<'a>, AllocError> {
-    let journal = journal_argument(alloc)
-        .help("A journal, whose entries are committed before the picture")
-        .conflicts_with("paths")?;
-    let agents = agents_of_paths_argument(alloc).help(
-        "How many agents the scenario gives, from 0 to 8192; where it isn't given as many as there are paths, else 0",
-    );
-    Command::new(alloc, "draw")
-        .about("Prints a picture of agents and what the report of them lists, for a browser")
-        .after_help(DRAW_HELP)
-        .arg(needed_map_argument(alloc))?
-        .arg(scen_argument(alloc))?
-        .arg(agents)?
-        .arg(mode_argument(alloc))?
-        .arg(journal)?
-        .arg(paths_argument(alloc))?
-        .arg(at_argument(alloc))?
-        .arg(shown_argument(alloc))?
-        .arg(verbose_argument(alloc))
+    let about = "Prints a picture of agents and what the report of them lists, for a browser";
+    word(alloc, "draw", draw_arguments(alloc)?, about, DRAW_HELP)
 }
 
 /// The program's words, as their parser takes them.
