@@ -29,10 +29,8 @@ fn put_refusal(text: &mut String, error: &Error) -> Result<(), AllocError> {
     if !error.use_stderr() {
         return text.push_str("help");
     }
-    let alloc = *text.allocator();
     let kind = error.kind();
-    let refused = format!(in alloc; "refused {kind:?}")?;
-    text.push_str(refused.as_str())
+    write!(text, "refused {kind:?}")
 }
 
 fn put_words(text: &mut String, words: &Words<'_>) -> Result<(), AllocError> {
@@ -125,19 +123,17 @@ fn put_draw(text: &mut String, words: &DrawWords<'_>) -> Result<(), AllocError> 
 }
 
 fn put_shown(text: &mut String, shown: Option<(Agent, Agent)>) -> Result<(), AllocError> {
-    let alloc = *text.allocator();
     let Some((least, greatest)) = shown else {
         return Ok(());
     };
     let (least, greatest) = (least.number(), greatest.number());
-    text.push_str(format!(in alloc; " shown={least}-{greatest}")?.as_str())
+    write!(text, " shown={least}-{greatest}")
 }
 
 fn put_given(text: &mut String, name: &str, number: Option<u32>) -> Result<(), AllocError> {
-    let alloc = *text.allocator();
     match number {
         None => Ok(()),
-        Some(number) => text.push_str(format!(in alloc; " {name}={number}")?.as_str()),
+        Some(number) => write!(text, " {name}={number}"),
     }
 }
 
@@ -172,19 +168,17 @@ fn put_kind(text: &mut String, kind: &str, named: bool) -> Result<(), AllocError
 }
 
 fn put_file(text: &mut String, name: &str, file: Option<&str>) -> Result<(), AllocError> {
-    let alloc = *text.allocator();
     match file {
         None => Ok(()),
-        Some(file) => text.push_str(format!(in alloc; " {name}={file}")?.as_str()),
+        Some(file) => write!(text, " {name}={file}"),
     }
 }
 
 fn put_number(text: &mut String, name: &str, number: u32, usual: u32) -> Result<(), AllocError> {
-    let alloc = *text.allocator();
     if number == usual {
         return Ok(());
     }
-    text.push_str(format!(in alloc; " {name}={number}")?.as_str())
+    write!(text, " {name}={number}")
 }
 
 fn put_mode(text: &mut String, mode: Mode) -> Result<(), AllocError> {
