@@ -45,31 +45,27 @@ fn put_row<'a, W: Sink>(
     put_some(sink, &pieces)
 }
 
+// Where the row of each kind is, its sign and its name.
+const KINDS: &[(u64, &[u8], &[u8], Kind)] = &[
+    (170, b"v", b"vertex", Kind::Vertex),
+    (200, b"p", b"parked", Kind::Parked),
+    (230, b"e", b"edge", Kind::Edge),
+    (260, b"f", b"follow", Kind::Following),
+    (290, b"s", b"swap", Kind::Swapping),
+    (320, b"c", b"cycle", Kind::Cycle),
+];
+
 /// Puts a row for each kind of what a report has.
 #[tactic(auto, using(crate::proofs::Growth::growths))]
 pub fn put_rows<W: Sink>(sink: &mut W, report: &Report) -> Result<(), WriteFailed>
     ensures ok { OnOk result (Grows (W.held sink.old) (W.held sink.new)) }
     ensures broken { W.broken sink.new ≡ (W.broken sink.old || is_err result) }
 {
-    put_row(sink, 170, b"v", b"vertex", count_of(report, Kind::Vertex))?;
-    put_row(sink, 200, b"p", b"parked", count_of(report, Kind::Parked))?;
-    put_row(sink, 230, b"e", b"edge", count_of(report, Kind::Edge))?;
-    put_row(
-        sink,
-        260,
-        b"f",
-        b"follow",
-        count_of(report, Kind::Following),
-    )?;
-    put_row(sink, 290, b"s", b"swap", count_of(report, Kind::Swapping))?;
-    put_row(sink, 320, b"c", b"cycle", count_of(report, Kind::Cycle))?;
-    put_row(
-        sink,
-        350,
-        b"x",
-        b"visit to a closed cell",
-        report.visits.items().len() as u64,
-    )
+    for (down, sign, name, kind) in KINDS {
+        put_row(sink, *down, sign, name, count_of(report, *kind))?;
+    }
+    let visits = report.visits.items().len() as u64;
+    put_row(sink, 350, b"x", b"visit to a closed cell", visits)
 }
 
 // A total, or `none`.

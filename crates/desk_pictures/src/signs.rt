@@ -45,6 +45,21 @@ fn put_sized<'a, W: Sink>(
     put_some(sink, &pieces)
 }
 
+// The signs of the map, each beside the sign of the key that it is in another size.
+const SIZED: &[(&[u8], &[u8])] = &[
+    (b"V", b"v"),
+    (b"P", b"p"),
+    (b"E", b"e"),
+    (b"D", b"d"),
+    (b"F", b"f"),
+    (b"S", b"s"),
+    (b"T", b"t"),
+    (b"C", b"c"),
+    (b"body", b"a"),
+    (b"start", b"o"),
+    (b"goal", b"g"),
+];
+
 /// Puts the signs that the key shows, and those of the map, in its size; a visit's is a pattern that fills its mark.
 #[tactic(auto, using(crate::proofs::Growth::growths))]
 pub fn put_signs<W: Sink>(sink: &mut W, sheet: Sheet) -> Result<(), WriteFailed>
@@ -52,15 +67,8 @@ pub fn put_signs<W: Sink>(sink: &mut W, sheet: Sheet) -> Result<(), WriteFailed>
     ensures broken { W.broken sink.new ≡ (W.broken sink.old || is_err result) }
 {
     put_letters(sink, SIGNS)?;
-    put_sized(sink, sheet, b"V", b"v")?;
-    put_sized(sink, sheet, b"P", b"p")?;
-    put_sized(sink, sheet, b"E", b"e")?;
-    put_sized(sink, sheet, b"D", b"d")?;
-    put_sized(sink, sheet, b"F", b"f")?;
-    put_sized(sink, sheet, b"S", b"s")?;
-    put_sized(sink, sheet, b"T", b"t")?;
-    put_sized(sink, sheet, b"C", b"c")?;
-    put_sized(sink, sheet, b"body", b"a")?;
-    put_sized(sink, sheet, b"start", b"o")?;
-    put_sized(sink, sheet, b"goal", b"g")
+    for (name, sign) in SIZED {
+        put_sized(sink, sheet, name, sign)?;
+    }
+    Ok(())
 }
