@@ -23,19 +23,30 @@ fn words_of(alloc: Global, line: &str) -> Result<Vec<String>, AllocError> {
     Ok(words)
 }
 
+// What the words of a line are read as.
+fn read_as(alloc: Global, line: &str) -> Result<String, AllocError> {
+    let words = words_of(alloc, line)?;
+    told(alloc, &read_words(alloc, words.as_slice()))
+}
+
+// Whether the line's words are read as that. If they aren't, the line is printed.
+fn is_right<R: AllocGlobal + Print>(rt: &R, line: &str, wanted: &str) -> anyhow::Result<bool> {
+    let found = read_as(rt.alloc(), line)?;
+    let right = found.as_str() == wanted;
+    if !right {
+        println!(rt; "{line} => {found}, and not {wanted}")?;
+    }
+    Ok(right)
+}
+
 fn main(rt: HostRuntime) -> anyhow::Result<()> {
     let text = fs::read_to_string(&rt, "words.txt")?;
     let (mut rows, mut wrong) = (0u64, 0u64);
     for line in text.lines() {
         if let Some((line, wanted)) = line.split_once(MARK) {
-            let words = words_of(rt.alloc(), line)?;
-            let asked = read_words(rt.alloc(), words.as_slice());
-            let found = told(rt.alloc(), &asked)?;
+            let right = is_right(&rt, line, wanted)?;
             rows = rows.saturating_add(1);
-            if found.as_str() != wanted {
-                println!(&rt; "{line} => {found}, and not {wanted}")?;
-                wrong = wrong.saturating_add(1);
-            }
+            wrong = wrong.saturating_add(u64::from(!right));
         }
     }
     println!(&rt; "{rows} lines of words, {wrong} wrong")?;
