@@ -39,14 +39,9 @@ fn all_changed(
     }
 }
 
-// The goal becomes (1,0), and the path one step to there.
-fn in_a_row(rt: &impl Abort, alloc: Global, trial: &mut Trial) {
-    let mut scene = corridor(rt, alloc, "agent 3 0,0 2,0");
-    let edits = edits(alloc, &["goal 3 1,0", "path 3 0,0 1,0"]).expect(rt, "edits");
-    let Ok(changes) = all_changed(rt, trial, &mut scene, edits.as_slice()) else {
-        panic!(rt; "lawful edits");
-    };
-    match changes.items() {
+// The goal was (2,0), and the path is another from time 1 on.
+fn are_two(rt: &impl Abort, changes: &[Change]) {
+    match changes {
         [Change::Aimed { old_goal, .. }, moved] => {
             assert!(rt; (old_goal.x(), old_goal.y()) == (2, 0));
             assert!(rt; since(rt, moved) == Some(1));
@@ -55,19 +50,42 @@ fn in_a_row(rt: &impl Abort, alloc: Global, trial: &mut Trial) {
     }
 }
 
+// The goal becomes (1,0), and the path one step to there.
+fn in_a_row(rt: &impl Abort, alloc: Global, trial: &mut Trial) {
+    let mut scene = corridor(rt, alloc, "agent 3 0,0 2,0");
+    let edits = edits(alloc, &["goal 3 1,0", "path 3 0,0 1,0"]).expect(rt, "edits");
+    match all_changed(rt, trial, &mut scene, edits.as_slice()) {
+        Ok(changes) => are_two(rt, changes.items()),
+        Err(_) => panic!(rt; "lawful edits"),
+    }
+    drop(scene);
+}
+
+// Why none of the edits is made. The scene is then what it was.
+fn refused(
+    rt: &impl Abort,
+    trial: &mut Trial,
+    scene: &mut Scene,
+    edits: &[Edit],
+) -> Option<EditsFault> {
+    let before = scene.copy().expect(rt, "memory");
+    let fault = all_changed(rt, trial, scene, edits).err();
+    assert!(rt; alike(rt, scene, &before));
+    drop(before);
+    fault
+}
+
 // The third edit has a fault.
 fn none_of_all(rt: &impl Abort, alloc: Global, trial: &mut Trial) {
     let mut scene = corridor(rt, alloc, "agent 0 0,0 2,0");
-    let before = scene.copy().expect(rt, "memory");
     let lines = ["close 1,0", "goal 0 1,0", "path 0 0,0 2,0"];
     let edits = edits(alloc, &lines).expect(rt, "edits");
     let wanted = EditsFault::Faulty {
         index: 2,
         why: EditFault::NotAStep { at: 1 },
     };
-    let answer = all_changed(rt, trial, &mut scene, edits.as_slice());
-    assert!(rt; answer.err() == Some(wanted));
-    assert!(rt; alike(rt, &scene, &before));
+    assert!(rt; refused(rt, trial, &mut scene, edits.as_slice()) == Some(wanted));
+    drop(scene);
 }
 
 pub fn in_a_row_and_none(rt: &impl Abort, alloc: Global, trial: &mut Trial) {

@@ -7,16 +7,23 @@ use scene_edits::{ApplyFault, Change, Edit, EditFault, Scene};
 use std::alloc::Global;
 use std::process::Abort;
 
-pub fn copied(rt: &impl Abort, alloc: Global, trial: &mut Trial) {
-    let scene = corridor(rt, alloc, "agent 3 0,0 2,0").with_mode(Mode::Disappear);
+// The scene's copy, by the second try where the first finds no memory.
+fn copy_of(rt: &impl Abort, trial: &mut Trial, scene: &Scene) -> Scene {
     trial.leave(rt);
     let copy = scene.copy();
-    let copy = match trial.met(rt, copy) {
+    match trial.met(rt, copy) {
         Some(copy) => copy,
         None => scene.copy().expect(rt, "memory"),
-    };
+    }
+}
+
+pub fn copied(rt: &impl Abort, alloc: Global, trial: &mut Trial) {
+    let scene = corridor(rt, alloc, "agent 3 0,0 2,0").with_mode(Mode::Disappear);
+    let copy = copy_of(rt, trial, &scene);
     assert!(rt; alike(rt, &scene, &copy));
     assert!(rt; copy.mode() == Mode::Disappear && copy.plans().count() == 1);
+    drop(copy);
+    drop(scene);
 }
 
 // A change, or want of memory. A fault ends the test.
@@ -30,6 +37,20 @@ fn applied(rt: &impl Abort, scene: &mut Scene, edit: &Edit) -> Result<Change, Ou
 
 // The change of a lawful edit. Where the first try finds no memory, the scene is what it was, and the
 // second tells it.
+fn tried(rt: &impl Abort, trial: &mut Trial, scene: &mut Scene, edit: &Edit) -> Change {
+    let before = scene.copy().expect(rt, "memory");
+    trial.leave(rt);
+    let change = applied(rt, scene, edit);
+    match trial.met(rt, change) {
+        Some(change) => change,
+        None => {
+            assert!(rt; alike(rt, scene, &before));
+            applied(rt, scene, edit).expect(rt, "memory")
+        }
+    }
+}
+
+// The change of the edit of a line.
 fn changed(
     rt: &impl Abort,
     alloc: Global,
@@ -37,17 +58,7 @@ fn changed(
     scene: &mut Scene,
     line: &str,
 ) -> Change {
-    let edit = edit(rt, alloc, line);
-    let before = scene.copy().expect(rt, "memory");
-    trial.leave(rt);
-    let change = applied(rt, scene, &edit);
-    match trial.met(rt, change) {
-        Some(change) => change,
-        None => {
-            assert!(rt; alike(rt, scene, &before));
-            applied(rt, scene, &edit).expect(rt, "memory")
-        }
-    }
+    tried(rt, trial, scene, &edit(rt, alloc, line))
 }
 
 // Adds agent 0 with goal (1,0), and gives it a path to there and one that goes on.
@@ -55,9 +66,12 @@ fn going_on(rt: &impl Abort, alloc: Global, trial: &mut Trial, mode: Mode) -> Op
     let mut scene = corridor(rt, alloc, "agent 1 0,0 2,0").with_mode(mode);
     let added = changed(rt, alloc, trial, &mut scene, "agent 0 0,0 1,0");
     assert!(rt; matches!(&added, Change::Added { .. }));
+    drop(added);
     let moved = changed(rt, alloc, trial, &mut scene, "path 0 0,0 1,0");
     assert!(rt; since(rt, &moved) == Some(1));
+    drop(moved);
     let moved = changed(rt, alloc, trial, &mut scene, "path 0 0,0 1,0 1,0 2,0");
+    drop(scene);
     since(rt, &moved)
 }
 
@@ -77,6 +91,7 @@ fn moved_by(
     let mut scene = corridor(rt, alloc, "agent 0 0,0 2,0");
     assert!(rt; scene.apply(&edit(rt, alloc, first)).is_ok());
     let moved = changed(rt, alloc, trial, &mut scene, second);
+    drop(scene);
     since(rt, &moved)
 }
 
@@ -88,16 +103,35 @@ pub fn cut(rt: &impl Abort, alloc: Global, trial: &mut Trial) {
 }
 
 // With no memory an edit is refused by its fault or for want of memory; with ample memory by its
-// fault. Each time the scene is what it was.
-fn faulty(rt: &impl Abort, trial: &mut Trial, scene: &mut Scene, edit: &Edit, fault: EditFault) {
-    let before = scene.copy().expect(rt, "memory");
+// fault. Each time the scene is what it was before.
+fn refused(
+    rt: &impl Abort,
+    trial: &mut Trial,
+    scene: &mut Scene,
+    before: &Scene,
+    edit: &Edit,
+    fault: EditFault,
+) {
     trial.leave_none(rt);
     let tight = scene.apply(edit).err();
     trial.relieve();
     assert!(rt; tight == Some(ApplyFault::Fault(fault)) || tight == Some(ApplyFault::OutOfMemory));
-    assert!(rt; alike(rt, scene, &before));
+    assert!(rt; alike(rt, scene, before));
     assert!(rt; scene.apply(edit).err() == Some(ApplyFault::Fault(fault)));
-    assert!(rt; alike(rt, scene, &before));
+    assert!(rt; alike(rt, scene, before));
+}
+
+fn faulty(
+    rt: &impl Abort,
+    alloc: Global,
+    trial: &mut Trial,
+    scene: &mut Scene,
+    line: &str,
+    fault: EditFault,
+) {
+    let before = scene.copy().expect(rt, "memory");
+    refused(rt, trial, scene, &before, &edit(rt, alloc, line), fault);
+    drop(before);
 }
 
 #[test]
@@ -114,6 +148,6 @@ fn each_edit_fault(rt: HostRuntime) {
         ("path 0 0,0 2,0", EditFault::NotAStep { at: 1 }),
         ("tail 0 1", EditFault::NoSuchTime),
     ] {
-        faulty(&rt, &mut trial, &mut scene, &edit(&rt, alloc, line), fault);
+        faulty(&rt, alloc, &mut trial, &mut scene, line, fault);
     }
 }

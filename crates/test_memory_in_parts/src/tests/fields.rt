@@ -26,6 +26,7 @@ pub fn three_cells(rt: &impl Abort, alloc: Global, trial: &mut Trial) -> Option<
     queue.reset();
     assert!(rt; queue.taken() == 0);
     trial.relieve();
+    drop(queue);
     Some(())
 }
 
@@ -62,19 +63,26 @@ const WHOLE: [Option<u32>; 5] = [Some(4), Some(3), Some(2), Some(1), Some(0)];
 const CUT: [Option<u32>; 5] = [None, None, None, Some(1), Some(0)];
 
 // The middle cell closes and opens again, while there is no memory.
+fn closed_and_opened(rt: &impl Abort, trial: &mut Trial, field: &mut Field, grid: &mut Grid)
+    requires { field.old.grid ≡ grid.old }
+{
+    let middle = at(rt, 2, 0);
+    trial.leave_none(rt);
+    assert!(rt; has_row(rt, field, WHOLE));
+    assert!(rt; change(field, grid, middle, false) == 3);
+    assert!(rt; has_row(rt, field, CUT));
+    assert!(rt; change(field, grid, middle, true) == 3);
+    assert!(rt; has_row(rt, field, WHOLE));
+    trial.relieve();
+}
+
 pub fn corridor(rt: &impl Abort, alloc: Global, trial: &mut Trial) -> Option<()> {
     let mut grid = Grid::all_open(alloc, size_of(rt, 5, 1)).expect(rt, "memory");
-    let middle = at(rt, 2, 0);
     trial.leave(rt);
     let field = Field::new(alloc, &grid, at(rt, 4, 0));
     let mut field = trial.met(rt, field)?;
-    trial.leave_none(rt);
-    assert!(rt; has_row(rt, &field, WHOLE));
-    assert!(rt; change(&mut field, &mut grid, middle, false) == 3);
-    assert!(rt; has_row(rt, &field, CUT));
-    assert!(rt; change(&mut field, &mut grid, middle, true) == 3);
-    assert!(rt; has_row(rt, &field, WHOLE));
-    trial.relieve();
+    closed_and_opened(rt, trial, &mut field, &mut grid);
+    drop(field);
     Some(())
 }
 
@@ -91,5 +99,6 @@ pub fn held_twice(rt: &impl Abort, alloc: Global, trial: &mut Trial) -> Option<(
     fields.release(goal);
     assert!(rt; fields.field(goal).is_none());
     trial.relieve();
+    drop(fields);
     Some(())
 }

@@ -45,6 +45,8 @@ fn copy_of_a_grid(rt: &impl Abort, alloc: Global, trial: &mut Trial) {
         None => grid.copy().expect(rt, "memory"),
     };
     assert!(rt; is_parted(rt, &copy) && is_parted(rt, &grid));
+    drop(copy);
+    drop(grid);
 }
 
 fn copy_of_a_plan(rt: &impl Abort, alloc: Global, trial: &mut Trial) {

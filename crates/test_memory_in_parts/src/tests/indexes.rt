@@ -76,6 +76,7 @@ fn put_and_take(
     let index = index.take(agent(rt, 1), stays(walking));
     trial.relieve();
     check_one(rt, trial, &index);
+    drop(index);
     Some(())
 }
 

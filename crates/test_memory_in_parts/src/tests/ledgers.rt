@@ -23,6 +23,14 @@ pub fn nobody(alloc: Global) -> Both {
     }
 }
 
+// Both, where there is a ledger.
+fn joined(index: WhereIndex, ledger: Option<ConflictLedger>) -> Option<Both> {
+    match ledger {
+        Some(ledger) => Some(Both { index, ledger }),
+        None => None,
+    }
+}
+
 /// The ledger takes in an agent that stays; none for want of memory.
 pub fn admitted(
     rt: &impl Abort,
@@ -36,8 +44,7 @@ pub fn admitted(
     let index = index.put(agent, track).expect(rt, "memory");
     trial.leave(rt);
     let ledger = ledger.admit(agent, track, &index);
-    let ledger = trial.met(rt, ledger)?;
-    Some(Both { index, ledger })
+    joined(index, trial.met(rt, ledger))
 }
 
 // The ledger takes in an agent that stays and whom nobody is near, which takes no memory.
@@ -64,8 +71,7 @@ pub fn retracted(
     let index = index.take(agent, track);
     trial.leave(rt);
     let ledger = ledger.retract(agent, track, &index);
-    let ledger = trial.met(rt, ledger)?;
-    Some(Both { index, ledger })
+    joined(index, trial.met(rt, ledger))
 }
 
 // The ledger gives agent 0 another path; none for want of memory.
@@ -82,8 +88,7 @@ fn revised(
     let index = index.swap(agent, old, new, since).expect(rt, "memory");
     trial.leave(rt);
     let ledger = ledger.revise(agent, old, new, since, &index);
-    let ledger = trial.met(rt, ledger)?;
-    Some(Both { index, ledger })
+    joined(index, trial.met(rt, ledger))
 }
 
 /// Whether the ledger lists those lines.
@@ -112,6 +117,12 @@ fn counts_a_swap(ledger: &ConflictLedger) -> bool {
         && ledger.count(Kind::Vertex) == 0
 }
 
+// Whether the ledger lists nothing.
+fn lists_nothing(rt: &impl Abort, ledger: &ConflictLedger) -> bool {
+    let listed = ledger.listed().expect(rt, "memory");
+    listed.items().is_empty()
+}
+
 fn exchanged(
     rt: &impl Abort,
     alloc: Global,
@@ -124,8 +135,8 @@ fn exchanged(
     assert!(rt; counts_a_swap(&both.ledger));
     assert!(rt; lists(rt, alloc, trial, &both.ledger, SWAP));
     let both = retracted(rt, trial, both, 1, back)?;
-    let none = both.ledger.listed().expect(rt, "memory");
-    assert!(rt; none.items().is_empty());
+    assert!(rt; lists_nothing(rt, &both.ledger));
+    drop(both);
     Some(())
 }
 
@@ -151,6 +162,7 @@ fn cut(
     let both = revised(rt, trial, both, through, cut)?;
     let lines = b"conflicts 2\nparked 1 0 1 1,0\nfollow 0 0 1 1,0\n";
     assert!(rt; lists(rt, alloc, trial, &both.ledger, lines));
+    drop(both);
     Some(())
 }
 

@@ -67,18 +67,22 @@ fn tried(rt: &impl Abort, alloc: Global, trial: &mut Trial, text: &[u8]) -> Resu
     }
 }
 
+fn text_of(rt: &impl Abort, alloc: Global, trial: &mut Trial, grid: &Grid) -> Vec<u8> {
+    trial.leave(rt);
+    let written = write_map(alloc, grid);
+    match trial.met(rt, written) {
+        Some(text) => text,
+        None => write_map(alloc, grid).expect(rt, "memory"),
+    }
+}
+
 fn letters_alone(rt: &impl Abort, alloc: Global, trial: &mut Trial) {
     let Ok(grid) = tried(rt, alloc, trial, LETTERS) else {
         panic!(rt; "a map");
     };
     let told = [true, true, true, false, false, false, false];
     assert!(rt; grid.size() == size_of(rt, 7, 1) && is_open_at(rt, &grid, &told));
-    trial.leave(rt);
-    let written = write_map(alloc, &grid);
-    let text = match trial.met(rt, written) {
-        Some(text) => text,
-        None => write_map(alloc, &grid).expect(rt, "memory"),
-    };
+    let text = text_of(rt, alloc, trial, &grid);
     assert!(rt; text.as_slice() == b"type octile\nheight 1\nwidth 7\nmap\n...@@@@\n".as_slice());
 }
 

@@ -23,13 +23,20 @@ const RING: [&str; 8] = [
 const RING_TOLD: &[u8] =
     b"conflicts 5\nfollow 0 0 1 1,0\nfollow 0 1 2 1,1\nfollow 0 2 3 0,1\nfollow 0 3 0 0,0\ncycle 0 0 1 2 3\n";
 
-pub fn ring_told(rt: &impl Abort, alloc: Global, trial: &mut Trial) -> Option<()> {
-    let scene = scene(alloc, 2, 2, &RING).expect(rt, "a scene");
+// The conflicts of the scene, which are those of a ring.
+fn found(rt: &impl Abort, alloc: Global, trial: &mut Trial, scene: &Scene) -> Option<()> {
     trial.leave(rt);
     let found = conflicts(alloc, scene.plans(), Mode::Stay);
     let found = trial.met(rt, found)?;
     assert!(rt; are_told(rt, alloc, found, RING_TOLD));
     Some(())
+}
+
+pub fn ring_told(rt: &impl Abort, alloc: Global, trial: &mut Trial) -> Option<()> {
+    let scene = scene(alloc, 2, 2, &RING).expect(rt, "a scene");
+    let answer = found(rt, alloc, trial, &scene);
+    drop(scene);
+    answer
 }
 
 const REST: [&str; 3] = ["agent 0 1,0 1,0", "agent 1 0,0 2,0", "path 1 0,0 1,0 2,0"];
@@ -55,10 +62,13 @@ fn told(rt: &impl Abort, alloc: Global, trial: &mut Trial, scene: &Scene) -> Opt
     let report = plain_report(alloc, scene.grid(), Mode::Stay, scene.plans(), &bounds);
     let report = trial.met(rt, report)?;
     assert!(rt; is_told(rt, alloc, &report, &[REST_TOLD]));
+    drop(report);
     Some(())
 }
 
 pub fn meeting_told(rt: &impl Abort, alloc: Global, trial: &mut Trial) -> Option<()> {
     let scene = scene(alloc, 3, 1, &REST).expect(rt, "a scene");
-    told(rt, alloc, trial, &scene)
+    let answer = told(rt, alloc, trial, &scene);
+    drop(scene);
+    answer
 }

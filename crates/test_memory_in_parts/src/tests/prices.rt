@@ -97,6 +97,24 @@ fn replanned(
     trial.met(rt, ledger)
 }
 
+// Agent 0 gets a goal elsewhere, while there is no memory.
+fn aimed(rt: &impl Abort, trial: &mut Trial, ledger: &mut CostLedger) {
+    assert!(rt; is_at_its_goal(rt, ledger));
+    trial.leave_none(rt);
+    ledger.aim(agent(rt, 0), at(rt, 2, 0));
+    trial.relieve();
+    assert!(rt; is_elsewhere(rt, ledger));
+}
+
+// Agent 0, who ends at its goal after 3 steps, is taken out while there is no memory.
+fn taken(rt: &impl Abort, trial: &mut Trial, ledger: &mut CostLedger) {
+    assert!(rt; ledger.sum() == Some(3) && ledger.makespan() == Some(3));
+    trial.leave_none(rt);
+    ledger.take(agent(rt, 0));
+    trial.relieve();
+    assert!(rt; is_empty(rt, ledger));
+}
+
 // Agent 0 gets a goal elsewhere, the cell (1,0) closes, and it gets a plan that waits there once and
 // goes on to its goal (2,0).
 fn aimed_and_flipped(
@@ -108,20 +126,13 @@ fn aimed_and_flipped(
 ) -> Option<()> {
     let ledger = CostLedger::new(alloc);
     let mut ledger = put(rt, trial, ledger, at(rt, 1, 0), plans.0, grid)?;
-    assert!(rt; is_at_its_goal(rt, &ledger));
-    trial.leave_none(rt);
-    ledger.aim(agent(rt, 0), at(rt, 2, 0));
-    trial.relieve();
-    assert!(rt; is_elsewhere(rt, &ledger));
+    aimed(rt, trial, &mut ledger);
     let ledger = flipped(rt, trial, ledger, grid)?;
     assert!(rt; visits(rt, trial, &ledger, &[1, 2, 3, 5], at(rt, 1, 0)));
     let mut ledger = replanned(rt, trial, ledger, plans.1, grid)?;
     assert!(rt; visits(rt, trial, &ledger, &[1, 2], at(rt, 1, 0)));
-    assert!(rt; ledger.sum() == Some(3) && ledger.makespan() == Some(3));
-    trial.leave_none(rt);
-    ledger.take(agent(rt, 0));
-    trial.relieve();
-    assert!(rt; is_empty(rt, &ledger));
+    taken(rt, trial, &mut ledger);
+    drop(ledger);
     Some(())
 }
 
@@ -144,6 +155,7 @@ fn put_into_the_closed(
     let ledger = put(rt, trial, CostLedger::new(alloc), goal, plan, grid)?;
     assert!(rt; visits(rt, trial, &ledger, &[2], goal));
     assert!(rt; ledger.settle(agent(rt, 0)) == Some(2) && ledger.sum() == Some(2));
+    drop(ledger);
     Some(())
 }
 

@@ -49,6 +49,7 @@ fn with_second_mover(
     assert!(rt; both.ledger.count(Kind::Cycle) == 0 && both.ledger.count(Kind::Following) == 6);
     let both = retracted(rt, trial, both, 4, along)?;
     assert!(rt; lists(rt, alloc, trial, &both.ledger, RING));
+    drop(both);
     Some(())
 }
 
@@ -57,8 +58,8 @@ pub fn ring_again(rt: &impl Abort, alloc: Global, trial: &mut Trial) -> Option<(
     with_second_mover(rt, alloc, trial, &along)
 }
 
-pub fn ring_found(rt: &impl Abort, alloc: Global, trial: &mut Trial) -> Option<()> {
-    let both = round(rt, alloc);
+// The ring, found at the cell of its first agent.
+fn told(rt: &impl Abort, trial: &mut Trial, both: &Both) -> Option<()> {
     let corner = at(rt, 0, 0);
     trial.leave(rt);
     let found = both.ledger.ring_at(Step::new(0), corner, &both.index);
@@ -66,4 +67,11 @@ pub fn ring_found(rt: &impl Abort, alloc: Global, trial: &mut Trial) -> Option<(
     let agents = [agent(rt, 0), agent(rt, 1), agent(rt, 2), agent(rt, 3)];
     assert!(rt; ring.items() == agents.as_slice());
     Some(())
+}
+
+pub fn ring_found(rt: &impl Abort, alloc: Global, trial: &mut Trial) -> Option<()> {
+    let both = round(rt, alloc);
+    let answer = told(rt, trial, &both);
+    drop(both);
+    answer
 }

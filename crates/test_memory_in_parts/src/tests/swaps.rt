@@ -46,6 +46,7 @@ fn swap_without_memory(
     let index = swapped(rt, index, before, after).expect(rt, "no growth");
     trial.relieve();
     assert!(rt; index.touched() == 10 && index.end(agent(rt, 0)) == Some((3, at(rt, 2, 0))));
+    drop(index);
     Some(())
 }
 
@@ -72,6 +73,7 @@ fn swap_with_growth(
     assert!(rt; index.touched() == 88 && index.end(agent(rt, 0)) == Some((42, at(rt, 1, 0))));
     assert!(rt; index.movers(Step::new(41), at(rt, 2, 0)).len() == 1);
     assert!(rt; index.movers(Step::new(1), at(rt, 1, 0)).is_empty());
+    drop(index);
     Some(())
 }
 

@@ -30,6 +30,22 @@ fn is_one_agent(rt: &impl Abort, scene: &Scene) -> bool {
         && are_at(row.plan.cells(), &[(0, 0)])
 }
 
+// The scene, by a second try with the map that came back.
+fn made_again(
+    rt: &impl Abort,
+    alloc: Global,
+    fault: TaskFault,
+    grid: Grid,
+    tasks: &[Task],
+) -> Scene {
+    assert!(rt; fault == TaskFault::OutOfMemory);
+    assert!(rt; grid.size() == size_of(rt, 3, 2));
+    match Scene::with_tasks(alloc, grid, tasks, 1) {
+        Ok(scene) => scene,
+        Err(_) => panic!(rt; "a scene"),
+    }
+}
+
 /// Makes the scene of the first task. Where the first try finds no memory, the map comes back, and the
 /// second makes it.
 pub fn scene_of(rt: &impl Abort, alloc: Global, trial: &mut Trial, tasks: &[Task]) {
@@ -37,15 +53,10 @@ pub fn scene_of(rt: &impl Abort, alloc: Global, trial: &mut Trial, tasks: &[Task
     trial.leave(rt);
     let (answer, scene) = made(alloc, grid, tasks, 1);
     let _ = trial.met(rt, answer);
-    match scene {
-        Ok(scene) => assert!(rt; is_one_agent(rt, &scene)),
-        Err((fault, grid)) => {
-            assert!(rt; fault == TaskFault::OutOfMemory);
-            assert!(rt; grid.size() == size_of(rt, 3, 2));
-            let Ok(scene) = Scene::with_tasks(alloc, grid, tasks, 1) else {
-                panic!(rt; "a scene");
-            };
-            assert!(rt; is_one_agent(rt, &scene));
-        }
-    }
+    let scene = match scene {
+        Ok(scene) => scene,
+        Err((fault, grid)) => made_again(rt, alloc, fault, grid, tasks),
+    };
+    assert!(rt; is_one_agent(rt, &scene));
+    drop(scene);
 }

@@ -16,16 +16,10 @@ pub fn are_told(rt: &impl Abort, alloc: Global, conflicts: List<Conflict>, lines
         bounds: None,
         total_gap: None,
     };
-    is_told(
-        rt,
-        alloc,
-        &report,
-        &[
-            b"agents 0\n",
-            lines,
-            b"blocked 0\nsum none\nmakespan none\nbounds none\ngap none\nend\n",
-        ],
-    )
+    let tail = b"blocked 0\nsum none\nmakespan none\nbounds none\ngap none\nend\n";
+    let are_told = is_told(rt, alloc, &report, &[b"agents 0\n", lines, tail]);
+    drop(report);
+    are_told
 }
 
 /// Whether the report's text is that of the parts.
