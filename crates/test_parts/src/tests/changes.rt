@@ -129,10 +129,13 @@ pub fn change(
         return kept;
     };
     if chain.roll(4) == 0 {
-        return left(rt, kept, agent, &old, mode);
+        let kept = left(rt, kept, agent, &old, mode);
+        drop(old);
+        return kept;
     }
     let new = other_row(rt, alloc, &old, chain, fleet, agent);
     let kept = revised(rt, kept, agent, &old, &new, mode, &fleet.grid);
+    drop(old);
     fleet.set(rt, agent, new);
     kept
 }

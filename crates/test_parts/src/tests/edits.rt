@@ -23,30 +23,39 @@ fn is_corridor(rt: &impl Abort, scene: &Scene) -> bool {
     agent.number() == 0 && row.goal.x() == 2 && row.plan.cells() == [start].as_slice()
 }
 
+// Edits of the corridor that are refused, and why.
+const FAULTY: &[(&str, EditFault)] = &[
+    ("agent 0 0,0 0,0", EditFault::AgentTaken),
+    ("agent 1 3,0 0,0", EditFault::OutOfMap),
+    ("drop 7", EditFault::UnknownAgent),
+    ("goal 0 0,1", EditFault::OutOfMap),
+    ("path 0", EditFault::EmptyPath),
+    ("path 0 1,0", EditFault::NotFromStart),
+    ("path 0 0,0 0,0 2,0", EditFault::NotAStep { at: 2 }),
+    ("tail 0 1", EditFault::NoSuchTime),
+    ("tail 0 0 2,0", EditFault::NotAStep { at: 1 }),
+    ("open 0,1", EditFault::OutOfMap),
+    ("close 3,0", EditFault::OutOfMap),
+];
+
+fn is_refused(rt: &impl Abort, alloc: Global, scene: &mut Scene, line: &str, fault: EditFault) {
+    let edit = edit(alloc, line).expect(rt, "an edit");
+    assert!(rt;
+        scene.apply(&edit).err() == Some(ApplyFault::Fault(fault)),
+        "{line}"
+    );
+    assert!(rt; is_corridor(rt, scene), "{line}");
+    drop(edit);
+}
+
 #[test]
 fn each_edit_fault(rt: HostRuntime) {
     let alloc = rt.alloc();
     let mut scene = corridor(&rt, alloc);
-    for (line, fault) in [
-        ("agent 0 0,0 0,0", EditFault::AgentTaken),
-        ("agent 1 3,0 0,0", EditFault::OutOfMap),
-        ("drop 7", EditFault::UnknownAgent),
-        ("goal 0 0,1", EditFault::OutOfMap),
-        ("path 0", EditFault::EmptyPath),
-        ("path 0 1,0", EditFault::NotFromStart),
-        ("path 0 0,0 0,0 2,0", EditFault::NotAStep { at: 2 }),
-        ("tail 0 1", EditFault::NoSuchTime),
-        ("tail 0 0 2,0", EditFault::NotAStep { at: 1 }),
-        ("open 0,1", EditFault::OutOfMap),
-        ("close 3,0", EditFault::OutOfMap),
-    ] {
-        let edit = edit(alloc, line).expect(&rt, "an edit");
-        assert!(rt;
-            scene.apply(&edit).err() == Some(ApplyFault::Fault(fault)),
-            "{line}"
-        );
-        assert!(rt; is_corridor(&rt, &scene), "{line}");
+    for (line, fault) in FAULTY {
+        is_refused(&rt, alloc, &mut scene, line, *fault);
     }
+    drop(scene);
 }
 
 #[test]
@@ -69,24 +78,30 @@ fn all_or_none(rt: HostRuntime) {
     };
     assert!(rt; scene.apply_all(edits.as_slice()).err() == Some(fault));
     assert!(rt; is_corridor(&rt, &scene));
+    drop(scene);
+}
+
+// Whether the edit of a line flips a cell.
+fn flips(rt: &impl Abort, alloc: Global, scene: &mut Scene, line: &str) -> bool {
+    let edit = edit(alloc, line).expect(rt, "an edit");
+    let Ok(change) = scene.apply(&edit) else {
+        panic!(rt; "{line}");
+    };
+    let flips = matches!(&change, Change::Flipped { .. });
+    drop(change);
+    drop(edit);
+    flips
 }
 
 #[test]
 fn cells_open_and_close(rt: HostRuntime) {
     let alloc = rt.alloc();
     let mut scene = corridor(&rt, alloc);
-    for (line, flips) in [
-        ("open 1,0", false),
-        ("close 1,0", true),
-        ("close 1,0", false),
-        ("open 1,0", true),
-    ] {
-        let edit = edit(alloc, line).expect(&rt, "an edit");
-        match scene.apply(&edit) {
-            Ok(change) => assert!(rt; matches!(&change, Change::Flipped { .. }) == flips),
-            Err(_) => panic!(rt; "{line}"),
-        }
-    }
+    assert!(rt; !flips(&rt, alloc, &mut scene, "open 1,0"));
+    assert!(rt; flips(&rt, alloc, &mut scene, "close 1,0"));
+    assert!(rt; !flips(&rt, alloc, &mut scene, "close 1,0"));
+    assert!(rt; flips(&rt, alloc, &mut scene, "open 1,0"));
+    drop(scene);
 }
 
 // Agent 0's path of so many cells, all where it starts.
@@ -98,29 +113,42 @@ fn resting(rt: &impl Abort, alloc: Global, many: usize) -> Edit {
     }
 }
 
+// Agent 0 gets a path of so many cells, and is nowhere else than before.
+fn rests(rt: &impl Abort, alloc: Global, scene: &mut Scene, many: usize) {
+    let edit = resting(rt, alloc, many);
+    match scene.apply(&edit) {
+        Ok(Change::Moved { since, .. }) => assert!(rt; since.is_none()),
+        _ => panic!(rt; "not moved"),
+    }
+    drop(edit);
+}
+
+// Why one more agent is refused.
+fn refused(rt: &impl Abort, scene: &mut Scene, number: u32) -> Option<ApplyFault> {
+    let start = Cell::new(0, 0).expect(rt, "a cell");
+    let add = Edit::Add {
+        agent: Agent::new(number).expect(rt, "an agent"),
+        start,
+        goal: start,
+    };
+    let fault = scene.apply(&add).err();
+    drop(add);
+    fault
+}
+
 #[test]
 fn larger_limits(rt: HostRuntime) {
     let alloc = rt.alloc();
     let mut scene = corridor(&rt, alloc);
-    match scene.apply(&resting(&rt, alloc, 65_537)) {
-        Ok(Change::Moved { since, .. }) => assert!(rt; since.is_none()),
-        _ => panic!(rt; "not moved"),
-    }
-    let refused = scene.apply(&resting(&rt, alloc, 131_073)).err();
-    assert!(rt; refused == Some(ApplyFault::Fault(EditFault::TooLong)));
-    let start = Cell::new(0, 0).expect(&rt, "a cell");
+    rests(&rt, alloc, &mut scene, 65_537);
+    let long = resting(&rt, alloc, 131_073);
+    let too_long = Some(ApplyFault::Fault(EditFault::TooLong));
+    assert!(rt; scene.apply(&long).err() == too_long);
+    drop(long);
+    let full = Some(ApplyFault::Fault(EditFault::TooManyAgents));
     for number in 1..=8_192 {
-        let agent = Agent::new(number).expect(&rt, "an agent");
-        let add = Edit::Add {
-            agent,
-            start,
-            goal: start,
-        };
-        let fault = match scene.apply(&add) {
-            Ok(_) => None,
-            Err(fault) => Some(fault),
-        };
-        let full = Some(ApplyFault::Fault(EditFault::TooManyAgents));
+        let fault = refused(&rt, &mut scene, number);
         assert!(rt; fault == if number < 8_192 { None } else { full });
     }
+    drop(scene);
 }

@@ -36,6 +36,25 @@ fn told(former: &Former) -> (u32, Option<(u32, u32)>) {
     (former.agent.number(), row)
 }
 
+// The former rows of the agents that the edits change.
+fn are_formers(
+    rt: &impl Abort,
+    alloc: Global,
+    lines: &[&str],
+    wanted: &[(u32, Option<(u32, u32)>)],
+) {
+    let mut scene = corridor(rt, alloc);
+    let changes = changes(rt, alloc, &mut scene, lines);
+    let rows = formers(alloc, changes.items(), scene.plans()).expect(rt, "memory");
+    assert!(rt; rows.len() == wanted.len());
+    for (former, want) in rows.iter().zip(wanted) {
+        assert!(rt; told(former) == *want);
+    }
+    drop(rows);
+    drop(changes);
+    drop(scene);
+}
+
 #[test]
 fn agents_with_their_former_rows(rt: HostRuntime) {
     let alloc = rt.alloc();
@@ -50,20 +69,10 @@ fn agents_with_their_former_rows(rt: HostRuntime) {
         "path 3 1,0 0,0 0,0 1,0",
         "agent 1 2,0 1,0",
     ];
-    let examples: [(&[&str], &[(u32, Option<(u32, u32)>)]); 3] = [
-        (&several, &[(1, None), (2, Some((3, 1))), (3, Some((3, 1)))]),
-        (&["goal 2 1,0"], &[(2, Some((3, 1)))]),
-        (&["path 2 0,0"], &[(2, Some((3, 1)))]),
-    ];
-    for (lines, wanted) in examples {
-        let mut scene = corridor(&rt, alloc);
-        let changes = changes(&rt, alloc, &mut scene, lines);
-        let rows = formers(alloc, changes.items(), scene.plans()).expect(&rt, "memory");
-        assert!(rt; rows.len() == wanted.len());
-        for (former, want) in rows.iter().zip(wanted) {
-            assert!(rt; told(former) == *want);
-        }
-    }
+    let wanted = [(1, None), (2, Some((3, 1))), (3, Some((3, 1)))];
+    are_formers(&rt, alloc, &several, &wanted);
+    are_formers(&rt, alloc, &["goal 2 1,0"], &[(2, Some((3, 1)))]);
+    are_formers(&rt, alloc, &["path 2 0,0"], &[(2, Some((3, 1)))]);
 }
 
 #[test]
@@ -83,4 +92,6 @@ fn cells_that_flip(rt: HostRuntime) {
     let right = Cell::new(3, 0).expect(&rt, "a cell");
     let left = Cell::new(0, 0).expect(&rt, "a cell");
     assert!(rt; flips.as_slice() == [right, left, right].as_slice());
+    drop(changes);
+    drop(scene);
 }

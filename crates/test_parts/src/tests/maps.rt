@@ -1,5 +1,7 @@
 //! Texts of maps, and why they are refused.
 use bench_reader::{MapFault, one_map_answer, read_map, write_map};
+use std::alloc::Global;
+use std::process::Abort;
 
 const LETTERS: &[u8] = b"type octile\r\nheight 1\r\nwidth 7\r\nmap\r\n.GS@OTW\r\n";
 
@@ -20,7 +22,7 @@ fn map_letters_and_what_is_written(rt: HostRuntime) {
 }
 
 // Texts of maps that are refused, why, and what is said of that.
-const FAULTY: [(&[u8], MapFault, &[u8]); 20] = [
+const FAULTY: &[(&[u8], MapFault, &[u8])] = &[
     (b"", MapFault::NotOctile, b"not octile"),
     (b"type tile\n", MapFault::NotOctile, b"not octile"),
     (b"\ntype octile\n", MapFault::NotOctile, b"not octile"),
@@ -111,15 +113,17 @@ const FAULTY: [(&[u8], MapFault, &[u8]); 20] = [
     ),
 ];
 
+// The text is refused for that, and that is said of it.
+fn is_refused(rt: &impl Abort, alloc: Global, text: &[u8], fault: MapFault, said: &[u8]) {
+    assert!(rt; read_map(alloc, text).err() == Some(fault), "{fault:?}");
+    let shown = format!(in alloc; "{fault}").expect(rt, "memory");
+    assert!(rt; shown.as_bytes() == said, "{fault:?}");
+}
+
 #[test]
 fn header_edges_and_map_faults(rt: HostRuntime) {
     for (text, fault, said) in FAULTY {
-        assert!(rt;
-            read_map(rt.alloc(), text).err() == Some(fault),
-            "{fault:?}"
-        );
-        let shown = format!(in rt.alloc(); "{fault}").expect(&rt, "memory");
-        assert!(rt; shown.as_bytes() == said, "{fault:?}");
+        is_refused(&rt, rt.alloc(), text, *fault, said);
     }
 }
 

@@ -48,4 +48,5 @@ fn rows_of_a_table(rt: HostRuntime) {
     assert!(rt; here.goal == left && here.plan.last() == 0);
     assert!(rt; plans.remove(agent).is_some());
     assert!(rt; plans.count() == 0);
+    drop(plans);
 }

@@ -15,7 +15,7 @@ use test_support::Chain;
 type Shape = ((u32, u32), u32, u32, u32);
 
 // Agents that wander, few of them and crowds.
-const FEW_AND_CROWDS: [Shape; 9] = [
+const FEW_AND_CROWDS: &[Shape] = &[
     ((3, 2), 6, 5, 60),
     ((1, 1), 6, 1, 30),
     ((2, 1), 8, 1, 60),
@@ -28,7 +28,7 @@ const FEW_AND_CROWDS: [Shape; 9] = [
 ];
 
 // Convoys: round a square, where a ring may close, along one row and back, and in a row of a larger map.
-const CONVOYS: [Shape; 4] = [
+const CONVOYS: &[Shape] = &[
     ((2, 2), 4, 2, 40),
     ((3, 2), 6, 2, 60),
     ((9, 1), 8, 1, 60),
@@ -36,7 +36,7 @@ const CONVOYS: [Shape; 4] = [
 ];
 
 // Agents that go to and fro.
-const LONG: [Shape; 2] = [((3, 2), 4, 1, 60), ((5, 1), 3, 1, 40)];
+const LONG: &[Shape] = &[((3, 2), 4, 1, 60), ((5, 1), 3, 1, 40)];
 
 // How many rings were seen, the most agents that came through a cell as it opened or closed, and the
 // greatest last index.
@@ -77,6 +77,8 @@ fn change_at_random(
         seen.visitors = seen.visitors.max(visitors);
     }
     seen.last = seen.last.max(kept.index.horizon());
+    drop(kept);
+    drop(fleet);
     seen
 }
 
@@ -108,7 +110,7 @@ fn change_all(
 fn all_agree_with_the_plain_programs(rt: HostRuntime) {
     let mut chain = Chain::new(1);
     for mode in [Mode::Stay, Mode::Disappear] {
-        let shapes = FEW_AND_CROWDS.as_slice();
+        let shapes = FEW_AND_CROWDS;
         let seen = change_all(&rt, rt.alloc(), shapes, Manner::Wandering, mode, &mut chain);
         assert!(rt; seen.rings > 0 && seen.visitors > 8);
     }
@@ -119,8 +121,7 @@ fn all_agree_with_the_plain_programs(rt: HostRuntime) {
 fn convoys_agree_with_the_plain_programs(rt: HostRuntime) {
     let mut chain = Chain::new(2);
     for mode in [Mode::Stay, Mode::Disappear] {
-        let shapes = CONVOYS.as_slice();
-        let seen = change_all(&rt, rt.alloc(), shapes, Manner::InConvoy, mode, &mut chain);
+        let seen = change_all(&rt, rt.alloc(), CONVOYS, Manner::InConvoy, mode, &mut chain);
         assert!(rt; seen.rings > 0);
     }
 }
@@ -130,8 +131,7 @@ fn convoys_agree_with_the_plain_programs(rt: HostRuntime) {
 fn long_paths_agree_with_the_plain_programs(rt: HostRuntime) {
     let mut chain = Chain::new(3);
     for mode in [Mode::Stay, Mode::Disappear] {
-        let shapes = LONG.as_slice();
-        let seen = change_all(&rt, rt.alloc(), shapes, Manner::ToAndFro, mode, &mut chain);
+        let seen = change_all(&rt, rt.alloc(), LONG, Manner::ToAndFro, mode, &mut chain);
         assert!(rt; seen.last > 200);
     }
 }

@@ -1,7 +1,9 @@
 //! Texts of scenarios, why they are refused, and scenes of tasks.
 use bench_reader::{ScenFault, Task, one_scen_answer, read_scen};
-use grid_cells::{Cell, Size};
+use grid_cells::{Cell, Grid, Size};
 use scene_edits::{Scene, TaskFault};
+use std::alloc::Global;
+use std::process::Abort;
 use test_support::open_grid;
 
 #[test]
@@ -24,7 +26,7 @@ fn counts_of_tasks(rt: HostRuntime) {
 }
 
 // Texts of scenarios for a map of 3 x 2 cells that are refused, why, and what is said of that.
-const FAULTY: [(&[u8], ScenFault, &[u8]); 14] = [
+const FAULTY: &[(&[u8], ScenFault, &[u8])] = &[
     (b"", ScenFault::BadVersion, b"bad version"),
     (b"version 2\n", ScenFault::BadVersion, b"bad version"),
     (b"version 1.00\n", ScenFault::BadVersion, b"bad version"),
@@ -85,14 +87,29 @@ const FAULTY: [(&[u8], ScenFault, &[u8]); 14] = [
     ),
 ];
 
+fn says(rt: &impl Abort, alloc: Global, fault: ScenFault, said: &[u8]) {
+    let shown = format!(in alloc; "{fault}").expect(rt, "memory");
+    assert!(rt; shown.as_bytes() == said, "{fault:?}");
+}
+
 #[test]
 fn faults_of_scenarios(rt: HostRuntime) {
     let size = Size::new(3, 2).expect(&rt, "a size");
     for (text, fault, said) in FAULTY {
         let found = read_scen(rt.alloc(), text, size).err();
-        assert!(rt; found == Some(fault), "{fault:?}");
-        let shown = format!(in rt.alloc(); "{fault}").expect(&rt, "memory");
-        assert!(rt; shown.as_bytes() == said, "{fault:?}");
+        assert!(rt; found == Some(*fault), "{fault:?}");
+        says(&rt, rt.alloc(), *fault, said);
+    }
+}
+
+// Why there is no scene of so many tasks.
+fn refused(rt: &impl Abort, alloc: Global, grid: Grid, tasks: &[Task], many: u32) -> TaskFault {
+    match Scene::with_tasks(alloc, grid, tasks, many) {
+        Ok(_) => panic!(rt; "no fault"),
+        Err((fault, grid)) => {
+            drop(grid);
+            fault
+        }
     }
 }
 
@@ -112,9 +129,6 @@ fn faults_of_tasks(rt: HostRuntime) {
     ] {
         let grid = open_grid(alloc, 3, height).expect(&rt, "a map");
         let tasks = tasks.get(..have).expect(&rt, "tasks");
-        match Scene::with_tasks(alloc, grid, tasks, many) {
-            Ok(_) => panic!(rt; "no fault"),
-            Err((found, _)) => assert!(rt; found == fault),
-        }
+        assert!(rt; refused(&rt, alloc, grid, tasks, many) == fault);
     }
 }

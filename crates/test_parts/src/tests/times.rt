@@ -90,6 +90,7 @@ fn turned_often(
             .expect(rt, "memory");
         (old, new) = (new, old);
     }
+    drop(ledger);
     index
 }
 
@@ -115,6 +116,7 @@ fn swaps_and_revises_in_little_time(rt: HostRuntime) {
     let index = turned_often(&rt, index, ledger, &straight, &turned);
     tell(&rt, "10,000 swaps and revises", began);
     assert!(rt; index.touched() == 728_384);
+    drop(index);
 }
 
 // The ledger of costs of all agents, each at its goal in the end.
@@ -174,4 +176,5 @@ fn puts_and_flips_in_little_time(rt: HostRuntime) {
     let ledger = flip_often(&rt, ledger, &mut grid);
     tell(&rt, "10,000 flips", began);
     assert!(rt; ledger.sum() == Some(262_144) && ledger.unfinished() == 0);
+    drop(ledger);
 }

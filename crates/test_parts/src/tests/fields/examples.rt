@@ -19,7 +19,7 @@ struct Example {
     repairs: &'static [Repair],
 }
 
-const EXAMPLES: [Example; 5] = [
+const EXAMPLES: &[Example] = &[
     Example {
         name: "corridor_closed_and_opened",
         width: 5,
@@ -93,12 +93,14 @@ fn run(rt: &impl Abort, alloc: Global, example: Example) {
         assert!(rt; has_row(rt, &field, 0, rows[0]), "{}", example.name);
         assert!(rt; has_row(rt, &field, 1, rows[1]), "{}", example.name);
     }
+    drop(field);
+    drop(grid);
 }
 
 #[test]
 fn repairs_by_worked_examples(rt: HostRuntime) {
     for example in EXAMPLES {
-        run(&rt, rt.alloc(), example);
+        run(&rt, rt.alloc(), *example);
     }
 }
 
@@ -118,4 +120,5 @@ fn sum_over_two_goals(rt: HostRuntime) {
     assert!(rt; field.distance(left) == Some(0));
     assert!(rt; field.distance(at(&rt, 1, 0)).is_none());
     assert!(rt; field.distance(right).is_none());
+    drop(fields);
 }

@@ -51,6 +51,7 @@ fn compare(
             all.push(distance).expect(rt, "memory");
         }
     }
+    drop(plain);
     *before = all;
     count
 }
@@ -71,6 +72,8 @@ fn edit_at_random(rt: &impl Abort, alloc: Global, size: Size, chain: &mut Chain)
         let count = change(&mut field, &mut grid, &cells, chain.roll(3) == 0);
         assert!(rt; count == compare(rt, alloc, &field, &grid, goal, &mut before));
     }
+    drop(field);
+    drop(grid);
 }
 
 #[test]

@@ -37,7 +37,7 @@ const RING_WITH_SECOND_MOVER: &[Path] = &[
     &[(0, 0), (1, 0)],
 ];
 
-pub const EXAMPLES: [Example; 9] = [
+pub const EXAMPLES: &[Example] = &[
     Example {
         paths: TO_THE_MIDDLE,
         leave: false,

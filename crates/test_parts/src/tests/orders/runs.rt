@@ -129,6 +129,7 @@ fn told(rt: &impl Abort, alloc: Global, ledger: &ConflictLedger) -> Vec<u8> {
     };
     let mut sink = Spout::new(Vec::new(alloc));
     assert!(rt; write_report(&report, &mut sink).is_ok());
+    drop(report);
     sink.into_inner()
 }
 
@@ -168,17 +169,18 @@ fn come_and_go(
         both = retracted(rt, both, walkers.get(*place).expect(rt, "a walker"));
     }
     assert!(rt; counts(&both.ledger) == [0; 6]);
+    drop(both);
 }
 
 #[test]
 fn conflicts_in_every_order(rt: HostRuntime) {
     let alloc = rt.alloc();
     for example in EXAMPLES {
-        let walkers = walkers(&rt, alloc, example);
+        let walkers = walkers(&rt, alloc, *example);
         let many = walkers.len();
         for code in 0..many_orders(many) {
             let order = order(&rt, alloc, many, code);
-            come_and_go(&rt, alloc, walkers.as_slice(), order.as_slice(), example);
+            come_and_go(&rt, alloc, walkers.as_slice(), order.as_slice(), *example);
         }
     }
 }
