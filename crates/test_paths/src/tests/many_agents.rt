@@ -40,7 +40,9 @@ fn read(rt: &impl Abort, alloc: Global, text: &[u8], cells: usize) -> Result<usi
         assert!(rt; path.items().len() == cells);
         assert!(rt; path.items().iter().all(|cell| *cell == corner));
     }
-    Ok(read.paths.items().len())
+    let count = read.paths.items().len();
+    drop(read);
+    Ok(count)
 }
 
 // One cell for each of so many agents, by time, in the line behind that text.

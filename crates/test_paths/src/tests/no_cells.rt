@@ -1,10 +1,11 @@
 //! Words that stand where a cell should.
-use solver_paths::{Form, PathsFault, read_paths};
+use super::told_paths::is_refused;
+use solver_paths::{Form, PathsFault};
 use std::alloc::Global;
 use std::process::Abort;
 
 // Words, and the number of cells before what isn't one.
-const WORDS: [(&[u8], usize); 20] = [
+const WORDS: &[(&[u8], usize)] = &[
     (b"(", 0),
     (b")", 0),
     (b"()", 0),
@@ -28,7 +29,7 @@ const WORDS: [(&[u8], usize); 20] = [
 ];
 
 // Lines before a cell, the number of the last one, and their form.
-const FRONTS: [(&[u8], usize, Form); 6] = [
+const FRONTS: &[(&[u8], usize, Form)] = &[
     (b"starts=", 1, Form::ByTime),
     (b"\ngoals=", 2, Form::ByTime),
     (b"solution=\n0:", 2, Form::ByTime),
@@ -51,9 +52,9 @@ fn words_that_are_no_cells(rt: HostRuntime) {
     for (word, cell) in WORDS {
         for (front, line, form) in FRONTS {
             let text = line_of(&rt, alloc, front, word);
-            let found = read_paths(alloc, text.as_slice(), Some(form)).err();
+            let (line, cell) = (*line, *cell);
             let wanted = PathsFault::BadCell { line, cell };
-            assert!(rt; found == Some(wanted), "{text:?}: {found:?}");
+            is_refused(&rt, alloc, text.as_slice(), Some(*form), wanted);
         }
     }
 }

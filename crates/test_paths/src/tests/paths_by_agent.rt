@@ -1,6 +1,6 @@
 //! Files of paths by agent, written by hand.
-use super::told_paths::are_paths;
-use solver_paths::{Form, PathsFault, read_paths};
+use super::told_paths::{is_refused, says, tells_two};
+use solver_paths::{Form, PathsFault};
 
 /// As the programs of CBS, EECBS and PBS print it.
 const SPACED: &[u8] = b"Agent 0: (0,3)->(0,4)->(1,4)->\nAgent 1: (2,5)->\n";
@@ -14,21 +14,13 @@ const LENIENT: &[u8] = b"\r\n Agent 00:\t (0,3)->(00,04)->(1,4)\r\n\r\nAgent 1: 
 fn paths_by_agent(rt: HostRuntime) {
     for text in [SPACED, CLOSE, LENIENT] {
         for form in [None, Some(Form::ByAgent)] {
-            let Ok(read) = read_paths(rt.alloc(), text, form) else {
-                panic!(rt; "{text:?}");
-            };
-            assert!(rt; read.form == Form::ByAgent);
-            assert!(rt; read.starts.is_none() && read.goals.is_none());
-            assert!(rt;
-                are_paths(&read, &[&[(3, 0), (4, 0), (4, 1)], &[(5, 2)]]),
-                "{text:?}"
-            );
+            tells_two(&rt, rt.alloc(), text, form, Form::ByAgent);
         }
     }
 }
 
 // Texts that are refused, why, and what is said of that.
-const FAULTY: [(&[u8], PathsFault, &[u8]); 17] = [
+const FAULTY: &[(&[u8], PathsFault, &[u8])] = &[
     (
         b"Agent",
         PathsFault::NoForm { line: 1 },
@@ -118,17 +110,13 @@ const FAULTY: [(&[u8], PathsFault, &[u8]); 17] = [
 
 #[test]
 fn faults_of_paths_by_agent(rt: HostRuntime) {
+    let alloc = rt.alloc();
     for (text, fault, said) in FAULTY {
-        let found = read_paths(rt.alloc(), text, None).err();
-        assert!(rt; found == Some(fault), "{text:?}: {found:?}");
-        let shown = format!(in rt.alloc(); "{fault}").expect(&rt, "memory");
-        assert!(rt; shown.as_bytes() == said, "{fault:?}");
+        is_refused(&rt, alloc, text, None, *fault);
+        says(&rt, alloc, *fault, said);
     }
-    for (text, fault) in [
-        (b"".as_slice(), PathsFault::NoPaths),
-        (b"\n\nsolution=\n", PathsFault::BadAgent { line: 3 }),
-    ] {
-        let found = read_paths(rt.alloc(), text, Some(Form::ByAgent)).err();
-        assert!(rt; found == Some(fault), "{text:?}: {found:?}");
-    }
+    let form = Some(Form::ByAgent);
+    is_refused(&rt, alloc, b"", form, PathsFault::NoPaths);
+    let text = b"\n\nsolution=\n";
+    is_refused(&rt, alloc, text, form, PathsFault::BadAgent { line: 3 });
 }

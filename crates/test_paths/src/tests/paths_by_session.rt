@@ -1,9 +1,9 @@
 //! Files of paths as lines of a session, written by hand.
-use super::told_paths::are_paths;
-use solver_paths::{Form, PathsFault, read_paths};
+use super::told_paths::{is_refused, says, tells_two};
+use solver_paths::{Form, PathsFault};
 
 // Texts of two paths.
-const GOOD: [&[u8]; 4] = [
+const GOOD: &[&[u8]] = &[
     b"path 0 3,0 4,0 4,1\npath 1 5,2\n",
     b"# as=planned\n\npath 0 3,0 4,0 4,1\n  #path 0 1,1\npath 1 5,2",
     b"\r\n\tpath\t00 03,0  4,00 0004,1 \r\n#\r\n path 01 5,2\r\n\r\n#x\n",
@@ -14,21 +14,13 @@ const GOOD: [&[u8]; 4] = [
 fn paths_by_session(rt: HostRuntime) {
     for text in GOOD {
         for form in [None, Some(Form::BySession)] {
-            let Ok(read) = read_paths(rt.alloc(), text, form) else {
-                panic!(rt; "{text:?}");
-            };
-            assert!(rt; read.form == Form::BySession);
-            assert!(rt; read.starts.is_none() && read.goals.is_none());
-            assert!(rt;
-                are_paths(&read, &[&[(3, 0), (4, 0), (4, 1)], &[(5, 2)]]),
-                "{text:?}"
-            );
+            tells_two(&rt, rt.alloc(), text, form, Form::BySession);
         }
     }
 }
 
 // Lines that are no path of agent 0.
-const NO_PATHS: [&[u8]; 15] = [
+const NO_PATHS: &[&[u8]] = &[
     b"path",
     b"path 0,0",
     b"path x 0,0",
@@ -51,16 +43,14 @@ fn lines_that_are_no_paths(rt: HostRuntime) {
     let bad = PathsFault::BadPath { line: 1 };
     for text in NO_PATHS {
         for form in [None, Some(Form::BySession)] {
-            let found = read_paths(rt.alloc(), text, form).err();
-            assert!(rt; found == Some(bad), "{text:?}: {found:?}");
+            is_refused(&rt, rt.alloc(), text, form, bad);
         }
     }
-    let shown = format!(in rt.alloc(); "{bad}").expect(&rt, "memory");
-    assert!(rt; shown.as_bytes() == b"bad path in line 1".as_slice());
+    says(&rt, rt.alloc(), bad, b"bad path in line 1");
 }
 
 // Texts that are refused, and why.
-const FAULTY: [(&[u8], PathsFault); 19] = [
+const FAULTY: &[(&[u8], PathsFault)] = &[
     (b"#", PathsFault::NoPaths),
     (b"\n# solution=\n\n#\n", PathsFault::NoPaths),
     (b"paths 0 0,0", PathsFault::NoForm { line: 1 }),
@@ -101,7 +91,7 @@ const FAULTY: [(&[u8], PathsFault); 19] = [
 ];
 
 // Texts that are refused in a form that is named, and why.
-const NAMED: [(&[u8], Form, PathsFault); 6] = [
+const NAMED: &[(&[u8], Form, PathsFault)] = &[
     (b"", Form::BySession, PathsFault::NoPaths),
     (
         b"Agent 0:(0,0)",
@@ -129,11 +119,9 @@ const NAMED: [(&[u8], Form, PathsFault); 6] = [
 #[test]
 fn faults_of_paths_by_session(rt: HostRuntime) {
     for (text, fault) in FAULTY {
-        let found = read_paths(rt.alloc(), text, None).err();
-        assert!(rt; found == Some(fault), "{text:?}: {found:?}");
+        is_refused(&rt, rt.alloc(), text, None, *fault);
     }
     for (text, form, fault) in NAMED {
-        let found = read_paths(rt.alloc(), text, Some(form)).err();
-        assert!(rt; found == Some(fault), "{text:?}: {found:?}");
+        is_refused(&rt, rt.alloc(), text, Some(*form), *fault);
     }
 }

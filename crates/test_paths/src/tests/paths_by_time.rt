@@ -1,6 +1,8 @@
 //! Files of paths by time, written by hand.
-use super::told_paths::{are_paths, is_list};
+use super::told_paths::{are_paths, is_list, is_refused};
 use solver_paths::{Form, PathsFault, read_paths};
+use std::alloc::Global;
+use std::process::Abort;
 
 /// As LaCAM's program prints it.
 const LACAM: &[u8] = b"agents=2\nmap_file=corridor.map\nsolver=planner\nsolved=1\nsoc=5\nsoc_lb=4\n\
@@ -22,11 +24,12 @@ fn paths_by_time(rt: HostRuntime) {
         assert!(rt; is_list(&read.starts, Some(&[(0, 0), (2, 1)])));
         assert!(rt; is_list(&read.goals, Some(&[(2, 0), (0, 1)])));
         assert!(rt; are_paths(&read, &[FIRST, SECOND]));
+        drop(read);
     }
 }
 
 // Texts of one agent that goes from 0,2047 to 7,2047, and whether they tell its start and its goal.
-const LENIENT: [(&[u8], bool, bool); 7] = [
+const LENIENT: &[(&[u8], bool, bool)] = &[
     (b"solution=\n0:(0,2047)\n1:(7,2047)", false, false),
     (
         b"solution=\r\n0:(0,2047),\r\n1:(7,2047),\r\n\r\n \t\n",
@@ -60,31 +63,37 @@ const LENIENT: [(&[u8], bool, bool); 7] = [
     ),
 ];
 
+fn told(places: &[(u32, u32)], is_told: bool) -> Option<&[(u32, u32)]> {
+    if is_told { Some(places) } else { None }
+}
+
+// The text tells that agent's path, and its start and its goal where they are told.
+fn tells_one(rt: &impl Abort, alloc: Global, text: &[u8], has_starts: bool, has_goals: bool) {
+    let Ok(read) = read_paths(alloc, text, None) else {
+        panic!(rt; "{text:?}");
+    };
+    assert!(rt; read.form == Form::ByTime, "{text:?}");
+    assert!(rt;
+        is_list(&read.starts, told(&[(0, 2047)], has_starts)),
+        "{text:?}"
+    );
+    assert!(rt;
+        is_list(&read.goals, told(&[(7, 2047)], has_goals)),
+        "{text:?}"
+    );
+    assert!(rt; are_paths(&read, &[&[(0, 2047), (7, 2047)]]), "{text:?}");
+    drop(read);
+}
+
 #[test]
 fn texts_of_paths_by_time(rt: HostRuntime) {
     for (text, has_starts, has_goals) in LENIENT {
-        let Ok(read) = read_paths(rt.alloc(), text, None) else {
-            panic!(rt; "{text:?}");
-        };
-        assert!(rt; read.form == Form::ByTime, "{text:?}");
-        let starts = if has_starts {
-            Some([(0, 2047)].as_slice())
-        } else {
-            None
-        };
-        let goals = if has_goals {
-            Some([(7, 2047)].as_slice())
-        } else {
-            None
-        };
-        assert!(rt; is_list(&read.starts, starts), "{text:?}");
-        assert!(rt; is_list(&read.goals, goals), "{text:?}");
-        assert!(rt; are_paths(&read, &[&[(0, 2047), (7, 2047)]]), "{text:?}");
+        tells_one(&rt, rt.alloc(), text, *has_starts, *has_goals);
     }
 }
 
 // Texts that are refused, and why.
-const FAULTY: [(&[u8], PathsFault); 34] = [
+const FAULTY: &[(&[u8], PathsFault)] = &[
     (b"", PathsFault::NoPaths),
     (b"\n \r\n\t", PathsFault::NoPaths),
     (b"x", PathsFault::NoForm { line: 1 }),
@@ -165,15 +174,12 @@ const FAULTY: [(&[u8], PathsFault); 34] = [
 
 #[test]
 fn faults_of_paths_by_time(rt: HostRuntime) {
+    let alloc = rt.alloc();
     for (text, fault) in FAULTY {
-        let found = read_paths(rt.alloc(), text, None).err();
-        assert!(rt; found == Some(fault), "{text:?}: {found:?}");
+        is_refused(&rt, alloc, text, None, *fault);
     }
-    for (text, fault) in [
-        (b"".as_slice(), PathsFault::MissingSolution),
-        (b"Agent 0:(0,0)\n", PathsFault::BadHeader { line: 1 }),
-    ] {
-        let found = read_paths(rt.alloc(), text, Some(Form::ByTime)).err();
-        assert!(rt; found == Some(fault), "{text:?}: {found:?}");
-    }
+    let form = Some(Form::ByTime);
+    is_refused(&rt, alloc, b"", form, PathsFault::MissingSolution);
+    let fault = PathsFault::BadHeader { line: 1 };
+    is_refused(&rt, alloc, b"Agent 0:(0,0)\n", form, fault);
 }

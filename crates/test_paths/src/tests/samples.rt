@@ -63,21 +63,38 @@ fn place(fault: PathsFault) -> usize {
     }
 }
 
+// The place of the paths' form, where the plain reading tells the same.
+fn told_alike(
+    rt: &impl Abort,
+    text: &[u8],
+    paths: &SolverPaths,
+    plain: Result<Told, PathsFault>,
+) -> usize {
+    let Ok(told) = plain else {
+        panic!(rt; "one reads it and one doesn't: {text:?}");
+    };
+    assert!(rt; is_told(paths, &told), "{text:?}");
+    let form = told.form;
+    drop(told);
+    match form {
+        Form::ByTime => 0,
+        Form::ByAgent => 1,
+        Form::BySession => 2,
+    }
+}
+
 /// Compares the two readings of a text, and tells the place of the answer.
 pub fn compare(rt: &impl Abort, alloc: Global, text: &[u8], form: Option<Form>) -> usize {
-    match (read_paths(alloc, text, form), read(rt, alloc, text, form)) {
-        (Ok(paths), Ok(told)) => {
-            assert!(rt; is_told(&paths, &told), "{text:?}");
-            match told.form {
-                Form::ByTime => 0,
-                Form::ByAgent => 1,
-                Form::BySession => 2,
-            }
+    let plain = read(rt, alloc, text, form);
+    match read_paths(alloc, text, form) {
+        Ok(paths) => {
+            let place = told_alike(rt, text, &paths, plain);
+            drop(paths);
+            place
         }
-        (Err(fault), Err(plain)) => {
-            assert_eq!(rt; fault, plain, "{text:?}");
+        Err(fault) => {
+            assert_eq!(rt; Some(fault), plain.err(), "{text:?}");
             place(fault)
         }
-        _ => panic!(rt; "one reads it and one doesn't: {text:?}"),
     }
 }

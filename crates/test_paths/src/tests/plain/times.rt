@@ -37,28 +37,41 @@ fn row(
     }
 }
 
-// The lists of the lines before `solution=`.
-fn read_lists(rt: &impl Abort, alloc: Global, lines: &[Line]) -> Result<Lists, PathsFault> {
-    let mut starts = None;
-    let mut goals = None;
+// Reads a list that no line before has told.
+fn list_into(
+    rt: &impl Abort,
+    alloc: Global,
+    list: &mut Option<Vec<Place>>,
+    line: usize,
+    count: Option<usize>,
+    text: &[u8],
+) -> Result<(), PathsFault> {
+    if list.is_some() {
+        return Err(PathsFault::RepeatedList { line });
+    }
+    *list = Some(row(rt, alloc, line, count, text)?);
+    Ok(())
+}
+
+// Reads the lists of the lines before `solution=`.
+fn lists_into(
+    rt: &impl Abort,
+    alloc: Global,
+    lists: &mut Lists,
+    lines: &[Line],
+) -> Result<(), PathsFault> {
     for (line, text) in lines {
         let line = *line;
-        let count = count_of(&starts).or(count_of(&goals));
+        let count = count_of(&lists.starts).or(count_of(&lists.goals));
         if let Some(list) = behind(b"starts=", text) {
-            if starts.is_some() {
-                return Err(PathsFault::RepeatedList { line });
-            }
-            starts = Some(row(rt, alloc, line, count, list)?);
+            list_into(rt, alloc, &mut lists.starts, line, count, list)?;
         } else if let Some(list) = behind(b"goals=", text) {
-            if goals.is_some() {
-                return Err(PathsFault::RepeatedList { line });
-            }
-            goals = Some(row(rt, alloc, line, count, list)?);
+            list_into(rt, alloc, &mut lists.goals, line, count, list)?;
         } else if !text.contains(&b'=') {
             return Err(PathsFault::BadHeader { line });
         }
     }
-    Ok(Lists { starts, goals })
+    Ok(())
 }
 
 // The row of each line behind `solution=`.
@@ -104,24 +117,53 @@ fn solution(lines: &[Line]) -> Option<usize> {
         .position(|(_, text)| *text == b"solution=".as_slice())
 }
 
-/// What the lines of a text by time tell.
-pub fn by_time(rt: &impl Abort, alloc: Global, lines: &[Line]) -> Result<Told, PathsFault> {
+// The path of each agent, in the lines behind `solution=`.
+fn paths(
+    rt: &impl Abort,
+    alloc: Global,
+    lines: &[Line],
+    told: Option<usize>,
+) -> Result<Vec<Vec<Place>>, PathsFault> {
+    let rows = rows(rt, alloc, lines, told)?;
+    match rows.first() {
+        Some(first) => Ok(columns(rt, alloc, rows.as_slice(), first.len())),
+        None => Err(PathsFault::NoPaths),
+    }
+}
+
+// The paths behind the lists, which are read on the way.
+fn lists_and_paths(
+    rt: &impl Abort,
+    alloc: Global,
+    lists: &mut Lists,
+    lines: &[Line],
+) -> Result<Vec<Vec<Place>>, PathsFault> {
     let Some(place) = solution(lines) else {
-        let _ = read_lists(rt, alloc, lines)?;
+        lists_into(rt, alloc, lists, lines)?;
         return Err(PathsFault::MissingSolution);
     };
-    let lists = read_lists(rt, alloc, lines.get(..place).expect(rt, "a front"))?;
+    lists_into(rt, alloc, lists, lines.get(..place).expect(rt, "a front"))?;
     let count = count_of(&lists.starts).or(count_of(&lists.goals));
     let body = lines.get(place.saturating_add(1)..).expect(rt, "a rest");
-    let rows = rows(rt, alloc, body, count)?;
-    let Some(first) = rows.first() else {
-        return Err(PathsFault::NoPaths);
+    paths(rt, alloc, body, count)
+}
+
+/// What the lines of a text by time tell.
+pub fn by_time(rt: &impl Abort, alloc: Global, lines: &[Line]) -> Result<Told, PathsFault> {
+    let mut lists = Lists {
+        starts: None,
+        goals: None,
     };
-    let paths = columns(rt, alloc, rows.as_slice(), first.len());
-    Ok(Told {
-        form: Form::ByTime,
-        starts: lists.starts,
-        goals: lists.goals,
-        paths,
-    })
+    match lists_and_paths(rt, alloc, &mut lists, lines) {
+        Ok(paths) => Ok(Told {
+            form: Form::ByTime,
+            starts: lists.starts,
+            goals: lists.goals,
+            paths,
+        }),
+        Err(fault) => {
+            drop(lists);
+            Err(fault)
+        }
+    }
 }
