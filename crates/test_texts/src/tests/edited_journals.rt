@@ -35,23 +35,36 @@ fn mode_of(text: &[u8]) -> Mode {
     }
 }
 
-/// Compares two readings of a text, and tells the first bad line, 0 where there is none.
-pub fn compare(rt: &impl Abort, alloc: Global, text: &[u8]) -> usize {
+// The text is read, or refused for that.
+fn is_read(rt: &impl Abort, alloc: Global, text: &[u8], fault: Option<JournalFault>) {
     let shown = shown(text);
-    let fault = first_bad(rt, alloc, text).map(|line| JournalFault::BadLine { line });
-    match (read_journal(alloc, text), upgrade_journal(alloc, text)) {
-        (Ok(journal), Ok(upgraded)) => {
+    match read_journal(alloc, text) {
+        Ok(journal) => {
             assert_eq!(rt; None, fault, "{shown:?}");
             assert!(rt; journal.mode() == mode_of(text), "{shown:?}");
-            let plain = second(rt, alloc, text);
-            assert!(rt; upgraded == plain, "{shown:?}");
+            drop(journal);
         }
-        (Err(read), Err(upgraded)) => {
-            assert_eq!(rt; Some(read), fault, "{shown:?}");
-            assert_eq!(rt; Some(upgraded), fault, "{shown:?}");
-        }
-        _ => panic!(rt; "one reads it and one doesn't: {shown:?}"),
+        Err(read) => assert_eq!(rt; Some(read), fault, "{shown:?}"),
     }
+}
+
+// The text is upgraded, or refused for that.
+fn is_upgraded(rt: &impl Abort, alloc: Global, text: &[u8], fault: Option<JournalFault>) {
+    let shown = shown(text);
+    match upgrade_journal(alloc, text) {
+        Ok(upgraded) => {
+            assert_eq!(rt; None, fault, "{shown:?}");
+            assert!(rt; upgraded == second(rt, alloc, text), "{shown:?}");
+        }
+        Err(read) => assert_eq!(rt; Some(read), fault, "{shown:?}"),
+    }
+}
+
+/// Compares two readings of a text, and tells the first bad line, 0 where there is none.
+pub fn compare(rt: &impl Abort, alloc: Global, text: &[u8]) -> usize {
+    let fault = first_bad(rt, alloc, text).map(|line| JournalFault::BadLine { line });
+    is_read(rt, alloc, text, fault);
+    is_upgraded(rt, alloc, text, fault);
     match fault {
         Some(JournalFault::BadLine { line }) => line,
         _ => 0,

@@ -47,23 +47,33 @@ fn place(fault: ScenFault) -> usize {
     }
 }
 
+// The plain reading tells the same tasks.
+fn told_alike(
+    rt: &impl Abort,
+    shown: &[u8],
+    tasks: &[Task],
+    plain: Result<Vec<Errand>, ScenFault>,
+) {
+    match plain {
+        Ok(errands) => assert!(rt; are_errands(tasks, errands.as_slice()), "{shown:?}"),
+        Err(_) => panic!(rt; "one reads it and one doesn't: {shown:?}"),
+    }
+}
+
 /// Compares two readings of a text, and tells the place of the answer.
 pub fn compare(rt: &impl Abort, alloc: Global, text: &[u8]) -> usize {
     let shown = shown(text);
     let size = Size::new(WIDTH, HEIGHT).expect(rt, "a size");
-    match (
-        read_scen(alloc, text, size),
-        read(rt, alloc, text, (WIDTH, HEIGHT)),
-    ) {
-        (Ok(tasks), Ok(errands)) => {
-            assert!(rt; are_errands(tasks.items(), errands.as_slice()), "{shown:?}");
+    let plain = read(rt, alloc, text, (WIDTH, HEIGHT));
+    match read_scen(alloc, text, size) {
+        Ok(tasks) => {
+            told_alike(rt, shown, tasks.items(), plain);
             0
         }
-        (Err(fault), Err(plain)) => {
-            assert_eq!(rt; fault, plain, "{shown:?}");
+        Err(fault) => {
+            assert_eq!(rt; Some(fault), plain.err(), "{shown:?}");
             place(fault)
         }
-        _ => panic!(rt; "one reads it and one doesn't: {shown:?}"),
     }
 }
 

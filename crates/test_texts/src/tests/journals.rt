@@ -21,7 +21,10 @@ fn is_text_of(rt: &impl Abort, alloc: Global, journal: &Journal, text: &str) {
 
 fn reads_as(rt: &impl Abort, alloc: Global, text: &str, journal: &Journal) {
     match read_journal(alloc, text.as_bytes()) {
-        Ok(read) => assert!(rt; read == *journal, "{text}"),
+        Ok(read) => {
+            assert!(rt; read == *journal, "{text}");
+            drop(read);
+        }
         Err(_) => panic!(rt; "a journal: {text}"),
     }
 }
@@ -38,12 +41,15 @@ fn journal_of_one_entry_and_journal_with_its_mode(rt: HostRuntime) {
             Err(_) => panic!(rt; "a journal"),
         }
     }
+    drop(journal);
 }
 
 #[test]
 fn all_edits_and_watches_and_empty_journals(rt: HostRuntime) {
     let alloc = rt.alloc();
-    is_text_of(&rt, alloc, &all(&rt, alloc), ALL);
+    let journal = all(&rt, alloc);
+    is_text_of(&rt, alloc, &journal, ALL);
+    drop(journal);
     for (text, mode, is_second) in [
         ("journal 1\nend 0\n", Mode::Stay, false),
         ("journal 2\nmode stay\nend 0\n", Mode::Stay, true),
@@ -54,6 +60,7 @@ fn all_edits_and_watches_and_empty_journals(rt: HostRuntime) {
         if is_second {
             is_text_of(&rt, alloc, &journal, text);
         }
+        drop(journal);
     }
 }
 
@@ -69,6 +76,7 @@ fn a_writer_that_fails(rt: HostRuntime) {
         let front = &SECOND.as_bytes()[..room];
         assert!(rt; sink.taken() == front, "after {room} bytes");
     }
+    drop(journal);
 }
 
 // Neither read nor upgraded, for that line.

@@ -1,9 +1,26 @@
 //! Journals read and upgraded with too little memory.
 use super::samples::{FIRST, SECOND, one};
-use desk_session::{JournalFault, read_journal, upgrade_journal};
+use desk_session::{Journal, JournalFault, read_journal, upgrade_journal};
 use std::alloc::Global;
 use std::process::Abort;
 use test_droughts::Drought;
+
+// Whether the journal of both was read; or else there was want of memory.
+fn is_journal(rt: &impl Abort, alloc: Global, read: Result<Journal, JournalFault>) -> bool {
+    match read {
+        Ok(journal) => {
+            let wanted = one(rt, alloc);
+            assert!(rt; journal == wanted);
+            drop(wanted);
+            drop(journal);
+            true
+        }
+        Err(fault) => {
+            assert!(rt; fault == JournalFault::OutOfMemory);
+            false
+        }
+    }
+}
 
 // Whether the text is read with so many bytes, as the journal of both.
 fn is_read(
@@ -13,20 +30,10 @@ fn is_read(
     text: &str,
     bytes: usize,
 ) -> bool {
-    let wanted = one(rt, alloc);
     drought.leave(bytes).expect(rt, "memory");
     let read = read_journal(alloc, text.as_bytes());
     drought.relieve();
-    match read {
-        Ok(journal) => {
-            assert!(rt; journal == wanted);
-            true
-        }
-        Err(fault) => {
-            assert!(rt; fault == JournalFault::OutOfMemory);
-            false
-        }
-    }
+    is_journal(rt, alloc, read)
 }
 
 // Whether the text is upgraded with so many bytes, to the second text.
