@@ -5,6 +5,7 @@ mod board;
 mod faults;
 mod laws;
 mod numbers;
+mod opening;
 mod passes;
 mod plays;
 mod sharing;
