@@ -89,7 +89,13 @@ pub fn serve_with_map<R: Source, W: Sink>(
         bytes: bounds.bytes - text.len() as u64,
     };
     match serve(alloc, &mut desk, reader, writer, rest) {
-        Ok(lines) => Ok(lines),
-        Err(fault) => Err(StartFault::Serve(fault)),
+        Ok(lines) => {
+            drop(desk);
+            Ok(lines)
+        }
+        Err(fault) => {
+            drop(desk);
+            Err(StartFault::Serve(fault))
+        }
     }
 }
