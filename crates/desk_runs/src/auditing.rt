@@ -49,11 +49,14 @@ pub fn run_audit<T: Threads + Wait, W: Sink>(
         Ok(desk) => desk,
         Err(fault) => return Err(fault),
     };
-    let report = match report_of(rt, alloc, desk.scene(), workers) {
+    let version = desk.version();
+    let report = report_of(rt, alloc, desk.scene(), workers);
+    drop(desk);
+    let report = match report {
         Ok(report) => report,
         Err(OutOfMemory) => return Err(RunFault::OutOfMemory),
     };
-    match put_report(writer, desk.version(), &report) {
+    match put_report(writer, version, &report) {
         Ok(()) => Ok(()),
         Err(WriteFailed) => Err(RunFault::WriteFailed),
     }

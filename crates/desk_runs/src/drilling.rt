@@ -1,5 +1,6 @@
 ghost use Rattle.std.specs.Prelude.{◌≡◌, ◌⊎◌, ◌↔◌, ◌≤◌, ◌||◌, length, IfErr, IfOk, IsTrue, option_map};
 ghost use Rattle.desk_core.specs.State.{opening};
+ghost use Rattle.desk_report.specs.Report.{IsReportOf};
 ghost use Rattle.desk_shared.specs.Calls.{IsFirst};
 ghost use Rattle.desk_shared.specs.Passes.{Owns};
 ghost use Rattle.desk_runs.specs.DrillFaults.{FailsDrill, FailsUnwritten};
@@ -15,7 +16,7 @@ use crate::scripts::serve_scripts;
 use desk_audit::Gate;
 use desk_core::{Desk, Limit, MOST_ENTRIES, Reading};
 use desk_report::{Report, Sink, WriteFailed};
-use desk_shared::{Pass, PassLost, ShareFault, SharedDesk};
+use desk_shared::{Pass, PassLost, SharedDesk};
 use grid_cells::OutOfMemory;
 use plan_table::Mode;
 use scene_edits::Scene;
@@ -136,7 +137,7 @@ fn drilled<R: Threads + Wait + Sync, H: Hearing + Sync>(
         Ok(ended) => ended,
         Err(fault) => return Err(fault),
     };
-    let audited = match report_of(rt, alloc, desk.scene(), workers) {
+    let audited = match last_report(rt, alloc, desk, workers) {
         Ok(report) => report,
         Err(OutOfMemory) => return Err(RunFault::OutOfMemory),
     };
@@ -154,10 +155,9 @@ fn share(alloc: Global, scene: Scene, planners: u32) -> Result<(SharedDesk, Pass
     let Some(limit) = Limit::new(MOST_ENTRIES) else {
         unreachable!()
     };
-    match SharedDesk::open(alloc, Desk::open(alloc, scene, limit), planners) {
+    match SharedDesk::share(alloc, Desk::open(alloc, scene, limit), planners) {
         Ok(shared) => Ok(shared),
-        Err((ShareFault::BadPlanners, _)) => unreachable!(),
-        Err((ShareFault::OutOfMemory, _)) => Err(RunFault::OutOfMemory),
+        Err(OutOfMemory) => Err(RunFault::OutOfMemory),
     }
 }
 
@@ -179,6 +179,21 @@ fn end_sharing<R: Wait>(
         Ok(desk) => Ok((reading, desk)),
         Err(PassLost) => Err(RunFault::PassLost),
     }
+}
+
+// The audit's report of the desk, which goes.
+fn last_report<R: Threads + Wait>(
+    rt: &R,
+    alloc: Global,
+    desk: Desk,
+    workers: u32,
+) -> Result<Report, OutOfMemory>
+    requires workers { (1 ≤ workers) × (workers ≤ 64) }
+    ensures { IfOk result (IsReportOf desk.scene.grid desk.scene.mode desk.scene.rows) }
+{
+    let report = report_of(rt, alloc, desk.scene(), workers);
+    drop(desk);
+    report
 }
 
 /// Whether the reports are equal.

@@ -48,10 +48,13 @@ pub fn run_serve<R: Source, W: Sink>(
     ensures broken { W.broken writer.new ≡ (W.broken writer.old || is_write_fault result) }
 {
     match serve_desk(alloc, map, scen, agents, limit, mode, None, reader, writer) {
-        Ok((_desk, ended)) => match ended {
-            Ok(lines) => Ok(lines),
-            Err(fault) => Err(RunFault::from(fault)),
-        },
+        Ok((desk, ended)) => {
+            drop(desk);
+            match ended {
+                Ok(lines) => Ok(lines),
+                Err(fault) => Err(RunFault::from(fault)),
+            }
+        }
         Err(fault) => Err(fault),
     }
 }

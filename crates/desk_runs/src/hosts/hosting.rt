@@ -3,8 +3,8 @@ ghost use Rattle.desk_shared.specs.Passes.{Owns};
 ghost use Rattle.desk_runs.specs.Drills.{KeepsFrom};
 ghost use Rattle.desk_runs.specs.Hosts.{HasHosted, Hosts, IsHostFault};
 
+use crate::hosts::comparing::compare;
 use crate::hosts::seats::{Outcome, SeatFault, Seats};
-use crate::hosts::sharing::{compare, share};
 use crate::hosts::sittings::{NOBODY, begin, sit};
 use desk_core::Desk;
 use desk_shared::{Pass, PassLost, SharedDesk};
@@ -175,9 +175,9 @@ pub fn host_planners<R: Threads + Wait + Sync, S: Seats>(
     let Ok(outcomes) = seated else {
         return Err(HostFault::OutOfMemory);
     };
-    let (shared, first) = match share(alloc, desk, planners + 1) {
+    let (shared, first) = match SharedDesk::share(alloc, desk, planners + 1) {
         Ok(shared) => shared,
-        Err(fault) => return Err(fault),
+        Err(OutOfMemory) => return Err(HostFault::OutOfMemory),
     };
     let (first, operator, outcomes) = host_threads(rt, alloc, &shared, first, seats, outcomes);
     let mut desk = match shared.close(first) {

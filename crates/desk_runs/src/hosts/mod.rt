@@ -1,7 +1,7 @@
 //! Planners who edit one fleet at once, each at a seat of its own, over one shared desk.
+mod comparing;
 mod hosting;
 mod seats;
-mod sharing;
 mod sittings;
 mod whole_lines;
 

@@ -6,8 +6,7 @@ pub returns-clause-drilled : goal.returns-clause-drilled
 returns-clause-drilled g c =
     let served = rw (c.in-Ok-ended.is, c.as_slice.ensures.value) at c.serve_scripts-first.ensures.served in
     let many : c.len.result + 1 ≡ length c.args.scripts.items + 1 = omega (arith, c.len.ensures) in
-    let told = rw c.scene.ensures at c.in-Ok-report_of.ensures in
-    comes_to _ _ _ _ c.args.scripts.items _ c.in-Ok.scene c.in-Ok-share.shared.0 _ c.serve_scripts-first.result.0 _ _ c.in-Ok-report_of.report c.is_same-same.result c.in-Ok.ensures.opened many c.in-Ok-share.ensures.first c.serve_scripts-first.ensures.gathered served c.in-Ok-end_sharing.ensures.ended told c.is_same-same.ensures
+    comes_to _ _ _ _ c.args.scripts.items _ c.in-Ok.scene c.in-Ok-share.shared.0 _ c.serve_scripts-first.result.0 _ _ c.in-Ok-last_report.report c.is_same-same.result c.in-Ok.ensures.opened many c.in-Ok-share.ensures.first c.serve_scripts-first.ensures.gathered served c.in-Ok-end_sharing.ensures.ended c.in-Ok-last_report.ensures c.is_same-same.ensures
 
 pub returns-in-Err-end_sharing-clause-refused : goal.returns-in-Err-end_sharing-clause-refused
 returns-in-Err-end_sharing-clause-refused g c =
