@@ -34,10 +34,7 @@ pub fn share(rt: &impl Abort, alloc: Global) -> (SharedDesk, Pass)
         panic!(rt; "a lawful agent");
     }
     let desk = Desk::open(alloc, scene, Limit::new(10).expect(rt, "a limit"));
-    match SharedDesk::open(alloc, desk, 3) {
-        Ok(shared) => shared,
-        Err(_) => panic!(rt; "lawful planners"),
-    }
+    SharedDesk::share(alloc, desk, 3).expect(rt, "memory")
 }
 
 pub fn split(rt: &impl Abort, shared: &SharedDesk, pass: &mut Pass) -> Pass

@@ -1,4 +1,5 @@
 //! Shared desks for the tests.
+ghost use Rattle.desk_shared.specs.Calls.{MayShare};
 ghost use Rattle.desk_shared.specs.Passes.{Owns};
 
 use desk_core::Desk;
@@ -8,12 +9,10 @@ use std::process::Abort;
 
 /// The desk, shared by so many planners, and the first pass.
 pub fn share(rt: &impl Abort, alloc: Global, desk: Desk, planners: u32) -> (SharedDesk, Pass)
+    requires { MayShare planners }
     ensures { Owns result.0 result.1 }
 {
-    match SharedDesk::open(alloc, desk, planners) {
-        Ok(shared) => shared,
-        Err(_) => panic!(rt; "lawful planners"),
-    }
+    SharedDesk::share(alloc, desk, planners).expect(rt, "memory")
 }
 
 pub fn split(rt: &impl Abort, shared: &SharedDesk, pass: &mut Pass) -> Pass
