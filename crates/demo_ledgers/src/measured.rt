@@ -73,70 +73,66 @@ pub fn found_in<R: AllocGlobal + Clock + Files>(
     Ok(found)
 }
 
-// All agents come.
-fn filled<R: AllocGlobal + Clock>(rt: &R, plans: &[Plan]) -> anyhow::Result<(Kept, Taken)> {
-    let mut kept = Kept::new(rt.alloc());
+// All agents come. Answers what each coming took.
+fn fill<R: Clock>(rt: &R, kept: &mut Kept, plans: &[Plan]) -> anyhow::Result<Taken> {
     let mut all = Taken::default();
     let mut number = 0u32;
     for plan in plans {
-        let (more, taken) = kept.enter(rt, agent_of(number)?, plan)?;
-        kept = more;
-        all = all.and(taken);
+        all = all.and(kept.enter(rt, agent_of(number)?, plan)?);
         number = number.saturating_add(1);
     }
-    Ok((kept, all.each(number)))
+    Ok(all.each(number))
 }
 
-// How many entries there are where the agent has the other plan, which it gives back.
-fn entries_with<R: Clock>(
-    rt: &R,
-    kept: Kept,
+// An agent with its plan, and another plan for it.
+#[derive(Clone, Copy)]
+struct Edited<'a> {
     agent: Agent,
-    own: &Plan,
-    other: &Plan,
-) -> anyhow::Result<(Kept, u64)> {
-    let (there, _taken) = kept.revise(rt, agent, own, other)?;
-    let entries = there.entries();
-    let (back, _taken) = there.revise(rt, agent, other, own)?;
-    Ok((back, entries))
+    own: &'a Plan,
+    other: &'a Plan,
 }
 
-// The agent gets the other plan and its own again, so many times. Answers what each edit took.
-fn after_edits<R: Clock>(
-    rt: &R,
-    mut kept: Kept,
-    agent: Agent,
-    own: &Plan,
-    other: &Plan,
-    edits: u32,
-) -> anyhow::Result<(Kept, Taken)> {
-    let mut all = Taken::default();
-    for _ in 0..edits {
-        let (there, taken) = kept.revise(rt, agent, own, other)?;
-        let (back, again) = there.revise(rt, agent, other, own)?;
-        kept = back;
-        all = all.and(taken).and(again);
+impl Edited<'_> {
+    fn go<R: Clock>(&self, rt: &R, kept: &mut Kept) -> anyhow::Result<Taken> {
+        kept.revise(rt, self.agent, self.own, self.other)
     }
-    Ok((kept, all.each(edits.saturating_mul(2))))
-}
 
-// The agent goes and comes again, so many times. Answers what each going and each coming took.
-fn gone_and_back<R: Clock>(
-    rt: &R,
-    mut kept: Kept,
-    agent: Agent,
-    own: &Plan,
-    edits: u32,
-) -> anyhow::Result<(Kept, Taken, Taken)> {
-    let (mut leaving, mut returning) = (Taken::default(), Taken::default());
-    for _ in 0..edits {
-        let (without, taken) = kept.leave(rt, agent, own)?;
-        let (with, again) = without.enter(rt, agent, own)?;
-        kept = with;
-        leaving = leaving.and(taken);
-        returning = returning.and(again);
+    fn return_to_own<R: Clock>(&self, rt: &R, kept: &mut Kept) -> anyhow::Result<Taken> {
+        kept.revise(rt, self.agent, self.other, self.own)
     }
-    Ok((kept, leaving.each(edits), returning.each(edits)))
+
+    // How many entries there are where the agent has the other plan, which it gives back.
+    fn entries<R: Clock>(&self, rt: &R, kept: &mut Kept) -> anyhow::Result<u64> {
+        let _taken = self.go(rt, kept)?;
+        let entries = kept.entries();
+        let _taken = self.return_to_own(rt, kept)?;
+        Ok(entries)
+    }
+
+    // The agent gets the other plan and its own again, so many times. Answers what each edit took.
+    fn edit<R: Clock>(&self, rt: &R, kept: &mut Kept, edits: u32) -> anyhow::Result<Taken> {
+        let mut all = Taken::default();
+        for _ in 0..edits {
+            all = all.and(self.go(rt, kept)?);
+            all = all.and(self.return_to_own(rt, kept)?);
+        }
+        Ok(all.each(edits.saturating_mul(2)))
+    }
+
+    // The agent goes and comes again, so many times. Answers what each going and each coming took.
+    fn leave<R: Clock>(
+        &self,
+        rt: &R,
+        kept: &mut Kept,
+        edits: u32,
+    ) -> anyhow::Result<(Taken, Taken)> {
+        let (mut leaving, mut returning) = (Taken::default(), Taken::default());
+        for _ in 0..edits {
+            leaving = leaving.and(kept.leave(rt, self.agent, self.own)?);
+            returning = returning.and(kept.enter(rt, self.agent, self.own)?);
+        }
+        Ok((leaving.each(edits), returning.each(edits)))
+    }
 }
 
 // One turn.
@@ -148,18 +144,23 @@ fn turn<R: AllocGlobal + Clock + Files>(
     let Some(own) = fleet.plans.get(fleet.edited as usize) else {
         bail!("no agent is edited");
     };
-    let (agent, other) = (agent_of(fleet.edited)?, &fleet.other);
+    let edited = Edited {
+        agent: agent_of(fleet.edited)?,
+        own,
+        other: &fleet.other,
+    };
     let before = resident(rt);
-    let (kept, entering) = filled(rt, fleet.plans.as_slice())?;
+    let mut kept = Kept::new(rt.alloc());
+    let entering = fill(rt, &mut kept, fleet.plans.as_slice())?;
     let memory = grown(before, resident(rt));
-    let (entries, records) = (kept.entries(), kept.index.touched());
-    let (kept, edited) = entries_with(rt, kept, agent, own, other)?;
-    let (kept, revising) = after_edits(rt, kept, agent, own, other, edits)?;
-    let (kept, leaving, returning) = gone_and_back(rt, kept, agent, own, edits)?;
+    let (entries, records) = (kept.entries(), kept.records());
+    let with_other = edited.entries(rt, &mut kept)?;
+    let revising = edited.edit(rt, &mut kept, edits)?;
+    let (leaving, returning) = edited.leave(rt, &mut kept, edits)?;
     Ok(Found {
         agents: fleet.plans.len(),
         entries,
-        edited,
+        edited: with_other,
         same: kept.entries() == entries,
         records,
         memory,
