@@ -32,6 +32,7 @@ fn is_ring(rt: &impl Abort, alloc: Global, report: &Report) {
     assert!(rt; write_report(report, &mut sink).is_ok());
     let told: Vec<u8> = sink.into_inner();
     assert!(rt; told.as_slice() == TEXT.as_bytes(), "{told:?}");
+    drop(told);
 }
 
 fn blocks(rt: &impl Abort, alloc: Global) -> Vec<Vec<u8>> {
@@ -92,6 +93,7 @@ fn told_at_last<R: Threads + Wait + Abort>(rt: &R, alloc: Global, scene: &Scene,
                 drop(blocks);
                 assert!(rt; begun == u64::from(workers) && growths > 0 && starts > 0);
                 is_ring(rt, alloc, &report);
+                drop(report);
                 return;
             }
         }
@@ -145,6 +147,8 @@ fn refusals<R: Threads + Wait + Abort>(
             Err(fault) => assert!(rt; fault == AuditFault::OutOfMemory),
             Ok(report) => {
                 is_ring(rt, alloc, &report);
+                drop(report);
+                drop(blocks);
                 return back;
             }
         }
@@ -160,4 +164,5 @@ fn ring_of_four_by_one_and_by_four(rt: HostRuntime) {
         told_at_last(&rt, alloc, &scene, workers);
         assert!(rt; refusals(&rt, alloc, &scene, workers) > 0);
     }
+    drop(scene);
 }

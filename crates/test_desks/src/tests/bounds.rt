@@ -21,6 +21,7 @@ fn over_desk<R: Source>(
     let mut desk = Desk::open(alloc, Scene::bare(alloc, grid), limit(rt, 8));
     let mut writer = Spout::new(Vec::new(alloc));
     let ended = serve(alloc, &mut desk, reader, &mut writer, bounds);
+    drop(desk);
     (ended, writer.into_inner())
 }
 
@@ -51,6 +52,7 @@ fn lines_at_the_bound_of_bytes(rt: HostRuntime) {
         assert_eq!(rt; got, ended, "{left} times {byte}");
         assert_eq!(rt; reader.calls(), calls, "{left} times {byte}");
         assert_eq!(rt; written.as_slice(), text.as_bytes(), "{left} times {byte}");
+        drop(written);
     }
 }
 
@@ -89,6 +91,7 @@ fn texts_at_the_bounds(rt: HostRuntime) {
             text.as_bytes(),
             "{input:?} within {bounds:?}"
         );
+        drop(written);
     }
 }
 
@@ -106,5 +109,6 @@ fn each_byte_alone(rt: HostRuntime) {
         };
         assert_eq!(rt; got, Ok(1), "byte {byte}");
         assert_eq!(rt; written.as_slice(), text, "byte {byte}");
+        drop(written);
     }
 }

@@ -153,6 +153,7 @@ fn committed(
         Err((why, back)) => {
             assert!(rt; is_commit(same, &back));
             assert!(rt; desk.version() == version && desk.journal().len() as u64 == version);
+            drop(back);
             told_of_refusal(why)
         }
     }
@@ -170,31 +171,28 @@ pub fn asked(
     let made = call(rt, alloc, ask);
     let same = call(rt, alloc, ask);
     leave(rt, drought, bytes);
-    match made {
-        Call::Commit(commit) => committed(rt, drought, desk, commit, &same),
-        Call::Read => {
-            let answer = desk.reading();
-            drought.relieve();
-            match answer {
-                Ok(reading) => told_of_reading(&reading),
-                Err(_) => Told::OutOfMemory,
-            }
+    let answer = match made {
+        Call::Commit(commit) => {
+            let told = committed(rt, drought, desk, commit, &same);
+            drop(same);
+            return told;
         }
-        Call::Distance(agent, cell) => {
-            let answer = desk.distance(agent, cell);
-            drought.relieve();
-            match answer {
-                Ok(steps) => Told::Far(steps),
-                Err(fault) => told_of_fault(fault),
-            }
-        }
-        Call::Snapshot => {
-            let answer = desk.snapshot();
-            drought.relieve();
-            match answer {
-                Ok(copy) => told_of_copy(rt, &copy),
-                Err(_) => Told::OutOfMemory,
-            }
-        }
-    }
+        Call::Read => match desk.reading() {
+            Ok(reading) => Answer::Shown(reading),
+            Err(_) => Answer::NoMemory,
+        },
+        Call::Distance(agent, cell) => match desk.distance(agent, cell) {
+            Ok(steps) => Answer::Far(steps),
+            Err(fault) => Answer::AskRefused(fault),
+        },
+        Call::Snapshot => match desk.snapshot() {
+            Ok(copy) => Answer::Copied(copy),
+            Err(_) => Answer::NoMemory,
+        },
+    };
+    drought.relieve();
+    drop(same);
+    let told = told_of_answer(rt, &answer);
+    drop(answer);
+    told
 }

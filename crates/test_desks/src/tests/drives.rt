@@ -42,6 +42,7 @@ fn are_back(rt: &impl Abort, alloc: Global, row: &Row, back: &[Call]) {
         let other = others.next().expect(rt, "as many calls");
         assert!(rt; is_same(call, other));
     }
+    drop(calls);
 }
 
 // The calls that came back are those of the row, the desk is as it was, and they are answered with
@@ -50,7 +51,10 @@ fn drive_again(rt: &impl Abort, alloc: Global, desk: &mut Desk, row: &Row, back:
     are_back(rt, alloc, row, &back);
     assert!(rt; desk.version() == 0 && desk.journal().is_empty());
     match drive(alloc, desk, back) {
-        Ok(answers) => are_wanted(rt, row, &told_of_all(rt, answers.items())),
+        Ok(answers) => {
+            are_wanted(rt, row, &told_of_all(rt, answers.items()));
+            drop(answers);
+        }
         Err(_) => panic!(rt; "there is room"),
     }
 }
@@ -68,13 +72,19 @@ fn driven(
     leave(rt, drought, Some(bytes));
     let driven = drive(alloc, &mut desk, calls);
     drought.relieve();
-    match driven {
-        Ok(answers) => Some(told_of_all(rt, answers.items())),
+    let told = match driven {
+        Ok(answers) => {
+            let told = told_of_all(rt, answers.items());
+            drop(answers);
+            Some(told)
+        }
         Err((_, back)) => {
             drive_again(rt, alloc, &mut desk, row, back);
             None
         }
-    }
+    };
+    drop(desk);
+    told
 }
 
 /// Both the room for the answers and single calls are refused, until all calls are answered.
@@ -89,6 +99,7 @@ pub fn drives(rt: &impl Abort, alloc: Global, row: &Row) {
             }
             Some(_) => {
                 assert!(rt; without_room && with_refusals);
+                drop(drought);
                 return;
             }
         }

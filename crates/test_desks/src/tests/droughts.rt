@@ -24,7 +24,9 @@ fn small_blocks(rt: &impl Abort, alloc: Global, drought: &mut Drought, bytes: us
     blocks.clear();
     drought.leave(bytes).expect(rt, "memory");
     take(alloc, &mut blocks);
-    blocks.len()
+    let count = blocks.len();
+    drop(blocks);
+    count
 }
 
 fn has(alloc: Global, bytes: usize) -> bool {

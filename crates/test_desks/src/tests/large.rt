@@ -72,7 +72,9 @@ fn edited(rt: &impl Abort, alloc: Global, desk: &mut Desk, base: u64, edits: Vec
     let Ok(all) = Commit::new(planner, base, Vec::new(alloc), edits) else {
         panic!(rt; "a commit");
     };
-    assert!(rt; desk.commit(all).is_ok());
+    let answer = desk.commit(all);
+    assert!(rt; answer.is_ok());
+    drop(answer);
 }
 
 // A reading at that version has a line of each agent, the first of agent 0 with that settle time, no
@@ -97,6 +99,7 @@ fn tells(reading: &Reading, version: u64, settle: u32) -> bool {
 fn reads(rt: &impl Abort, desk: &mut Desk, version: u64, settle: u32) {
     let reading = desk.reading().expect(rt, "memory");
     assert!(rt; tells(&reading, version, settle));
+    drop(reading);
 }
 
 // The path of agent 0 becomes one of so many cells, an odd number. Its last step comes back to the
@@ -128,4 +131,5 @@ fn ten_thousand_readings(rt: HostRuntime) {
     turns(&rt, alloc, &mut desk);
     assert!(rt; desk.version() == 10_002);
     assert!(rt; desk.rebuilds() == 1);
+    drop(desk);
 }

@@ -34,4 +34,6 @@ fn limits_of_small_types(rt: HostRuntime) {
     assert!(rt; full.watch().len() == 4_096 && full.edits().len() == 4_096);
     let (watch, edits) = full.into_parts();
     assert!(rt; watch.len() == 4_096 && edits.len() == 4_096);
+    drop(watch);
+    drop(edits);
 }

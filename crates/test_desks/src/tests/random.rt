@@ -70,10 +70,12 @@ fn agrees(desk: &mut Desk, commit: Commit) -> bool {
     let empty = commit.edits().is_empty();
     match desk.commit(commit) {
         Ok(_) => wanted.is_none() && !empty,
-        Err((Refusal::Stale { thing, at, .. }, _back)) => wanted == Some((thing, at)),
-        Err((why, _back)) => {
-            let is_empty = why == Refusal::NoEdits;
-            is_empty == empty && (empty || wanted.is_none())
+        Err((why, back)) => {
+            drop(back);
+            match why {
+                Refusal::Stale { thing, at, .. } => wanted == Some((thing, at)),
+                _ => (why == Refusal::NoEdits) == empty && (empty || wanted.is_none()),
+            }
         }
     }
 }
@@ -89,8 +91,11 @@ fn plain_reading(rt: &impl Abort, alloc: Global, scene: &Scene) -> Report {
         let field = PlainField::new(alloc, grid, entry.1.goal).expect(rt, "memory");
         let start = entry.1.plan.at(Step::new(0));
         bounds.push(field.distance(start)).expect(rt, "memory");
+        drop(field);
     }
-    plain_report(alloc, grid, scene.mode(), plans, &bounds).expect(rt, "memory")
+    let report = plain_report(alloc, grid, scene.mode(), plans, &bounds);
+    drop(bounds);
+    report.expect(rt, "memory")
 }
 
 // The desk's reading is the plain one, and a snapshot has the desk's scene.
@@ -98,8 +103,11 @@ fn reads_plainly(rt: &impl Abort, alloc: Global, desk: &mut Desk) {
     let reading = desk.reading().expect(rt, "memory");
     let plain = plain_reading(rt, alloc, desk.scene());
     assert!(rt; reading.version == desk.version() && reading.report == plain);
+    drop(reading);
+    drop(plain);
     let copy = desk.snapshot().expect(rt, "memory");
     assert!(rt; copy.version == desk.version() && are_same(rt, &copy.scene, desk.scene()));
+    drop(copy);
 }
 
 // Whether the commit's first two edits are of one agent or cell, and whether it has a tail.
@@ -143,5 +151,6 @@ fn random_commits_beside_the_journal_and_the_plain_report(rt: HostRuntime) {
         assert!(rt; accepted > 100 && accepted < 500, "{accepted}");
         assert!(rt; twice > 20 && tails > 10, "{twice} and {tails}");
         assert!(rt; desk.rebuilds() == 1);
+        drop(desk);
     }
 }

@@ -47,6 +47,7 @@ fn fault(
     match replayed {
         Ok(desk) => {
             is_replayed(rt, &desk);
+            drop(desk);
             None
         }
         Err(fault) => Some(fault),
@@ -70,6 +71,7 @@ fn journal_of_one_entry_and_replay_in_another_mode(rt: HostRuntime) {
         match fault(&rt, alloc, &mut drought, lawful, Some(16 * step)) {
             None => {
                 assert!(rt; step > 10);
+                drop(drought);
                 return;
             }
             Some(fault) => assert!(rt; fault == ReplayFault::OutOfMemory),

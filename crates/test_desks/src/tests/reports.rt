@@ -34,8 +34,10 @@ fn reads(rt: &impl Abort, alloc: Global, desk: &mut Desk, text: &str) {
     let reading = desk.reading().expect(rt, "memory");
     let mut sink = Spout::new(Vec::new(alloc));
     assert!(rt; write_report(&reading.report, &mut sink).is_ok());
+    drop(reading);
     let told: Vec<u8> = sink.into_inner();
     assert!(rt; told.as_slice() == text.as_bytes(), "{told:?}");
+    drop(told);
 }
 
 // A desk of the ring on a map of 2 x 2 open cells, which was read once.
@@ -68,7 +70,9 @@ fn is_refused(
             assert!(rt; why == Refusal::OutOfMemory);
             reads(rt, alloc, desk, TEXT);
             assert!(rt; desk.rebuilds() == 1);
-            assert!(rt; desk.commit(back).is_ok());
+            let again = desk.commit(back);
+            assert!(rt; again.is_ok());
+            drop(again);
             true
         }
     }
@@ -93,7 +97,9 @@ fn without_agent_4(rt: &impl Abort, alloc: Global, drought: &mut Drought, bytes:
     drought.relieve();
     let is_refused = is_refused(rt, alloc, &mut desk, answer);
     reads(rt, alloc, &mut desk, AFTER);
-    came_of(rt, is_refused, desk.rebuilds())
+    let builds = desk.rebuilds();
+    drop(desk);
+    came_of(rt, is_refused, builds)
 }
 
 #[test]
@@ -107,6 +113,7 @@ fn refused_growth_keeps_the_report_and_ring_again_after_a_drop(rt: HostRuntime) 
             Outcome::Unfollowed => unfollowed = true,
             Outcome::Followed => {
                 assert!(rt; refused && unfollowed);
+                drop(drought);
                 return;
             }
         }
@@ -124,10 +131,14 @@ fn faulty_commit_keeps_indexes(rt: HostRuntime) {
     let wanted = Refusal::Faulty { index: 1, why };
     match desk.commit(faulty) {
         Ok(_) => panic!(rt; "a fault"),
-        Err((why, _back)) => assert!(rt; why == wanted),
+        Err((why, back)) => {
+            assert!(rt; why == wanted);
+            drop(back);
+        }
     }
     reads(&rt, alloc, &mut desk, TEXT);
     assert!(rt; desk.rebuilds() == 1);
+    drop(desk);
 }
 
 // Three times an accepted commit and a reading.
@@ -138,8 +149,11 @@ fn indexes_built_once(rt: HostRuntime) {
     let mut desk = read_desk(&rt, alloc);
     for base in 0..3 {
         let goal = commit(&rt, alloc, planner(&rt, 0), base, &["goal 4 1,0"]);
-        assert!(rt; desk.commit(goal).is_ok());
+        let answer = desk.commit(goal);
+        assert!(rt; answer.is_ok());
+        drop(answer);
         reads(&rt, alloc, &mut desk, TEXT);
     }
     assert!(rt; desk.rebuilds() == 1);
+    drop(desk);
 }

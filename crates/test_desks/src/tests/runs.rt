@@ -50,6 +50,7 @@ fn run(
         }
         answers[number] = told;
     }
+    drop(desk);
     answers
 }
 
@@ -123,4 +124,5 @@ pub fn each_call_refused(rt: &impl Abort, alloc: Global, row: &Row) {
         let count = refusals(rt, alloc, &mut drought, row, number);
         assert_eq!(rt; count > 0, line.2, "call {number}: {count}");
     }
+    drop(drought);
 }

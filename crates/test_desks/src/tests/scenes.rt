@@ -46,5 +46,7 @@ pub fn are_same(rt: &impl Abort, one: &Scene, other: &Scene) -> bool {
 /// Whether the scene is that of an open map of 3 x 1 cells after the edits of the lines, in mode Stay.
 pub fn is_scene(rt: &impl Abort, alloc: Global, copy: &Scene, lines: &[&str]) -> bool {
     let wanted = scene(alloc, 3, 1, lines).expect(rt, "a scene");
-    are_same(rt, copy, &wanted)
+    let same = are_same(rt, copy, &wanted);
+    drop(wanted);
+    same
 }

@@ -59,7 +59,9 @@ fn served<R: Source>(rt: &impl Abort, alloc: Global, reader: &mut R, map: bool) 
         serve_with_map(alloc, reader, &mut writer, limit, Mode::Stay, BOUNDS)
     } else {
         let mut desk = desk(rt, alloc, &[], 100);
-        serve(alloc, &mut desk, reader, &mut writer, BOUNDS).map_err(StartFault::Serve)
+        let ended = serve(alloc, &mut desk, reader, &mut writer, BOUNDS);
+        drop(desk);
+        ended.map_err(StartFault::Serve)
     };
     (ended, writer.into_inner())
 }
@@ -76,6 +78,8 @@ fn without(rt: &impl Abort, alloc: Global, session: &Session, line: usize) -> Ve
         .expect(rt, "the lines before");
     push(rt, &mut text, "refused memory\n");
     text.extend_from_slice(later).expect(rt, "memory");
+    drop(written);
+    drop(blanked);
     text
 }
 
@@ -93,20 +97,26 @@ fn is_refused(
         Ok(heard) => {
             assert!(rt; heard as usize == session.lines.len());
             let all = before(rt, alloc, session, session.lines.len().saturating_add(1));
-            if written == all {
-                return false;
+            let is_refused = written != all;
+            drop(all);
+            if is_refused {
+                let wanted = without(rt, alloc, session, line);
+                assert!(rt; written == wanted, "line {line}");
+                drop(wanted);
             }
-            let wanted = without(rt, alloc, session, line);
-            assert!(rt; written == wanted, "line {line}");
+            drop(written);
+            is_refused
         }
         Err(fault) => {
             let of_map = line == 0 && fault == StartFault::Map(MapFault::OutOfMemory);
             assert!(rt; of_map || fault == StartFault::Serve(ServeFault::OutOfMemory));
             let wanted = before(rt, alloc, session, line);
             assert!(rt; written == wanted, "line {line}");
+            drop(wanted);
+            drop(written);
+            true
         }
     }
-    true
 }
 
 // How often the line of that number of the reader's text is refused, with 16 bytes more each time
@@ -138,6 +148,8 @@ fn each_line_refused(rt: &impl Abort, alloc: Global, session: &Session) {
         let count = refusals(rt, alloc, &mut reader, session, dry);
         assert!(rt; (count > 0) == session.takes.contains(&dry), "line {dry}");
     }
+    drop(reader);
+    drop(text);
 }
 
 #[test]

@@ -26,7 +26,9 @@ fn commit_at(rt: &impl Abort, alloc: Global, planner: Planner, desk: &mut Desk) 
     for round in 0..COMMITS {
         let base = u64::from(round);
         let goal = commit(rt, alloc, planner, base, &[GOALS[round as usize % 3]]);
-        assert!(rt; matches!(desk.commit(goal), Ok(version) if version == base.saturating_add(1)));
+        let answer = desk.commit(goal);
+        assert!(rt; matches!(&answer, Ok(version) if *version == base.saturating_add(1)));
+        drop(answer);
     }
 }
 
@@ -45,7 +47,8 @@ fn commit_through<R: Wait + Abort>(rt: &R, alloc: Global, shared: &SharedDesk, p
             &[GOALS[round as usize % 3]],
         );
         let answer = shared.commit(rt, pass, goal);
-        assert!(rt; matches!(answer, Ok(version) if version == base.saturating_add(1)));
+        assert!(rt; matches!(&answer, Ok(version) if *version == base.saturating_add(1)));
+        drop(answer);
     }
 }
 
@@ -67,4 +70,6 @@ fn commits_that_nobody_waits_for(rt: HostRuntime) {
     has_all(&rt, alloc, &alone);
     has_all(&rt, alloc, &closed);
     assert!(rt; closed.journal() == alone.journal());
+    drop(closed);
+    drop(alone);
 }

@@ -63,8 +63,9 @@ fn commits<R: Wait + Abort>(
             assert!(rt; version == 1);
             true
         }
-        Err((why, _back)) => {
+        Err((why, back)) => {
             assert!(rt; why == Refusal::OutOfMemory);
+            drop(back);
             false
         }
     }
@@ -110,6 +111,7 @@ fn reads<R: Wait + Abort>(
     };
     let line = reading.report.lines.items().first().expect(rt, "a line");
     assert!(rt; reading.version == 1 && line.settle == 1);
+    drop(reading);
     true
 }
 
@@ -132,6 +134,7 @@ fn copies<R: Wait + Abort>(
         return false;
     };
     assert!(rt; copy.version == 1 && is_scene(rt, alloc, &copy.scene, AFTER));
+    drop(copy);
     true
 }
 

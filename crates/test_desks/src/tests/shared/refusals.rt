@@ -78,6 +78,7 @@ fn is_refused<R: Wait + Abort>(rt: &R, alloc: Global, drought: &mut Drought, wan
     let closed = shared.close(pass).expect(rt, "the desk");
     let lines = if version == 0 { BEFORE } else { AFTER };
     assert!(rt; closed.version() == version && is_scene(rt, alloc, closed.scene(), lines));
+    drop(closed);
     back || later
 }
 
@@ -112,4 +113,5 @@ fn want_of_memory_at_a_shared_desk(rt: HostRuntime) {
             assert!(rt; count > 0, "call {number}");
         }
     }
+    drop(drought);
 }

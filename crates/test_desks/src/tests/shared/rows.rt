@@ -20,7 +20,10 @@ fn shared_by_none_and_by_too_many(rt: HostRuntime) {
     for planners in [0, 257] {
         match SharedDesk::open(alloc, desk(&rt, alloc, SCENE, 10), planners) {
             Ok(_) => panic!(rt; "too many planners, or none"),
-            Err((fault, _back)) => assert!(rt; fault == ShareFault::BadPlanners),
+            Err((fault, back)) => {
+                assert!(rt; fault == ShareFault::BadPlanners);
+                drop(back);
+            }
         }
     }
 }
@@ -35,11 +38,24 @@ fn refusals_through_a_pass(rt: HostRuntime) {
         Ok(_) => panic!(rt; "a base above the version"),
         Err((why, back)) => {
             assert!(rt; why == Refusal::Ahead { now: 0 } && back.base() == 1);
+            drop(back);
         }
     }
     let (nine, corner) = (agent(&rt, 9), cell(&rt, 0, 0));
     let unknown = shared.distance(&rt, &mut pass, nine, corner);
     assert!(rt; unknown == Err(AskFault::UnknownAgent) && shared.front(&mut pass) == 0);
+    drop(pass);
+    drop(shared);
+}
+
+// No other pass can be had.
+fn is_full(rt: &impl Abort, shared: &SharedDesk, pass: &mut Pass, full: SplitFault)
+    requires { Owns shared.now pass.old }
+    ensures { Owns shared.now pass.new }
+{
+    let answer = shared.split(pass);
+    assert!(rt; matches!(&answer, Err(fault) if *fault == full));
+    drop(answer);
 }
 
 // One commit through the pass, a reading after it, and a distance.
@@ -48,10 +64,13 @@ fn commits_and_asks<R: Wait + Abort>(rt: &R, alloc: Global, shared: &SharedDesk,
     ensures { Owns shared.now pass.new }
 {
     let path = commit(rt, alloc, pass.planner(), 0, &["path 3 0,0 1,0"]);
-    assert!(rt; matches!(shared.commit(rt, pass, path), Ok(1)));
+    let answer = shared.commit(rt, pass, path);
+    assert!(rt; matches!(&answer, Ok(1)));
+    drop(answer);
     let reading = shared.reading(rt, pass).expect(rt, "memory");
     let line = reading.report.lines.items().first().expect(rt, "a line");
     assert!(rt; reading.version == 1 && line.settle == 1);
+    drop(reading);
     assert!(rt; shared.front(pass) == 1);
     let (three, corner) = (agent(rt, 3), cell(rt, 0, 0));
     assert!(rt; shared.distance(rt, pass, three, corner) == Ok(Some(2)));
@@ -66,9 +85,10 @@ fn shared_by_one_and_shared_distance(rt: HostRuntime) {
     assert!(rt; shared.owns(&pass) && pass.planner().number() == 0);
     commits_and_asks(&rt, alloc, &shared, &mut pass);
     let full = SplitFault::PassesFull { planners: 1 };
-    assert!(rt; shared.split(&mut pass).err() == Some(full));
+    is_full(&rt, &shared, &mut pass, full);
     let closed = shared.close(pass).expect(&rt, "the desk");
     assert!(rt; closed.journal().len() == 1);
+    drop(closed);
 }
 
 #[test]
@@ -78,11 +98,13 @@ fn split_until_full(rt: HostRuntime) {
     let full = SplitFault::PassesFull { planners: 3 };
     let mut second = split(&rt, &shared, &mut first);
     assert!(rt; second.planner().number() == 1);
-    assert!(rt; shared.split(&mut second).err() == Some(full));
+    is_full(&rt, &shared, &mut second, full);
     let third = split(&rt, &shared, &mut first);
     assert!(rt; third.planner().number() == 2);
     shared.join(&mut first, third);
-    assert!(rt; shared.split(&mut first).err() == Some(full));
+    is_full(&rt, &shared, &mut first, full);
+    drop((first, second));
+    drop(shared);
 }
 
 #[test]
@@ -93,6 +115,25 @@ fn join_hands_on_numbers(rt: HostRuntime) {
     shared.join(&mut second, first);
     let third = split(&rt, &shared, &mut second);
     assert!(rt; second.planner().number() == 1 && third.planner().number() == 2);
+    drop((second, third));
+    drop(shared);
+}
+
+// A snapshot is of that version, with the scene of the lines.
+fn copies<R: Wait + Abort>(
+    rt: &R,
+    alloc: Global,
+    shared: &SharedDesk,
+    pass: &mut Pass,
+    version: u64,
+    lines: &[&str],
+)
+    requires { Owns shared.now pass.old }
+    ensures { Owns shared.now pass.new }
+{
+    let copy = shared.snapshot(rt, pass).expect(rt, "memory");
+    assert!(rt; copy.version == version && is_scene(rt, alloc, &copy.scene, lines));
+    drop(copy);
 }
 
 // The first pass has asked, and then the second commits. Front, reading, distance and snapshot of
@@ -105,21 +146,24 @@ fn reads_follow_an_unjoined_commit(rt: HostRuntime) {
     let mut second = split(&rt, &shared, &mut first);
     let (three, corner) = (agent(&rt, 3), cell(&rt, 0, 0));
     let far = shared.distance(&rt, &mut first, three, corner);
-    let before = shared.snapshot(&rt, &mut first).expect(&rt, "memory");
-    assert!(rt; far == Ok(Some(2)) && before.version == 0);
-    assert!(rt; is_scene(&rt, alloc, &before.scene, SCENE));
+    assert!(rt; far == Ok(Some(2)));
+    copies(&rt, alloc, &shared, &mut first, 0, SCENE);
     let close = commit(&rt, alloc, second.planner(), 0, &["close 1,0"]);
-    assert!(rt; matches!(shared.commit(&rt, &mut second, close), Ok(1)));
+    let answer = shared.commit(&rt, &mut second, close);
+    assert!(rt; matches!(&answer, Ok(1)));
+    drop(answer);
     let far = shared.distance(&rt, &mut first, three, corner);
-    let after = shared.snapshot(&rt, &mut first).expect(&rt, "memory");
-    assert!(rt; far == Ok(None) && after.version == 1);
-    assert!(rt; is_scene(&rt, alloc, &after.scene, CLOSED));
+    assert!(rt; far == Ok(None));
+    copies(&rt, alloc, &shared, &mut first, 1, CLOSED);
     assert!(rt; shared.front(&mut first) == 1);
     let reading = shared.reading(&rt, &mut first).expect(&rt, "memory");
     shared.join(&mut first, second);
     let joined = shared.reading(&rt, &mut first).expect(&rt, "memory");
     assert!(rt; reading.version == 1 && joined == reading);
+    drop((reading, joined));
     assert!(rt; shared.front(&mut first) == 1);
+    drop(first);
+    drop(shared);
 }
 
 #[test]

@@ -62,6 +62,7 @@ fn plan<R: Wait + Abort>(
     let waited = waited_for(other);
     assert!(rt; copy.version == 0 && waited);
     assert!(rt; is_scene(rt, alloc, &copy.scene, &SCENE[..2]));
+    drop(copy);
     let commit = commit(rt, alloc, pass.planner(), 0, &[line]);
     match shared.commit(rt, &mut pass, commit) {
         Ok(version) => (pass, version),
@@ -94,8 +95,11 @@ fn two_threads_commit(rt: HostRuntime) {
     assert!(rt; matches!((left.1, right.1), (1, 2) | (2, 1)));
     let last = shared.reading(&rt, &mut left.0).expect(&rt, "memory");
     assert!(rt; last.version == 2 && last.report.bounds == Some(2));
+    drop(last);
     let closed = shared.close(first).expect(&rt, "the desk");
     assert!(rt; closed.journal().len() == 2);
+    drop(closed);
+    drop((left.0, right.0));
 }
 
 // Commits and reads in turn, with the goal of an agent that no other pass names.
@@ -108,9 +112,11 @@ fn work<R: Wait + Abort>(rt: &R, alloc: Global, shared: &SharedDesk, mut pass: P
         let front = shared.front(&mut pass);
         let line = GOALS[planner.number() as usize % 4][round % 2];
         let commit = commit(rt, alloc, planner, front, &[line]);
-        let done = shared.commit(rt, &mut pass, commit).is_ok();
-        let read = shared.reading(rt, &mut pass).is_ok();
-        assert!(rt; done && read);
+        let done = shared.commit(rt, &mut pass, commit);
+        let read = shared.reading(rt, &mut pass);
+        assert!(rt; done.is_ok() && read.is_ok());
+        drop(done);
+        drop(read);
     }
     pass
 }
@@ -147,9 +153,11 @@ fn run_threads<R: Threads + Wait + Abort + Sync>(rt: &R, alloc: Global, count: u
             ensures { Owns desk.entry.now result }
         { work(rt, alloc, desk, pass) },
     );
-    let _passes = passes.expect(rt, "memory");
+    let passes = passes.expect(rt, "memory");
     let closed = shared.close(first).expect(rt, "the desk");
     assert!(rt; closed.journal().len() == count as usize * ROUNDS);
+    drop(closed);
+    drop(passes);
 }
 
 #[test]
