@@ -23,17 +23,11 @@ const KINDS: [Kind; 6] = [
     Kind::Cycle,
 ];
 
-// An index, and the ledger of its agents.
-#[derive(Drop)]
-struct Ledgers {
-    index: WhereIndex,
-    conflicts: ConflictLedger,
-}
-
-/// An index and the ledger of its agents, or nothing after a call that failed.
+/// An index and the ledger of its agents. After a call that failed one of them is gone.
 #[derive(Drop)]
 pub struct Kept {
-    ledgers: Option<Ledgers>,
+    index: Option<WhereIndex>,
+    conflicts: Option<ConflictLedger>,
 }
 
 /// The agent of that number.
@@ -75,68 +69,65 @@ fn between(
     })
 }
 
+// What a call is to change.
+fn there<T: Drop>(part: Option<T>) -> anyhow::Result<T> {
+    match part {
+        Some(part) => Ok(part),
+        None => bail!("a call has failed"),
+    }
+}
+
 impl Kept {
     /// Nobody.
     pub fn new(alloc: Global) -> Kept {
         Kept {
-            ledgers: Some(Ledgers {
-                index: WhereIndex::new(alloc),
-                conflicts: ConflictLedger::new(alloc),
-            }),
+            index: Some(WhereIndex::new(alloc)),
+            conflicts: Some(ConflictLedger::new(alloc)),
         }
     }
 
     /// How many entries there are.
     pub fn entries(&self) -> u64 {
-        let Some(ledgers) = &self.ledgers else {
+        let Some(conflicts) = &self.conflicts else {
             return 0;
         };
         let mut entries = 0u64;
         for kind in KINDS {
-            entries = entries.saturating_add(ledgers.conflicts.count(kind));
+            entries = entries.saturating_add(conflicts.count(kind));
         }
         entries
     }
 
     /// How many records the index was given.
     pub fn records(&self) -> u64 {
-        match &self.ledgers {
-            Some(ledgers) => ledgers.index.touched(),
+        match &self.index {
+            Some(index) => index.touched(),
             None => 0,
-        }
-    }
-
-    fn take(&mut self) -> anyhow::Result<Ledgers> {
-        match self.ledgers.take() {
-            Some(ledgers) => Ok(ledgers),
-            None => bail!("a call has failed"),
         }
     }
 
     /// Lets an agent come with that plan.
     pub fn enter<R: Clock>(&mut self, rt: &R, agent: Agent, plan: &Plan) -> anyhow::Result<Taken> {
-        let Ledgers { index, conflicts } = self.take()?;
         let track = stays(plan);
         let begun = Instant::now(rt);
-        let index = index.put(agent, track)?;
+        let index = there(self.index.take())?.put(agent, track)?;
+        let index = self.index.insert(index);
         let halfway = Instant::now(rt);
-        let conflicts = conflicts.admit(agent, track, &index)?;
-        let ended = Instant::now(rt);
-        self.ledgers = Some(Ledgers { index, conflicts });
-        between(begun, halfway, ended)
+        let conflicts = there(self.conflicts.take())?;
+        self.conflicts = Some(conflicts.admit(agent, track, index)?);
+        between(begun, halfway, Instant::now(rt))
     }
 
     /// Lets the agent go that has that plan.
     pub fn leave<R: Clock>(&mut self, rt: &R, agent: Agent, plan: &Plan) -> anyhow::Result<Taken> {
-        let Ledgers { index, conflicts } = self.take()?;
         let track = stays(plan);
         let begun = Instant::now(rt);
-        let index = index.take(agent, track);
+        let index = there(self.index.take())?.take(agent, track);
+        let index = self.index.insert(index);
         let halfway = Instant::now(rt);
-        let conflicts = conflicts.retract(agent, track, &index)?;
-        let ended = Instant::now(rt);
-        self.ledgers = Some(Ledgers { index, conflicts });
-        between(begun, halfway, ended)
+        let conflicts = there(self.conflicts.take())?;
+        self.conflicts = Some(conflicts.retract(agent, track, index)?);
+        between(begun, halfway, Instant::now(rt))
     }
 
     /// Gives the agent the new plan in place of the old one.
@@ -147,15 +138,14 @@ impl Kept {
         old: &Plan,
         new: &Plan,
     ) -> anyhow::Result<Taken> {
-        let Ledgers { index, conflicts } = self.take()?;
         let (was, is) = (stays(old), stays(new));
         let since = since(was, is);
         let begun = Instant::now(rt);
-        let index = index.swap(agent, was, is, since)?;
+        let index = there(self.index.take())?.swap(agent, was, is, since)?;
+        let index = self.index.insert(index);
         let halfway = Instant::now(rt);
-        let conflicts = conflicts.revise(agent, was, is, since, &index)?;
-        let ended = Instant::now(rt);
-        self.ledgers = Some(Ledgers { index, conflicts });
-        between(begun, halfway, ended)
+        let conflicts = there(self.conflicts.take())?;
+        self.conflicts = Some(conflicts.revise(agent, was, is, since, index)?);
+        between(begun, halfway, Instant::now(rt))
     }
 }

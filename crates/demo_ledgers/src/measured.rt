@@ -135,9 +135,10 @@ impl Edited<'_> {
     }
 }
 
-// One turn.
-fn turn<R: AllocGlobal + Clock + Files>(
+// What is found with the fleet in one turn, by what is kept of nobody.
+fn filled<R: AllocGlobal + Clock + Files>(
     rt: &R,
+    kept: &mut Kept,
     fleet: &Fleet,
     edits: u32,
 ) -> anyhow::Result<Found> {
@@ -150,13 +151,12 @@ fn turn<R: AllocGlobal + Clock + Files>(
         other: &fleet.other,
     };
     let before = resident(rt);
-    let mut kept = Kept::new(rt.alloc());
-    let entering = fill(rt, &mut kept, fleet.plans.as_slice())?;
+    let entering = fill(rt, kept, fleet.plans.as_slice())?;
     let memory = grown(before, resident(rt));
     let (entries, records) = (kept.entries(), kept.records());
-    let with_other = edited.entries(rt, &mut kept)?;
-    let revising = edited.edit(rt, &mut kept, edits)?;
-    let (leaving, returning) = edited.leave(rt, &mut kept, edits)?;
+    let with_other = edited.entries(rt, kept)?;
+    let revising = edited.edit(rt, kept, edits)?;
+    let (leaving, returning) = edited.leave(rt, kept, edits)?;
     Ok(Found {
         agents: fleet.plans.len(),
         entries,
@@ -169,6 +169,18 @@ fn turn<R: AllocGlobal + Clock + Files>(
         leaving,
         returning,
     })
+}
+
+// One turn.
+fn turn<R: AllocGlobal + Clock + Files>(
+    rt: &R,
+    fleet: &Fleet,
+    edits: u32,
+) -> anyhow::Result<Found> {
+    let mut kept = Kept::new(rt.alloc());
+    let found = filled(rt, &mut kept, fleet, edits);
+    drop(kept);
+    found
 }
 
 // How much more the process has, if both are known.
