@@ -35,13 +35,16 @@ pub fn host_files<'a, R: Files + AllocGlobal + Print + Threads + Wait + Sync>(
         Err(fault) => return Err(fault),
     };
     let Ok(pipes) = Pipes::new(rt.alloc(), host, words.names.as_slice(), stages) else {
+        drop(desk);
         return Err(out_of_memory());
     };
     let end = match host_all(rt, desk, &pipes, words) {
         Ok(end) => end,
         Err(fault) => return Err(ProgramFault::Host(fault)),
     };
-    end_hosted(rt, &end, words, more)
+    let ended = end_hosted(rt, &end, words, more);
+    drop(end);
+    ended
 }
 
 // Saves the desk's journal where the words ask for it, and prints whether the audit's report is that
@@ -148,6 +151,7 @@ fn host_timed<'s, E: 's, R: AllocGlobal + Threads + Wait + Sync>(
     seconds: u32,
 ) -> Result<HostEnd, HostFault> {
     let Ok(keeper) = scope.spawn(move || pipes.wait(rt, seconds)) else {
+        drop(desk);
         return Err(HostFault::OutOfMemory);
     };
     let ended = host_seated(rt, desk, pipes, words);
@@ -163,6 +167,7 @@ fn host_seated<R: AllocGlobal + Threads + Wait + Sync>(
     words: &HostWords<'_>,
 ) -> Result<HostEnd, HostFault> {
     let Ok(planners) = u32::try_from(words.names.len()) else {
+        drop(desk);
         return Err(HostFault::TooManyPlanners);
     };
     let workers = words.workers.clamp(1, 64);

@@ -44,7 +44,11 @@ pub fn serve_streams<'a, R: Files + AllocGlobal + Print + Eprint + Input>(
     }
     let mut unsaved = More::none();
     let saved = match desk {
-        Some(desk) => save_named(rt, &desk, words.save, &mut unsaved),
+        Some(desk) => {
+            let saved = save_named(rt, &desk, words.save, &mut unsaved);
+            drop(desk);
+            saved
+        }
         None => Ok(()),
     };
     match saved {
