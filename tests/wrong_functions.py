@@ -24,7 +24,7 @@ from planting import rounds_of
 TOP = Path(__file__).resolve().parent.parent
 KIT = Path(subprocess.run(["rt", "doc"], capture_output=True, text=True, check=True).stdout.strip()).parent
 # What a proof file says where it names what a change took away: this tells nothing of the contract.
-NAMES = re.compile(r"has no field|is not in scope|has no `|not admitted|not checked|(?:module|record) `\S+`$")
+NAMES = re.compile(r"has no field|is not in scope|has no `|not admitted|not checked|(?:module|record) `\S+`(?: \(nearest: .*\))?$")
 # The checker's last line where it came to its end.
 END = re.compile(r"^only=\d+ holes=\d+$", re.M)
 NAMED = "only since a proof file names what went, which says little of the contract"
