@@ -13,6 +13,7 @@ class Function(NamedTuple):
     path: tuple  # of names below the crate, the last one its own
     file: str  # below the crate's folder
     first: int  # its first line, from 0
+    opening: int  # the line that ends in the brace before its body
     last: int
     is_recursive: bool  # it calls itself by its name
 
@@ -55,20 +56,20 @@ def owner_of(line, module, types):
     return [*module, name + head(parts[0]) + (of[1] if of and head(parts[0]) == "From" else "")]
 
 
-def last_line(lines, first, indent):
-    """The last line of the function that begins there, and whether it has a body."""
-    is_open = False
+def body_of(lines, first, indent):
+    """The lines on which the body opens and ends of the function that begins there: none opens where it has no body."""
+    opening = None
     for at in range(first, len(lines)):
         line = lines[at].rstrip()
-        if is_open and line == f"{indent}}}":
-            return at, True
-        if not is_open and line.endswith("};" if CLAUSE.match(line) else ";"):
-            return at, False
-        if not is_open and not CLAUSE.match(line):
+        if opening is not None and line == f"{indent}}}":
+            return opening, at
+        if opening is None and line.endswith("};" if CLAUSE.match(line) else ";"):
+            return None, at
+        if opening is None and not CLAUSE.match(line):
             if line.endswith("{}"):
-                return at, True
-            is_open = line.endswith("{")
-    return len(lines) - 1, False
+                return at, at
+            opening = at if line.endswith("{") else None
+    return None, len(lines) - 1
 
 
 def functions_in(file, text, types):
@@ -81,12 +82,24 @@ def functions_in(file, text, types):
         if found and (not found[1] or found[1] == "    " and owner):
             is_test = any("#[test]" in it for it in lines[max(at - 2, 0) : at])
             first = at
-            at, has_body = last_line(lines, first, found[1])
-            if has_body and not is_test:
+            opening, at = body_of(lines, first, found[1])
+            if opening is not None and not is_test:
                 calls = rf"(?<![\w:.]){found[2]}(?:::<[^>]*>)?\(" if not found[1] else rf"(?:\bself\.|\bSelf::){found[2]}\("
                 is_recursive = bool(re.search(calls, "\n".join(lines[first + 1 : at])))
-                yield Function((*(owner if found[1] else module), found[2]), file, first, at, is_recursive)
+                yield Function((*(owner if found[1] else module), found[2]), file, first, opening, at, is_recursive)
         at += 1
+
+
+def without_bodies(text, functions):
+    """The text of a file with a body for these of its functions that does nothing."""
+    lines = text.split("\n")
+    for it in functions:
+        for at in range(it.opening + 1, it.last):
+            lines[at] = None
+        if it.opening < it.last:
+            indent = re.match(" *", lines[it.last])[0]
+            lines[it.opening] += f"\n{indent}    unreachable!()"
+    return "\n".join(it for it in lines if it is not None)
 
 
 def functions_of(crate):

@@ -1,14 +1,17 @@
-"""Wrong bodies of a crate, planted side by side in copies of it, where all other functions have holes for proofs."""
+"""Wrong bodies of a crate, planted side by side in copies of it, where all other functions have no bodies and one hole for their proofs."""
 import shutil
 from pathlib import Path
 
-from functions import functions_of
+from functions import functions_of, without_bodies
 
 PARTS = ("src", "specs", "proofs")
-HOLE = """use Rattle.{crate}.proofs.{path}.Statement.{{statement}}
+# (one hole for all: the checker prints the goal of each)
+HOLE = "pub assumed : ⊥\nassumed = ?\n"
+PROOF = """use Rattle.{crate}.proofs.Assumed.{{assumed}}
+use Rattle.{crate}.proofs.{path}.Statement.{{statement}}
 
 pub {name}_spec : {{M : Type 1}} → statement M
-{name}_spec = ?
+{name}_spec = absurd assumed
 """
 
 
@@ -88,15 +91,19 @@ class Copy:
         for part in PARTS:
             if (self.folder / part).is_dir():
                 shutil.copytree(self.folder / part, room / part)
-        for file, text in self.texts.items():
-            (room / file).write_text(text)
         # (the proof of a function that calls itself stands elsewhere: it is proved)
-        for path in {it.path for it in self.functions if not it.is_recursive} - {*self.tried()}:
+        taken = [it for it in self.functions if not it.is_recursive and it.path not in self.tried()]
+        for file, text in self.texts.items():
+            (room / file).write_text(without_bodies(text, [it for it in taken if it.file == file]))
+        for path in {it.path for it in taken}:
             folder = room / "proofs" / "/".join(path)
             shutil.rmtree(folder, ignore_errors=True)
             folder.mkdir(parents=True)
-            hole = HOLE.format(crate=self.crate, path=".".join(path), name=path[-1])
-            (folder / "Proof.antt").write_text(hole)
+            proof = PROOF.format(crate=self.crate, path=".".join(path), name=path[-1])
+            (folder / "Proof.antt").write_text(proof)
+        (room / "proofs" / "Assumed.antt").write_text(HOLE)
+        with (room / "proofs" / "Lib.antt").open("a") as file:
+            file.write("mod Assumed\n")
 
 
 def rounds_of(folder):
