@@ -3,9 +3,9 @@
 
 wrong_functions.py PROVED [CRATE..]     all of them, or those of some crates; PROVED is a folder where `rt ci` has proved the crates
 The wrong bodies of a crate are planted side by side in one copy of it, in a further one where they change the same function
-or more than bodies. What isn't changed there has a hole for its proof, so it is taken at its contract, which `rt ci` has
-proved; the changed functions are proved for real, and so is one more, which has to be proved. The copies of a crate are
-checked one after the other, and each takes over what the ones before it have checked and it has unchanged.
+or more than bodies. What isn't changed there has no body and a hole for its proof, so it is taken at its contract, which
+`rt ci` has proved; the changed functions are proved for real, and so is one more, which has to be proved. The copies of a
+crate are checked one after the other, and each takes over what the ones before it have checked and it has unchanged.
 The last line is 'N passed, M failed'; status 1 where one failed.
 """
 import os
