@@ -71,8 +71,14 @@ impl Books {
         requires { AreBehind changes.now scene.now self }
         ensures { IfOk result (AreOf scene.now) }
     {
-        let cells = flipped(self.alloc, changes)?;
-        let formers = formers(self.alloc, changes, scene.plans())?;
+        let Ok(cells) = flipped(self.alloc, changes) else {
+            drop(self);
+            return Err(OutOfMemory);
+        };
+        let Ok(formers) = formers(self.alloc, changes, scene.plans()) else {
+            drop(self);
+            return Err(OutOfMemory);
+        };
         let books = self.flip(&cells, scene)?;
         books.catch_up(&formers, scene)
     }

@@ -41,8 +41,14 @@ impl Books {
             fleet,
             prices,
         } = self;
-        let fleet = fleet.admit(agent, row.track(scene.mode()))?;
-        let prices = prices.put(agent, row.goal, &row.plan, scene.grid())?;
+        let Ok(fleet) = fleet.admit(agent, row.track(scene.mode())) else {
+            drop(prices);
+            return Err(OutOfMemory);
+        };
+        let Ok(prices) = prices.put(agent, row.goal, &row.plan, scene.grid()) else {
+            drop(fleet);
+            return Err(OutOfMemory);
+        };
         Ok(Books {
             alloc,
             fleet,
@@ -65,7 +71,10 @@ impl Books {
             fleet,
             mut prices,
         } = self;
-        let fleet = fleet.retract(agent, track_of(goal, plan, scene.mode()))?;
+        let Ok(fleet) = fleet.retract(agent, track_of(goal, plan, scene.mode())) else {
+            drop(prices);
+            return Err(OutOfMemory);
+        };
         prices.take(agent, goal);
         Ok(Books {
             alloc,
@@ -93,8 +102,14 @@ impl Books {
             prices,
         } = self;
         let mode = scene.mode();
-        let fleet = fleet.revise(agent, track_of(goal, plan, mode), row.track(mode))?;
-        let prices = reprice(prices, agent, goal, plan, row, scene.grid())?;
+        let Ok(fleet) = fleet.revise(agent, track_of(goal, plan, mode), row.track(mode)) else {
+            drop(prices);
+            return Err(OutOfMemory);
+        };
+        let Ok(prices) = reprice(prices, agent, goal, plan, row, scene.grid()) else {
+            drop(fleet);
+            return Err(OutOfMemory);
+        };
         Ok(Books {
             alloc,
             fleet,

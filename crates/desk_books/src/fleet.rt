@@ -53,8 +53,14 @@ impl FleetBooks {
         ensures touched { IfOk result (λ books. books.index.touched ≡ min (self.index.touched + records_apart nothing (route_of track.entry)) u64.MAX) }
     {
         let FleetBooks { index, conflicts } = self;
-        let index = index.put(agent, track)?;
-        let conflicts = conflicts.admit(agent, track, &index)?;
+        let Ok(index) = index.put(agent, track) else {
+            drop(conflicts);
+            return Err(OutOfMemory);
+        };
+        let Ok(conflicts) = conflicts.admit(agent, track, &index) else {
+            drop(index);
+            return Err(OutOfMemory);
+        };
         Ok(FleetBooks { index, conflicts })
     }
 
@@ -69,7 +75,10 @@ impl FleetBooks {
     {
         let FleetBooks { index, conflicts } = self;
         let index = index.take(agent, track);
-        let conflicts = conflicts.retract(agent, track, &index)?;
+        let Ok(conflicts) = conflicts.retract(agent, track, &index) else {
+            drop(index);
+            return Err(OutOfMemory);
+        };
         Ok(FleetBooks { index, conflicts })
     }
 
@@ -93,8 +102,14 @@ impl FleetBooks {
             return Ok(self);
         };
         let FleetBooks { index, conflicts } = self;
-        let index = index.swap(agent, old, new, since)?;
-        let conflicts = conflicts.revise(agent, old, new, since, &index)?;
+        let Ok(index) = index.swap(agent, old, new, since) else {
+            drop(conflicts);
+            return Err(OutOfMemory);
+        };
+        let Ok(conflicts) = conflicts.revise(agent, old, new, since, &index) else {
+            drop(index);
+            return Err(OutOfMemory);
+        };
         Ok(FleetBooks { index, conflicts })
     }
 

@@ -23,7 +23,10 @@ impl Books {
             fleet,
             prices,
         } = self;
-        let prices = prices.flip(cells, scene.grid())?;
+        let Ok(prices) = prices.flip(cells, scene.grid()) else {
+            drop(fleet);
+            return Err(OutOfMemory);
+        };
         Ok(Books {
             alloc,
             fleet,

@@ -76,8 +76,14 @@ impl PriceBooks {
         ensures stand { IfOk result (λ books. StandFor grid.now books.fields) }
     {
         let PriceBooks { costs, goals } = self;
-        let costs = costs.put(agent, goal, plan, grid)?;
-        let goals = goals.add(agent, goal, grid)?;
+        let Ok(costs) = costs.put(agent, goal, plan, grid) else {
+            drop(goals);
+            return Err(OutOfMemory);
+        };
+        let Ok(goals) = goals.add(agent, goal, grid) else {
+            drop(costs);
+            return Err(OutOfMemory);
+        };
         Ok(PriceBooks { costs, goals })
     }
 
@@ -113,7 +119,10 @@ impl PriceBooks {
         }
         let PriceBooks { mut costs, goals } = self;
         costs.aim(agent, goal);
-        let mut goals = goals.add(agent, goal, grid)?;
+        let Ok(mut goals) = goals.add(agent, goal, grid) else {
+            drop(costs);
+            return Err(OutOfMemory);
+        };
         goals.lose(agent, before);
         Ok(PriceBooks { costs, goals })
     }
@@ -135,7 +144,10 @@ impl PriceBooks {
         ensures fields { IfOk result (λ books. books.fields ≡ self.fields) }
     {
         let PriceBooks { costs, goals } = self;
-        let costs = costs.set_plan(agent, plan, grid)?;
+        let Ok(costs) = costs.set_plan(agent, plan, grid) else {
+            drop(goals);
+            return Err(OutOfMemory);
+        };
         Ok(PriceBooks { costs, goals })
     }
 
@@ -152,7 +164,10 @@ impl PriceBooks {
         ensures stand { IfOk result (λ books. StandFor grid.now books.fields) }
     {
         let PriceBooks { costs, mut goals } = self;
-        let costs = flip_all(costs, cells, grid)?;
+        let Ok(costs) = flip_all(costs, cells, grid) else {
+            drop(goals);
+            return Err(OutOfMemory);
+        };
         goals.repair(grid, cells);
         Ok(PriceBooks { costs, goals })
     }

@@ -12,6 +12,7 @@ use crate::stale::stale;
 use crate::stamps::{Stamps, with_entry};
 use desk_books::Books;
 use scene_edits::{Change, EditsFault, Scene};
+use std::mem::replace;
 
 impl Desk {
     /// Applies the edits of the commit, all or none, and answers the new version.
@@ -78,15 +79,16 @@ impl Desk {
         let size = self.scene.grid().size();
         match self.scene.apply_all(commit.edits()) {
             Ok(changes) => {
-                self.books = followed(self.books.take(), changes.items(), &self.scene);
+                let books = followed(self.books.take(), changes.items(), &self.scene);
+                drop(replace(&mut self.books, books));
             }
             Err(EditsFault::Faulty { index, why }) => {
                 return Err((Refusal::Faulty { index, why }, commit));
             }
             Err(EditsFault::OutOfMemory) => return Err((Refusal::OutOfMemory, commit)),
         }
-        let stamps = self.stamps.take();
-        self.stamps = with_entry(size, stamps, &self.journal, &commit);
+        let stamps = with_entry(size, self.stamps.take(), &self.journal, &commit);
+        drop(replace(&mut self.stamps, stamps));
         match self.journal.push(commit) {
             Ok(()) => Ok(self.journal.len() as u64),
             Err(_) => unreachable!(),

@@ -104,7 +104,7 @@ impl Desk {
         let version = self.version();
         let books = self.take_books()?;
         let report = report(&books, &self.scene);
-        self.books = Some(books);
+        self.put_back(books);
         match report {
             Ok(report) => Ok(Reading { version, report }),
             Err(refused) => Err(refused),
@@ -122,7 +122,7 @@ impl Desk {
     {
         let books = self.take_books()?;
         let answer = solves(&books, &self.scene, kinds);
-        self.books = Some(books);
+        self.put_back(books);
         Ok(answer)
     }
 
@@ -138,7 +138,7 @@ impl Desk {
         let goal = goal_asked(&self.scene, agent, cell)?;
         let books = self.take_books()?;
         let distance = books.distance(cell, goal);
-        self.books = Some(books);
+        self.put_back(books);
         Ok(distance)
     }
 
@@ -156,6 +156,14 @@ impl Desk {
     /// u64. A commit changes them by what it changes, so they are made anew only after want of memory.
     pub fn rebuilds(&self) -> u64 {
         self.builds.number()
+    }
+
+    // Puts the books of the scene back.
+    fn put_back(&mut self, books: Books)
+        requires { AreOf self.old.scene books }
+        ensures { self.new ≡ self.old }
+    {
+        drop(self.books.replace(books));
     }
 
     // The books of the scene: those that stand, and else new ones. None stand until they are put back.

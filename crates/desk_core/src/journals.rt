@@ -97,7 +97,10 @@ fn commit_all(mut desk: Desk, entries: Vec<Commit>) -> Result<Desk, ReplayFault>
         number += 1;
         match desk.commit(entry) {
             Ok(_) => {}
-            Err((why, _back)) => return Err(refused(number, why)),
+            Err((why, _back)) => {
+                drop(desk);
+                return Err(refused(number, why));
+            }
         }
     }
     Ok(desk)

@@ -26,7 +26,10 @@ impl SharedDesk {
     {
         match SharedDesk::open(alloc, desk, planners) {
             Ok(shared) => Ok(shared),
-            Err(_) => Err(OutOfMemory),
+            Err((_, desk)) => {
+                drop(desk);
+                Err(OutOfMemory)
+            }
         }
     }
 }

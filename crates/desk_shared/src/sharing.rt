@@ -268,7 +268,10 @@ impl SharedDesk {
         closed.free();
         match desk {
             Some(desk) if turn == 0 => Ok(desk),
-            _ => Err(PassLost),
+            lost => {
+                drop(lost);
+                Err(PassLost)
+            }
         }
     }
 }

@@ -44,7 +44,7 @@ pub(crate) fn free(top: &Rows, place: &mut Place, desk: Desk)
     ensures seat { IsSameSeat place.old place.new }
     ensures freed { place.new.me ≡ (posed place.old.me.0 Idle place.old.me.0.made, []) }
 {
-    top.exchange(place, 0, Some(desk));
+    drop(top.exchange(place, 0, Some(desk)));
     top.store::<Free>(place, 1, 0);
     top.wake_one(1);
 }
@@ -56,7 +56,7 @@ pub(crate) fn grow(top: &Rows, place: &mut Place, desk: Desk)
     ensures seat { IsSameSeat place.old place.new }
     ensures grown { place.new.me ≡ (posed place.old.me.0 Idle (since place.old.me.0.start desk), []) }
 {
-    top.exchange(place, 0, Some(desk));
+    drop(top.exchange(place, 0, Some(desk)));
     top.fetch_add::<Grow>(place, 0, 1);
     top.store::<Free>(place, 1, 0);
     top.wake_one(1);

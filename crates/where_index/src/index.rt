@@ -1,7 +1,11 @@
-ghost use Rattle.std.specs.Prelude.{◌≡◌, ℕ, ◌+◌, ◌^◌, ◌<◌, ◌≤◌, min, max, Some, None, IfOk};
+ghost use Rattle.std.specs.Prelude.{◌≡◌, ℕ, ◌+◌, ◌^◌, ◌<◌, ◌≤◌, min, max, Option, Some, None, OnOk, IfOk};
+ghost use Rattle.std.specs.Option.{unwrap_or};
+ghost use Rattle.plan_table.specs.declared.paths.TheConstants.{MOST_LAST_INDEX};
 ghost use Rattle.plan_table.specs.Path.{last_index};
-ghost use Rattle.plan_table.specs.Route.{Fleet, position, last_of, route_of};
-ghost use Rattle.where_index.specs.Records.{nothing, records_apart};
+ghost use Rattle.plan_table.specs.Route.{Route, Fleet, position, last_of, route_of};
+ghost use Rattle.where_index.specs.Records.{nothing, apart_below, records_apart};
+ghost use Rattle.where_index.specs.Changes.{HaveSameAt};
+ghost use Rattle.where_index.specs.Ends.{IsEndOfRoute};
 ghost use Rattle.where_index.specs.Index.{StandsFor, with_route};
 ghost use Rattle.where_index.specs.Asked.{CountsAgents};
 
@@ -58,15 +62,15 @@ impl WhereIndex {
         ensures horizon { IfOk result (λ index. index.horizon ≡ max self.horizon (last_index track.entry.plan.now)) }
         ensures touched { IfOk result (λ index. index.touched ≡ min (self.touched + records_apart nothing (route_of track.entry)) u64.MAX) }
     {
-        let last = track.plan.last();
+        let to = track.plan.last() + 1;
         let trail = Trail::of(&track);
-        let count = self
-            .records
-            .replace(agent, &Trail::none(), &trail, 0, last + 1)?;
-        self.ends.insert(agent, End::of(&track))?;
-        self.horizon = self.horizon.max(last);
-        self.touched = self.touched.saturating_add(u64::from(count));
-        Ok(self)
+        match self.replace(agent, &Trail::none(), &trail, End::of(&track), 0, to) {
+            Ok(()) => Ok(self),
+            Err(refused) => {
+                drop(self);
+                Err(refused)
+            }
+        }
     }
 
     /// Takes out an agent that is in it with that track.
@@ -107,20 +111,46 @@ impl WhereIndex {
         ensures horizon { IfOk result (λ index. index.horizon ≡ max self.horizon (last_index new.entry.plan.now)) }
         ensures touched { IfOk result (λ index. index.touched ≡ min (self.touched + records_apart (route_of old.entry) (route_of new.entry)) u64.MAX) }
     {
-        let last = new.plan.last();
-        let least = old.plan.last().min(last);
-        let most = old.plan.last().max(last);
+        let least = old.plan.last().min(new.plan.last());
+        let most = old.plan.last().max(new.plan.last());
         // The record one step before `since` can change its kind, and so can those at an end.
         let from = since.min(least).saturating_sub(1);
         let before = Trail::of(&old);
         let after = Trail::of(&new);
-        let count = self
-            .records
-            .replace(agent, &before, &after, from, most + 1)?;
-        self.ends.insert(agent, End::of(&new))?;
+        match self.replace(agent, &before, &after, End::of(&new), from, most + 1) {
+            Ok(()) => Ok(self),
+            Err(refused) => {
+                drop(self);
+                Err(refused)
+            }
+        }
+    }
+
+    // Gives an agent one trail in the place of another, from one time to another, and its end.
+    fn replace(
+        &mut self,
+        agent: Agent,
+        old: &Trail<'_>,
+        new: &Trail<'_>,
+        end: End,
+        from: u32,
+        to: u32,
+    ) -> Result<(), OutOfMemory>
+        requires range { from ≤ to }
+        requires bound { to ≤ MOST_LAST_INDEX + 1 }
+        requires same_before { (t : ℕ) → t < from → HaveSameAt old.now new.now t }
+        requires same_after { (t : ℕ) → to ≤ t → HaveSameAt old.now new.now t }
+        requires end { IsEndOfRoute end new.now }
+        ensures stands { OnOk result ((fleet : Fleet) (was : Option Route) → StandsFor self.old fleet → fleet agent ≡ was → old.now ≡ unwrap_or was nothing → StandsFor self.new (with_route fleet agent (Some new.now))) }
+        ensures horizon { OnOk result (self.new.horizon ≡ max self.old.horizon end.last) }
+        ensures touched { OnOk result (self.new.touched ≡ min (self.old.touched + apart_below old.now new.now to) u64.MAX) }
+    {
+        let last = end.last;
+        let count = self.records.replace(agent, old, new, from, to)?;
+        self.ends.insert(agent, end)?;
         self.horizon = self.horizon.max(last);
         self.touched = self.touched.saturating_add(u64::from(count));
-        Ok(self)
+        Ok(())
     }
 
     /// How many agents are in it.

@@ -13,7 +13,7 @@ returns c = λ rows keep has.
     let mode = c.args.scene.now.mode in
     let was = rw (← c.self.view_is) at keep in
     let route : route_of c.track.result ≡ route_in mode c.args.row.now = c.track.ensures ∙ ap (λ (m : Mode). route_in m c.args.row.now) c.mode.ensures in
-    let entered = c.in_ok-fleet.ensures.books (fleet_of mode rows) was.fleet (ap (option_map (route_in mode)) has) in
-    let fleet = subst (λ (r : Route). fleets.AreOf (with_route (fleet_of mode rows) c.args.agent (Some r)) c.in_ok-fleet.fleet) route entered in
-    let prices = rw c.grid.ensures.grid at (c.in_ok-prices.ensures.kept rows (rw c.grid.ensures.grid was.prices)) in
+    let entered = c.in-Ok.ensures.books (fleet_of mode rows) was.fleet (ap (option_map (route_in mode)) has) in
+    let fleet = subst (λ (r : Route). fleets.AreOf (with_route (fleet_of mode rows) c.args.agent (Some r)) c.in-Ok.fleet) route entered in
+    let prices = rw c.grid.ensures.grid at (c.in-Ok-put.ensures.kept rows (rw c.grid.ensures.grid was.prices)) in
     keep_with mode c.args.scene.now.grid rows c.args.agent (Some c.args.row.now) _ fleet prices

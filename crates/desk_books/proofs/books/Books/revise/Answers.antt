@@ -21,7 +21,7 @@ returns c = λ rows keep has.
     let was = rw (← c.self.view_is) at keep in
     let before : route_of c.track_of.result ≡ route_in mode old = c.track_of.ensures ∙ ap (λ (m : Mode). route_in m old) c.mode-mode.ensures in
     let route : route_of c.track.result ≡ route_in mode c.args.row.now = c.track.ensures ∙ ap (λ (m : Mode). route_in m c.args.row.now) c.mode-mode.ensures in
-    let revised = c.in_ok-fleet.ensures.books (fleet_of mode rows) was.fleet (ap (option_map (route_in mode)) has ∙ ap Some (sym before)) in
-    let fleet = subst (λ (r : Route). fleets.AreOf (with_route (fleet_of mode rows) c.args.agent (Some r)) c.in_ok-fleet.fleet) route revised in
-    let prices = rw c.grid.ensures.grid at (c.in_ok-prices.ensures rows (rw c.grid.ensures.grid was.prices) has) in
+    let revised = c.in-Ok.ensures.books (fleet_of mode rows) was.fleet (ap (option_map (route_in mode)) has ∙ ap Some (sym before)) in
+    let fleet = subst (λ (r : Route). fleets.AreOf (with_route (fleet_of mode rows) c.args.agent (Some r)) c.in-Ok.fleet) route revised in
+    let prices = rw c.grid.ensures.grid at (c.in-Ok-reprice.ensures rows (rw c.grid.ensures.grid was.prices) has) in
     keep_with mode c.args.scene.now.grid rows c.args.agent (Some c.args.row.now) _ fleet prices

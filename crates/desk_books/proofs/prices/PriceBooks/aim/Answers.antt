@@ -9,10 +9,10 @@ returns-then-eq-clause-kept c = λ fleet row are live same.
 
 pub returns-clause-kept : goal.returns-clause-kept
 returns-clause-kept c = λ fleet row are live same.
-    let goals = c.in_ok-goals.ensures in
-    books_moved c.args.grid.now fleet _ c.args.agent row c.args.before c.args.goal c.aim.new.self c.in_ok-goals.goals.aims c.lose.new.self.aims c.lose.new.self.fields
+    let goals = c.in-Ok.ensures in
+    books_moved c.args.grid.now fleet _ c.args.agent row c.args.before c.args.goal c.aim.new.self c.in-Ok.goals.aims c.lose.new.self.aims c.lose.new.self.fields
     (rw (← c.self.view_is) at are) live same (apart_if c.args.before c.args.goal c.if-eq.ensures)
     c.aim.ensures.row c.aim.ensures.by_agent (c.aim.ensures.stands c.args.grid.now) goals.aims c.lose.ensures.aims (c.lose.ensures.stand c.args.grid.now goals.stand) c.lose.ensures.held
 
 pub returns-clause-stand : goal.returns-clause-stand
-returns-clause-stand c = c.lose.ensures.stand c.args.grid.now c.in_ok-goals.ensures.stand
+returns-clause-stand c = c.lose.ensures.stand c.args.grid.now c.in-Ok.ensures.stand

@@ -3,6 +3,6 @@ use Rattle.desk_books.proofs.prices.PriceBooks.flip.Goals as goal
 
 pub returns-clause-kept : goal.returns-clause-kept
 returns-clause-kept c = λ old fleet are size covers.
-    let costs = c.in_ok-costs.ensures in
+    let costs = c.in-Ok.ensures in
     let were = rw (← c.self.view_is) at are in
-    books_flipped old c.args.grid.now fleet _ c.in_ok-costs.costs c.repair.new.self.aims c.repair.new.self.fields were costs.rows (costs.stands old size covers were.costs) c.repair.ensures.aims c.repair.ensures.stand c.repair.ensures.held
+    books_flipped old c.args.grid.now fleet _ c.in-Ok.costs c.repair.new.self.aims c.repair.new.self.fields were costs.rows (costs.stands old size covers were.costs) c.repair.ensures.aims c.repair.ensures.stand c.repair.ensures.held

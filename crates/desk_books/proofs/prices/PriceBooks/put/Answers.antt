@@ -9,7 +9,7 @@ add-requires-clause-stand c = subst (λ (books : Prices). StandFor c.args.grid.n
 
 pub returns-clause-kept : goal.returns-clause-kept
 returns-clause-kept c = λ fleet are.
-    let costs = c.in_ok-costs.ensures in
-    let goals = c.in_ok-goals.ensures in
-    books_put c.args.grid.now fleet _ c.args.agent (record { goal = c.args.goal; plan = c.args.plan.now }) c.in_ok-costs.costs c.in_ok-goals.goals.aims c.in_ok-goals.goals.fields
+    let costs = c.in-Ok.ensures in
+    let goals = c.in-Ok-add.ensures in
+    books_put c.args.grid.now fleet _ c.args.agent (record { goal = c.args.goal; plan = c.args.plan.now }) c.in-Ok.costs c.in-Ok-add.goals.aims c.in-Ok-add.goals.fields
     (rw (← c.self.view_is) at are) (rw (← c.self.view_is) at c.requires.absent) costs.row costs.by_agent costs.stands goals.aims goals.stand goals.held

@@ -3,6 +3,6 @@ use Rattle.desk_books.proofs.prices.PriceBooks.set_plan.Goals as goal
 
 pub returns-clause-kept : goal.returns-clause-kept
 returns-clause-kept c = λ fleet are at.
-    let costs = c.in_ok-costs.ensures in
-    books_planned c.args.grid.now fleet _ c.args.agent (record { goal = c.args.goal; plan = c.args.plan.now }) c.in_ok-costs.costs
+    let costs = c.in-Ok.ensures in
+    books_planned c.args.grid.now fleet _ c.args.agent (record { goal = c.args.goal; plan = c.args.plan.now }) c.in-Ok.costs
     (rw (← c.self.view_is) at are) at costs.row costs.by_agent costs.stands

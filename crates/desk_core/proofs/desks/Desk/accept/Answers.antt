@@ -9,8 +9,8 @@ use Rattle.desk_core.specs.Stamps.{AreOnMap, WhereTheyStand}
 use Rattle.desk_core.proofs.Stamping.{all_on, same_size_all, on_map_push}
 use Rattle.desk_core.proofs.desks.Desk.accept.Goals as goal
 
-pub with_entry-requires-clause-on_map : goal.with_entry-requires-clause-on_map
-with_entry-requires-clause-on_map c =
+pub with_entry-stamps-requires-clause-on_map : goal.with_entry-stamps-requires-clause-on_map
+with_entry-stamps-requires-clause-on_map c =
     let allowed : AreAllowed c.self.inside.scene c.args.commit.edits = rw c.edits.ensures.is at c.in-Ok.ensures.applied.0 in
     let size : c.size-size.result ≡ c.self.inside.scene.grid.size = c.size-size.ensures.is ∙ ap (λ (g : Chart). g.size) c.grid.ensures.grid in
     rw size (all_on c.self.inside.scene c.args.commit.edits allowed)
@@ -28,10 +28,10 @@ invariant_of-self-2 c =
     let most : c.self.inside.limit ≡ c.args.self.now.limit = ap (λ (d : DeskState). d.limit) c.self.view_is in
     let old = ap length before in
     let on : AreOnMap c.self.inside.scene.grid.size (c.self.inside.journal.items ++ c.args.commit ∷ []) = on_map_push c.self.inside.scene.grid.size c.self.inside.journal.items c.args.commit c.self.invariant.on_map (all_on c.self.inside.scene c.args.commit.edits allowed) in
-    let stand : WhereTheyStand c.apply_all.new.self.grid.size (c.self.inside.journal.items ++ c.args.commit ∷ []) c.with_entry.result = rw (← size, ← journal) c.with_entry.ensures in
+    let stand : WhereTheyStand c.apply_all.new.self.grid.size (c.self.inside.journal.items ++ c.args.commit ∷ []) c.with_entry-stamps.result = rw (← size, ← journal) c.with_entry-stamps.ensures in
     record {
       within = omega (arith, many, old, most, length_push c.self.inside.journal.items c.args.commit, c.requires.in_order.room);
       on_map = rw (same, items) on;
-      stamped = rw items stand;
-      booked = c.followed.ensures;
+      stamped = rw (items, c.replace-2.ensures.after) stand;
+      booked = rw c.replace.ensures.after c.followed-books.ensures;
     }
