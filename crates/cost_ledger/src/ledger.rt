@@ -1,19 +1,20 @@
-ghost use Rattle.std.specs.Prelude.{◌≡◌, ◌↔◌, [], None, Some, IfOk, IfSome, IfNone, IsTrue, length};
+ghost use Rattle.std.specs.Prelude.{◌≡◌, ◌↔◌, [], None, Some, OnOk, IfOk, IfSome, IfNone, IsTrue, length};
 ghost use Rattle.grid_cells.specs.Grid.{Chart};
 ghost use Rattle.plan_table.specs.Plans.{row_of, ChangesRow, IsByAgent};
 ghost use Rattle.mapf_rules.specs.Costs.{IsSumOfCosts, IsMakespan};
 ghost use Rattle.mapf_rules.specs.Visits.{AreVisits};
 ghost use Rattle.cost_ledger.specs.Ledger.{StandsFor, SameBut, SameAt, IsSettleOf, IsFinishedIn, IsUnfinishedCount};
 
-use crate::along::{add_spots, block, lose_spots, set_blocked, unblock};
+mod plans;
+
+use crate::along::{lose_spots, set_blocked, unblock};
 use crate::blocked::Blocked;
-use crate::replans::{follow_spots, follow_visits};
 use crate::rests::Rests;
 use crate::rows::{Rows, elsewhere};
 use crate::spots::Spots;
 use grid_cells::{Agent, Cell, Grid, List, OutOfMemory};
 use mapf_rules::{Visit, is_closed, is_finished, settle_time};
-use plan_table::{MOST_LAST_INDEX, Plan, Row};
+use plan_table::MOST_LAST_INDEX;
 use std::alloc::Global;
 use std::marker::Model;
 
@@ -57,40 +58,6 @@ impl CostLedger {
         }
     }
 
-    /// Puts in an agent that is not in it. The grid is the one that the ledger stands for.
-    ///
-    /// # Errors
-    ///
-    /// Want of memory. The ledger is gone then.
-    pub fn put(
-        mut self,
-        agent: Agent,
-        goal: Cell,
-        plan: &Plan,
-        grid: &Grid,
-    ) -> Result<CostLedger, OutOfMemory>
-        requires absent { row_of self.rows agent ≡ None }
-        ensures row { IfOk result (λ ledger. ChangesRow self.rows ledger.rows agent (Some (record { goal = goal; plan = plan.now }))) }
-        ensures by_agent { IfOk result (λ ledger. IsByAgent ledger.rows) }
-        ensures stands { IfOk result (λ ledger. StandsFor self grid.now → StandsFor ledger grid.now) }
-    {
-        let _number = agent.number();
-        let last = plan.last();
-        let row = Row {
-            goal,
-            plan: plan.copy()?,
-        };
-        let away = elsewhere(&row);
-        add_spots(&mut self.spots, agent, plan, 0)?;
-        block(&mut self.blocked, grid, agent, plan, 0)?;
-        self.rests.add(last, agent)?;
-        self.rows.insert(agent, row)?;
-        self.total += u64::from(last);
-        self.elsewhere += away;
-        let _count = self.blocked.count();
-        Ok(self)
-    }
-
     /// Takes the agent out, if it is in it.
     pub fn take(&mut self, agent: Agent)
         ensures row { ChangesRow self.old.rows self.new.rows agent None }
@@ -123,44 +90,6 @@ impl CostLedger {
         self.elsewhere = self.elsewhere - before + after;
     }
 
-    /// Gives the agent another plan, if it is in it. The grid is the one that the ledger stands for.
-    /// What is kept changes from the first time on at which the plans differ.
-    ///
-    /// # Errors
-    ///
-    /// Want of memory. The ledger is gone then.
-    pub fn set_plan(
-        mut self,
-        agent: Agent,
-        plan: &Plan,
-        grid: &Grid,
-    ) -> Result<CostLedger, OutOfMemory>
-        ensures row { IfOk result (λ ledger. IfSome (row_of self.rows agent) (λ row. ChangesRow self.rows ledger.rows agent (Some (record row { plan = plan.now })))) }
-        ensures by_agent { IfOk result (λ ledger. IsByAgent ledger.rows) }
-        ensures stands { IfOk result (λ ledger. StandsFor self grid.now → StandsFor ledger grid.now) }
-        ensures none { IfNone (row_of self.rows agent) (IfOk result (λ ledger. ledger ≡ self)) }
-    {
-        let Some(old) = self.rows.remove(agent) else {
-            return Ok(self);
-        };
-        let row = Row {
-            goal: old.goal,
-            plan: plan.copy()?,
-        };
-        let since = old.plan.same_front(plan);
-        follow_spots(&mut self.spots, agent, &old.plan, plan, since)?;
-        follow_visits(&mut self.blocked, grid, agent, &old.plan, plan, since)?;
-        let (before, after) = (old.plan.last(), plan.last());
-        let (stayed_away, stays_away) = (elsewhere(&old), elsewhere(&row));
-        self.rests.lose(before, agent);
-        self.rests.add(after, agent)?;
-        self.rows.insert(agent, row)?;
-        self.total = self.total - u64::from(before) + u64::from(after);
-        self.elsewhere = self.elsewhere - stayed_away + stays_away;
-        let _count = self.blocked.count();
-        Ok(self)
-    }
-
     /// Gives the cell the state that it has in the grid.
     ///
     /// # Errors
@@ -170,10 +99,24 @@ impl CostLedger {
         ensures rows { IfOk result (λ ledger. ledger.rows ≡ self.rows) }
         ensures stands { IfOk result (λ ledger. (old new : Chart) → StandsFor self old → SameBut old new cell → SameAt grid.now new cell → StandsFor ledger new) }
     {
+        match self.give_state(cell, grid) {
+            Ok(()) => Ok(self),
+            Err(refused) => {
+                drop(self);
+                Err(refused)
+            }
+        }
+    }
+
+    // Gives the cell the state that it has in the grid.
+    fn give_state(&mut self, cell: Cell, grid: &Grid) -> Result<(), OutOfMemory>
+        ensures rows { OnOk result (self.new.rows ≡ self.old.rows) }
+        ensures stands { OnOk result ((old new : Chart) → StandsFor self.old old → SameBut old new cell → SameAt grid.now new cell → StandsFor self.new new) }
+    {
         let spots = self.spots.through(self.alloc, cell, MOST_LAST_INDEX)?;
         set_blocked(&mut self.blocked, &spots, is_closed(grid, cell))?;
         let _count = self.blocked.count();
-        Ok(self)
+        Ok(())
     }
 
     /// The agent's settle time in steps, if it is in it.

@@ -1,15 +1,101 @@
 //! What is kept along an agent's path, as the path becomes another one.
-ghost use Rattle.std.specs.Prelude.{◌+◌, OnOk};
+ghost use Rattle.std.specs.Prelude.{◌≡◌, ◌+◌, ℕ, None, Some, OnOk, IfOk};
 ghost use Rattle.plan_table.specs.Path.{last_index};
-ghost use Rattle.cost_ledger.specs.Spots.{spot_of, IsSpotIn};
+ghost use Rattle.plan_table.specs.Plans.{row_of, ChangesRow, IsByAgent};
+ghost use Rattle.plan_table.specs.declared.plans.Row.{Row};
+ghost use Rattle.cost_ledger.specs.Kept.{ends_elsewhere, rest, sum_of_rows};
+ghost use Rattle.cost_ledger.specs.Spots.{spot_of, Gains, GainsAll, IsSpotIn};
 ghost use Rattle.mapf_rules.specs.VisitSearch.{IsVisitIn};
-ghost use Rattle.cost_ledger.specs.Replans.{Replaces, SameBelow};
+ghost use Rattle.cost_ledger.specs.Replans.{Replaces, SameBelow, planned_row};
 
 use crate::along::{add_spots, block, lose_spots, unblock};
 use crate::blocked::Blocked;
+use crate::rests::Rests;
+use crate::rows::{Rows, elsewhere};
 use crate::spots::Spots;
-use grid_cells::{Agent, Grid, OutOfMemory};
-use plan_table::Plan;
+use grid_cells::{Agent, Cell, Grid, OutOfMemory};
+use plan_table::{Plan, Row};
+
+/// An agent, its goal, and the plan that it gets on a grid.
+#[derive(Drop)]
+pub struct Planned<'a> {
+    pub agent: Agent,
+    pub goal: Cell,
+    pub plan: &'a Plan,
+    pub grid: &'a Grid,
+}
+
+/// Adds the row of an agent that has none, and what is kept along its path. Answers how many paths
+/// of the row end elsewhere than at its goal.
+pub fn add_row(
+    rows: &mut Rows,
+    spots: &mut Spots,
+    blocked: &mut Blocked,
+    rests: &mut Rests,
+    planned: &Planned<'_>,
+) -> Result<u32, OutOfMemory>
+    requires absent { row_of rows.old planned.now.agent ≡ None }
+    ensures spots { OnOk result (GainsAll spots.old spots.new (IsSpotIn planned.now.agent planned.now.plan.now 0 (last_index planned.now.plan.now + 1))) }
+    ensures blocked { OnOk result (GainsAll blocked.old blocked.new (IsVisitIn planned.now.grid.now planned.now.agent planned.now.plan.now 0 (last_index planned.now.plan.now + 1))) }
+    ensures rests { OnOk result (Gains rests.old rests.new (rest (last_index planned.now.plan.now) planned.now.agent)) }
+    ensures row { OnOk result (ChangesRow rows.old rows.new planned.now.agent (Some (planned_row planned.now))) }
+    ensures sums { OnOk result ((number : Row → ℕ) → sum_of_rows number rows.new ≡ sum_of_rows number rows.old + number (planned_row planned.now)) }
+    ensures by_agent { OnOk result (IsByAgent rows.new) }
+    ensures away { IfOk result (λ away. away ≡ ends_elsewhere (planned_row planned.now)) }
+{
+    let row = Row {
+        goal: planned.goal,
+        plan: planned.plan.copy()?,
+    };
+    let away = elsewhere(&row);
+    add_spots(spots, planned.agent, planned.plan, 0)?;
+    block(blocked, planned.grid, planned.agent, planned.plan, 0)?;
+    rests.add(planned.plan.last(), planned.agent)?;
+    rows.insert(planned.agent, row)?;
+    Ok(away)
+}
+
+/// Puts the row of an agent that gets a plan in, its old one being out of the rows, and what is kept
+/// along its path in the place of what is kept along the old one, from a time on below which the two
+/// are the same. Answers how many paths of the row end elsewhere than at its goal.
+pub fn follow_row(
+    rows: &mut Rows,
+    spots: &mut Spots,
+    blocked: &mut Blocked,
+    rests: &mut Rests,
+    old: &Plan,
+    planned: &Planned<'_>,
+    since: u32,
+) -> Result<u32, OutOfMemory>
+    requires absent { row_of rows.old planned.now.agent ≡ None }
+    requires same { SameBelow old.now planned.now.plan.now since }
+    ensures spots { OnOk result (Replaces spots.old spots.new (IsSpotIn planned.now.agent old.now since (last_index old.now + 1)) (IsSpotIn planned.now.agent planned.now.plan.now since (last_index planned.now.plan.now + 1))) }
+    ensures blocked { OnOk result (Replaces blocked.old blocked.new (λ visit. IsSpotIn planned.now.agent old.now since (last_index old.now + 1) (spot_of visit)) (IsVisitIn planned.now.grid.now planned.now.agent planned.now.plan.now since (last_index planned.now.plan.now + 1))) }
+    ensures rests { OnOk result (Replaces rests.old rests.new (λ r. r ≡ rest (last_index old.now) planned.now.agent) (λ r. r ≡ rest (last_index planned.now.plan.now) planned.now.agent)) }
+    ensures row { OnOk result (ChangesRow rows.old rows.new planned.now.agent (Some (planned_row planned.now))) }
+    ensures sums { OnOk result ((number : Row → ℕ) → sum_of_rows number rows.new ≡ sum_of_rows number rows.old + number (planned_row planned.now)) }
+    ensures by_agent { OnOk result (IsByAgent rows.new) }
+    ensures away { IfOk result (λ away. away ≡ ends_elsewhere (planned_row planned.now)) }
+{
+    let row = Row {
+        goal: planned.goal,
+        plan: planned.plan.copy()?,
+    };
+    let away = elsewhere(&row);
+    follow_spots(spots, planned.agent, old, planned.plan, since)?;
+    follow_visits(
+        blocked,
+        planned.grid,
+        planned.agent,
+        old,
+        planned.plan,
+        since,
+    )?;
+    rests.lose(old.last(), planned.agent);
+    rests.add(planned.plan.last(), planned.agent)?;
+    rows.insert(planned.agent, row)?;
+    Ok(away)
+}
 
 /// Puts the spots of the agent's new path in the place of those of its old one, from a time on below
 /// which the two are the same.

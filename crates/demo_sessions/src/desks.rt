@@ -1,11 +1,14 @@
 //! A session over a desk, and what can be said of the desk afterwards.
+ghost use Rattle.grid_cells.specs.Size.{Holds};
+
 use bstr::ByteSlice;
 use desk_audit::{NoGate, audit};
 use desk_core::{Desk, MOST_ENTRIES, Scene};
 use desk_report::{Report, Spout, Tap, plain_report};
 use desk_session::{Bounds, Counter, serve, write_journal};
 use goal_fields::PlainField;
-use grid_cells::Step;
+use grid_cells::{Grid, Step};
+use plan_table::Row;
 use std::alloc::Global;
 use std::sync::Wait;
 use std::thread::Threads;
@@ -35,10 +38,17 @@ fn answers<C: Counter>(alloc: Global, counter: &mut C, session: &[u8]) -> Option
 
 /// Serves a session that is heard to its end.
 pub fn hear<C: Counter>(alloc: Global, counter: &mut C, session: &[u8]) -> Option<Told> {
-    Some(Told {
-        answers: answers(alloc, counter, session)?,
-        report: answers(alloc, counter, b"report\n")?,
-    })
+    let heard = answers(alloc, counter, session)?;
+    match answers(alloc, counter, b"report\n") {
+        Some(report) => Some(Told {
+            answers: heard,
+            report,
+        }),
+        None => {
+            drop(heard);
+            None
+        }
+    }
 }
 
 /// The journal's text.
@@ -54,7 +64,17 @@ pub fn journal_text(alloc: Global, desk: &Desk) -> Option<Vec<u8>> {
     }
 }
 
-// The lower bounds of the agents, in their order, by breadth-first search.
+// The lower bound of an agent of that row, by breadth-first search.
+fn bound(alloc: Global, grid: &Grid, row: &Row) -> Option<Option<u32>>
+    requires { Holds grid.now.size row.now.goal }
+{
+    let field = PlainField::new(alloc, grid, row.goal).ok()?;
+    let bound = field.distance(row.plan.at(Step::new(0)));
+    drop(field);
+    Some(bound)
+}
+
+// The lower bounds of the agents, in their order.
 fn bounds(alloc: Global, scene: &Scene) -> Option<Vec<Option<u32>>> {
     let plans = scene.plans();
     let grid = scene.grid();
@@ -62,8 +82,7 @@ fn bounds(alloc: Global, scene: &Scene) -> Option<Vec<Option<u32>>> {
     for rank in 0..plans.count() {
         let row = plans.entry_at(rank).1;
         if grid.size().holds(row.goal) {
-            let field = PlainField::new(alloc, grid, row.goal).ok()?;
-            bounds.push(field.distance(row.plan.at(Step::new(0)))).ok()?;
+            bounds.push(bound(alloc, grid, row)?).ok()?;
         }
     }
     Some(bounds)
@@ -74,8 +93,14 @@ fn is_plain_report(alloc: Global, scene: &Scene, report: &Report) -> bool {
         return false;
     };
     let (grid, plans) = (scene.grid(), scene.plans());
-    match plain_report(alloc, grid, scene.mode(), plans, bounds.as_slice()) {
-        Ok(plain) => plain == *report,
+    let plain = plain_report(alloc, grid, scene.mode(), plans, bounds.as_slice());
+    drop(bounds);
+    match plain {
+        Ok(plain) => {
+            let same = plain == *report;
+            drop(plain);
+            same
+        }
         Err(_) => false,
     }
 }
@@ -88,7 +113,11 @@ fn is_audited<R: Threads + Wait>(
     report: &Report,
 ) -> bool {
     match audit(rt, alloc, scene, workers, &NoGate) {
-        Ok(audited) => audited == *report,
+        Ok(audited) => {
+            let same = audited == *report;
+            drop(audited);
+            same
+        }
         Err(_) => false,
     }
 }
@@ -103,5 +132,6 @@ pub fn is_from_scratch<R: Threads + Wait>(rt: &R, alloc: Global, desk: &mut Desk
     for workers in [1, 2, 3, 64] {
         same = same && is_audited(rt, alloc, scene, workers, &reading.report);
     }
+    drop(reading);
     same
 }

@@ -62,13 +62,29 @@ impl<'a> Example<'a> {
     /// The texts of all sections under that key.
     pub fn texts(&self, alloc: Global, key: &[u8]) -> Result<Vec<Vec<u8>>, AllocError> {
         let mut texts = Vec::new(alloc);
+        match self.put_texts(alloc, key, &mut texts) {
+            Ok(()) => Ok(texts),
+            Err(refused) => {
+                drop(texts);
+                Err(refused)
+            }
+        }
+    }
+
+    // Adds these texts to others.
+    fn put_texts(
+        &self,
+        alloc: Global,
+        key: &[u8],
+        texts: &mut Vec<Vec<u8>>,
+    ) -> Result<(), AllocError> {
         for text in self.text.split_str(b"\n-- ") {
             let section = Section::new(text);
             if section.key == key {
-                texts.push(written_out(alloc, section.lines)?)?;
+                put_text(alloc, texts, section.lines)?;
             }
         }
-        Ok(texts)
+        Ok(())
     }
 
     /// The map's text, of which an example may give the rows alone.
@@ -106,6 +122,12 @@ impl<'a> Example<'a> {
     pub fn agents(&self) -> u32 {
         self.number(b"agents").unwrap_or(0)
     }
+}
+
+// Adds the text that the lines stand for.
+fn put_text(alloc: Global, texts: &mut Vec<Vec<u8>>, lines: &[u8]) -> Result<(), AllocError> {
+    texts.push(written_out(alloc, lines)?)?;
+    Ok(())
 }
 
 // The text of the map with those rows.

@@ -1,58 +1,18 @@
 //! A session at every level: `serve_with_map`, a desk, a window, a drill, and what replays its journal.
+ghost use Rattle.desk_shared.specs.Passes.{Owns};
+
 use crate::desks::{BOUNDS, Told, hear, is_from_scratch, journal_text};
 use crate::examples::Example;
-use crate::runs::{Opening, audited, drilled};
-use bench_reader::read_map;
+use crate::runs::{audited, drilled};
+use crate::worked::{Worked, desk, read, session_alone};
 use bstr::ByteSlice;
-use desk_core::{Desk, Limit, MOST_ENTRIES, Scene};
+use desk_core::{Desk, MOST_ENTRIES};
 use desk_report::{Spout, Tap};
 use desk_session::{Window, serve_with_map};
-use desk_shared::SharedDesk;
-use plan_table::Mode;
-use std::alloc::{AllocError, Global};
+use desk_shared::{Pass, SharedDesk};
+use std::alloc::Global;
 use std::sync::Wait;
 use std::thread::Threads;
-
-#[derive(Drop)]
-struct Worked {
-    map: Vec<u8>,
-    session: Vec<u8>,
-    answers: Vec<u8>,
-    journal: Option<Vec<u8>>,
-    mode: Mode,
-    limit: Limit,
-}
-
-impl Worked {
-    fn opening(&self) -> Opening<'_> {
-        Opening {
-            map: Some(self.map.as_slice()),
-            scen: None,
-            agents: 0,
-            mode: self.mode,
-        }
-    }
-}
-
-// The example, if it has what a session needs.
-fn read(alloc: Global, example: Example<'_>) -> Result<Option<Worked>, AllocError> {
-    let map = example.map(alloc)?;
-    let session = example.text(alloc, b"session")?;
-    let answers = example.text(alloc, b"answers")?;
-    let journal = example.text(alloc, b"journal")?;
-    let mode = example.mode();
-    Ok(match (map, session, answers, example.limit()) {
-        (Some(map), Some(session), Some(answers), Some(limit)) => Some(Worked {
-            map,
-            session,
-            answers,
-            journal,
-            mode,
-            limit,
-        }),
-        _ => None,
-    })
-}
 
 // What is written of the session where its map stands before it.
 fn started(alloc: Global, worked: &Worked) -> Option<Vec<u8>> {
@@ -69,25 +29,40 @@ fn started(alloc: Global, worked: &Worked) -> Option<Vec<u8>> {
     }
 }
 
-fn desk(alloc: Global, worked: &Worked) -> Option<Desk> {
-    match read_map(alloc, worked.map.as_slice()) {
-        Ok(grid) => Some(Desk::open(
-            alloc,
-            Scene::bare(alloc, grid).with_mode(worked.mode),
-            worked.limit,
-        )),
-        Err(_) => None,
-    }
+// What is told of the session over a window of that shared desk.
+fn seen<R: Wait>(
+    rt: &R,
+    alloc: Global,
+    worked: &Worked,
+    shared: &SharedDesk,
+    pass: Pass,
+) -> Option<Told>
+    requires { Owns shared.now pass }
+{
+    let mut window = Window::new(rt, shared, pass);
+    let told = hear(alloc, &mut window, worked.session.as_slice());
+    drop(window);
+    told
 }
 
-// What is told of the session over a window of a shared desk.
-fn seen<R: Wait>(rt: &R, alloc: Global, worked: &Worked) -> Option<Told> {
-    let desk = desk(alloc, worked)?;
-    let Ok((shared, pass)) = SharedDesk::open(alloc, desk, 1) else {
-        return None;
+// Whether that is told of the session over a window of a shared desk.
+fn is_seen<R: Wait>(rt: &R, alloc: Global, worked: &Worked, told: &Told) -> bool {
+    let Some(desk) = desk(alloc, worked) else {
+        return false;
     };
-    let mut window = Window::new(rt, &shared, pass);
-    hear(alloc, &mut window, worked.session.as_slice())
+    match SharedDesk::open(alloc, desk, 1) {
+        Ok((shared, pass)) => {
+            let seen = seen(rt, alloc, worked, &shared, pass);
+            drop(shared);
+            let same = matches!(&seen, Some(seen) if *seen == *told);
+            drop(seen);
+            same
+        }
+        Err(refused) => {
+            drop(refused);
+            false
+        }
+    }
 }
 
 // Whether the desk's journal is the one given, if one is, and gives that report where it is replayed
@@ -130,14 +105,15 @@ fn is_drilled<R: Threads + Wait + Sync>(
     if worked.limit.entries() < MOST_ENTRIES {
         return true;
     }
-    let Ok(script) = worked.session.clone() else {
+    let Some(scripts) = session_alone(alloc, worked) else {
         return false;
     };
-    let mut scripts = Vec::new(alloc);
-    if scripts.push(script).is_err() {
-        return false;
-    }
-    drilled(rt, alloc, worked.opening(), scripts).ok() == drill_text(alloc, report)
+    let printed = drilled(rt, alloc, worked.opening(), scripts).ok();
+    let wanted = drill_text(alloc, report);
+    let same = printed == wanted;
+    drop(printed);
+    drop(wanted);
+    same
 }
 
 // What was otherwise first.
@@ -150,23 +126,33 @@ fn first_otherwise(levels: [(bool, &'static str); 6]) -> &'static str {
     "as written"
 }
 
-fn how<R: Threads + Wait + Sync>(rt: &R, alloc: Global, worked: &Worked) -> &'static str {
-    let Some(mut desk) = desk(alloc, worked) else {
-        return "NO DESK";
-    };
-    let Some(told) = hear(alloc, &mut desk, worked.session.as_slice()) else {
-        return "NO END";
-    };
-    let Some(journal) = journal_text(alloc, &desk) else {
+// Whether the session is answered as written where its map stands before it.
+fn is_begun(alloc: Global, worked: &Worked) -> bool {
+    let text = started(alloc, worked);
+    let same = matches!(&text, Some(text) if *text == worked.answers);
+    drop(text);
+    same
+}
+
+// How that desk has heard the session, of which that is told, and how it goes at the other levels.
+fn how_heard<R: Threads + Wait + Sync>(
+    rt: &R,
+    alloc: Global,
+    worked: &Worked,
+    desk: &mut Desk,
+    told: &Told,
+) -> &'static str {
+    let Some(journal) = journal_text(alloc, desk) else {
         return "NO JOURNAL";
     };
     let report = told.report.as_slice();
-    let from_scratch = is_from_scratch(rt, alloc, &mut desk);
+    let from_scratch = is_from_scratch(rt, alloc, desk);
     let replayed = is_replayed(rt, alloc, worked, journal.as_slice(), report);
     let drilled = is_drilled(rt, alloc, worked, report);
-    let begun = started(alloc, worked).is_some_and(|text: Vec<u8>| text == worked.answers);
+    let begun = is_begun(alloc, worked);
     let answered = told.answers == worked.answers;
-    let seen = seen(rt, alloc, worked) == Some(told);
+    let seen = is_seen(rt, alloc, worked, told);
+    drop(journal);
     first_otherwise([
         (begun, "OTHER ANSWERS after a map"),
         (answered, "OTHER ANSWERS of a desk"),
@@ -177,13 +163,32 @@ fn how<R: Threads + Wait + Sync>(rt: &R, alloc: Global, worked: &Worked) -> &'st
     ])
 }
 
+// How the session goes at each level, the desk's first.
+fn how<R: Threads + Wait + Sync>(rt: &R, alloc: Global, worked: &Worked) -> &'static str {
+    let Some(mut desk) = desk(alloc, worked) else {
+        return "NO DESK";
+    };
+    let how = match hear(alloc, &mut desk, worked.session.as_slice()) {
+        Some(told) => {
+            let how = how_heard(rt, alloc, worked, &mut desk, &told);
+            drop(told);
+            how
+        }
+        None => "NO END",
+    };
+    drop(desk);
+    how
+}
+
 /// Whether a session was answered as written at each level, and was reported alike.
 pub fn how_it_went<R: AllocGlobal + Threads + Wait + Sync>(
     rt: &R,
     example: Example<'_>,
 ) -> anyhow::Result<&'static str> {
-    match read(rt.alloc(), example)? {
-        Some(worked) => Ok(how(rt, rt.alloc(), &worked)),
-        None => Ok("NO SESSION"),
-    }
+    let Some(worked) = read(rt.alloc(), example)? else {
+        return Ok("NO SESSION");
+    };
+    let how = how(rt, rt.alloc(), &worked);
+    drop(worked);
+    Ok(how)
 }

@@ -5,9 +5,11 @@
 mod desks;
 mod examples;
 mod levels;
+mod outcomes;
 mod runs;
 mod texts;
 mod upgrades;
+mod worked;
 
 use bstr::ByteSlice;
 use examples::Example;
@@ -33,26 +35,35 @@ fn tell<R: AllocGlobal + Print + Threads + Wait + Sync>(
     let how = if example.section(b"session").is_some() {
         levels::how_it_went(rt, example)?
     } else {
-        runs::how_it_went(rt, example)?
+        outcomes::how_it_went(rt, example)?
     };
     let name = example.name().to_str()?;
     println!(rt; "{name}: {how}")?;
     Ok(())
 }
 
-// The first piece of a file says how the others are to be read.
-fn tell_all<R: AllocGlobal + Files + Print + Threads + Wait + Sync>(
+// The first piece of a text says how the others are to be read.
+fn tell_pieces<R: AllocGlobal + Print + Threads + Wait + Sync>(
     rt: &R,
-    file: &str,
+    text: &[u8],
 ) -> anyhow::Result<()> {
-    let text = fs::read(rt, file)?;
-    let text = text.as_slice();
     let mut pieces = text.split_str(b"\n== ");
     let _remarks = pieces.next();
     for piece in pieces {
         tell(rt, Example::new(piece))?;
     }
     Ok(())
+}
+
+// Tells the pieces of a file.
+fn tell_all<R: AllocGlobal + Files + Print + Threads + Wait + Sync>(
+    rt: &R,
+    file: &str,
+) -> anyhow::Result<()> {
+    let text = fs::read(rt, file)?;
+    let told = tell_pieces(rt, text.as_slice());
+    drop(text);
+    told
 }
 
 fn main(rt: HostRuntime) -> anyhow::Result<()> {

@@ -1,6 +1,4 @@
 //! Runs of what the program's words do.
-use crate::examples::Example;
-use crate::upgrades::is_upgraded;
 use desk_audit::NoGate;
 use desk_core::Limit;
 use desk_report::{Spout, Tap};
@@ -89,9 +87,9 @@ pub fn drilled<R: Threads + Wait + Sync>(
     printed(alloc, writer.into_inner(), fault)
 }
 
-// What `run_serve` prints, and how many lines the session had, if it came to its end. Where there is
-// no map, it stands first in the input.
-fn served(
+/// What `run_serve` prints, and how many lines the session had, if it came to its end. Where there is
+/// no map, it stands first in the input.
+pub fn served(
     alloc: Global,
     opening: Opening<'_>,
     limit: Limit,
@@ -115,73 +113,4 @@ fn served(
     };
     let text = printed(alloc, writer.into_inner(), fault)?;
     Ok((text, lines))
-}
-
-// Whether audits by any number of workers print that text.
-fn is_audited<R: Threads + Wait>(
-    rt: &R,
-    alloc: Global,
-    opening: Opening<'_>,
-    journal: Option<&[u8]>,
-    text: &[u8],
-) -> bool {
-    let mut same = true;
-    for workers in [1, 2, 3, 4, 64] {
-        same = same
-            && match audited(rt, alloc, opening, journal, workers) {
-                Ok(printed) => printed.as_slice() == text,
-                Err(_) => false,
-            };
-    }
-    same
-}
-
-// Whether the example's run over that map and scenario prints that text.
-fn is_printed<R: Threads + Wait + Sync>(
-    rt: &R,
-    alloc: Global,
-    example: Example<'_>,
-    opening: Opening<'_>,
-    text: &[u8],
-) -> Result<bool, AllocError> {
-    if let (Some(input), Some(limit)) = (example.text(alloc, b"input")?, example.limit()) {
-        let (printed, lines) = served(alloc, opening, limit, input.as_slice())?;
-        let counted = example
-            .number(b"lines")
-            .is_none_or(|wanted: u32| lines == Some(wanted));
-        return Ok(counted && printed.as_slice() == text);
-    }
-    if let Some(journal) = example.text(alloc, b"upgrade")? {
-        return is_upgraded(alloc, journal.as_slice(), text);
-    }
-    if example.section(b"script").is_some() {
-        let scripts = example.texts(alloc, b"script")?;
-        return Ok(drilled(rt, alloc, opening, scripts)?.as_slice() == text);
-    }
-    let journal = example.text(alloc, b"journal")?;
-    Ok(is_audited(rt, alloc, opening, journal.as_deref(), text))
-}
-
-/// Whether a run prints what is written.
-pub fn how_it_went<R: AllocGlobal + Threads + Wait + Sync>(
-    rt: &R,
-    example: Example<'_>,
-) -> anyhow::Result<&'static str> {
-    let alloc = rt.alloc();
-    let map = example.map(alloc)?;
-    let scen = example.text(alloc, b"scenario")?;
-    let opening = Opening {
-        map: map.as_deref(),
-        scen: scen.as_deref(),
-        agents: example.agents(),
-        mode: example.mode(),
-    };
-    let Some(text) = example.text(alloc, b"printed")? else {
-        return Ok("NOTHING TO PRINT");
-    };
-    if is_printed(rt, alloc, example, opening, text.as_slice())? {
-        Ok("as written")
-    } else {
-        Ok("PRINTED OTHERWISE")
-    }
 }

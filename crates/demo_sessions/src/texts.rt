@@ -32,15 +32,20 @@ fn put_line(alloc: Global, text: &mut Vec<u8>, line: &[u8]) -> Result<(), AllocE
 
 fn put_parts(alloc: Global, text: &mut Vec<u8>, line: &[u8]) -> Result<(), AllocError> {
     for part in line.split_str(b"{") {
-        match part.split_once_str(b"}") {
-            Some((repeated, behind)) => {
-                put_repeated(alloc, text, repeated)?;
-                put_part(alloc, text, behind)?;
-            }
-            None => put_part(alloc, text, part)?,
-        }
+        put_opened(alloc, text, part)?;
     }
     Ok(())
+}
+
+// What stands behind a `{`, or at the line's beginning.
+fn put_opened(alloc: Global, text: &mut Vec<u8>, part: &[u8]) -> Result<(), AllocError> {
+    match part.split_once_str(b"}") {
+        Some((repeated, behind)) => {
+            put_repeated(alloc, text, repeated)?;
+            put_part(alloc, text, behind)
+        }
+        None => put_part(alloc, text, part),
+    }
 }
 
 fn put_repeated(alloc: Global, text: &mut Vec<u8>, repeated: &[u8]) -> Result<(), AllocError> {

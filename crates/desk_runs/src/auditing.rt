@@ -56,7 +56,9 @@ pub fn run_audit<T: Threads + Wait, W: Sink>(
         Ok(report) => report,
         Err(OutOfMemory) => return Err(RunFault::OutOfMemory),
     };
-    match put_report(writer, version, &report) {
+    let put = put_report(writer, version, &report);
+    drop(report);
+    match put {
         Ok(()) => Ok(()),
         Err(WriteFailed) => Err(RunFault::WriteFailed),
     }

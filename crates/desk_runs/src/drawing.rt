@@ -35,7 +35,9 @@ fn draw_scene<T: Threads + Wait, W: Sink>(
         Ok(report) => report,
         Err(OutOfMemory) => return Err(CheckFault::OutOfMemory),
     };
-    match write_picture(writer, scene, &report, frame) {
+    let put = write_picture(writer, scene, &report, frame);
+    drop(report);
+    match put {
         Ok(()) => Ok(()),
         Err(WriteFailed) => Err(CheckFault::WriteFailed),
     }

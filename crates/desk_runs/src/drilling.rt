@@ -1,25 +1,19 @@
-ghost use Rattle.std.specs.Prelude.{◌≡◌, ◌⊎◌, ◌↔◌, ◌≤◌, ◌||◌, length, IfErr, IfOk, IsTrue, option_map};
-ghost use Rattle.desk_core.specs.State.{opening};
-ghost use Rattle.desk_report.specs.Report.{IsReportOf};
-ghost use Rattle.desk_shared.specs.Calls.{IsFirst};
-ghost use Rattle.desk_shared.specs.Passes.{Owns};
+ghost use Rattle.std.specs.Prelude.{◌≡◌, ◌↔◌, ◌≤◌, ◌||◌, length, IfErr, IfOk, IsTrue, option_map};
 ghost use Rattle.desk_runs.specs.DrillFaults.{FailsDrill, FailsUnwritten};
-ghost use Rattle.desk_runs.specs.Drills.{ComesTo, Drills, IsEnd, texts_of};
+ghost use Rattle.desk_runs.specs.Drills.{ComesTo, Drills, texts_of};
 ghost use Rattle.desk_runs.specs.Faults.{is_write_fault};
 
-use crate::auditing::report_of;
 use crate::faults::RunFault;
 use crate::hearing::{AtGate, Hearing};
 use crate::reporting::put_drill;
 use crate::scenes::scene_of;
 use crate::scripts::serve_scripts;
+use crate::sharing::{end_sharing, last_report, share};
 use desk_audit::Gate;
-use desk_core::{Desk, Limit, MOST_ENTRIES, Reading};
+use desk_core::Reading;
 use desk_report::{Report, Sink, WriteFailed};
-use desk_shared::{Pass, PassLost, SharedDesk};
 use grid_cells::OutOfMemory;
 use plan_table::Mode;
-use scene_edits::Scene;
 use std::alloc::Global;
 use std::sync::Wait;
 use std::thread::Threads;
@@ -88,16 +82,19 @@ pub fn hear_drill<R: Threads + Wait + Sync, H: Hearing + Sync, W: Sink>(
     ensures broken { W.broken writer.new ≡ (W.broken writer.old || is_write_fault result) }
 {
     if scripts.len() > MOST_SCRIPTS {
+        drop(scripts);
         return Err(RunFault::TooManyScripts);
     }
-    let ended = drilled(
-        rt, alloc, map, scen, agents, mode, workers, scripts, hearing,
-    );
+    let texts = scripts.as_slice();
+    let ended = drilled(rt, alloc, map, scen, agents, mode, workers, texts, hearing);
+    drop(scripts);
     let (reading, same) = match ended {
         Ok(end) => end,
         Err(fault) => return Err(fault),
     };
-    match put_drill(writer, &reading, same) {
+    let put = put_drill(writer, &reading, same);
+    drop(reading);
+    match put {
         Ok(()) => Ok(same),
         Err(WriteFailed) => Err(RunFault::WriteFailed),
     }
@@ -112,13 +109,13 @@ fn drilled<R: Threads + Wait + Sync, H: Hearing + Sync>(
     agents: u32,
     mode: Mode,
     workers: u32,
-    scripts: Vec<Vec<u8>>,
+    scripts: &[Vec<u8>],
     hearing: &H,
 ) -> Result<(Reading, bool), RunFault>
     requires workers { (1 ≤ workers) × (workers ≤ 64) }
-    requires few { length scripts.items ≤ MOST_SCRIPTS }
-    ensures drilled { IfOk result (λ end. ComesTo map.now (option_map (λ text. text.now) scen.entry) agents mode (texts_of scripts.items) end.0 end.1) }
-    ensures refused { IfErr result (FailsUnwritten map.now (option_map (λ text. text.now) scen.entry) agents mode (texts_of scripts.items)) }
+    requires few { length scripts.now ≤ MOST_SCRIPTS }
+    ensures drilled { IfOk result (λ end. ComesTo map.now (option_map (λ text. text.now) scen.entry) agents mode (texts_of scripts.now) end.0 end.1) }
+    ensures refused { IfErr result (FailsUnwritten map.now (option_map (λ text. text.now) scen.entry) agents mode (texts_of scripts.now)) }
 {
     let scene = match scene_of(alloc, map, scen, agents, mode) {
         Ok(scene) => scene,
@@ -128,10 +125,14 @@ fn drilled<R: Threads + Wait + Sync, H: Hearing + Sync>(
         Ok(shared) => shared,
         Err(fault) => return Err(fault),
     };
-    let (first, ended) = serve_scripts(rt, alloc, &shared, first, scripts.as_slice(), hearing);
+    let (first, ended) = serve_scripts(rt, alloc, &shared, first, scripts, hearing);
     match ended {
         Ok(()) => {}
-        Err(fault) => return Err(fault),
+        Err(fault) => {
+            drop(first);
+            drop(shared);
+            return Err(fault);
+        }
     }
     let (reading, desk) = match end_sharing(rt, shared, first) {
         Ok(ended) => ended,
@@ -139,61 +140,14 @@ fn drilled<R: Threads + Wait + Sync, H: Hearing + Sync>(
     };
     let audited = match last_report(rt, alloc, desk, workers) {
         Ok(report) => report,
-        Err(OutOfMemory) => return Err(RunFault::OutOfMemory),
+        Err(OutOfMemory) => {
+            drop(reading);
+            return Err(RunFault::OutOfMemory);
+        }
     };
     let same = is_same(&reading.report, &audited);
+    drop(audited);
     Ok((reading, same))
-}
-
-// The desk of the scene, shared by so many planners, and the first pass.
-fn share(alloc: Global, scene: Scene, planners: u32) -> Result<(SharedDesk, Pass), RunFault>
-    requires { (1 ≤ planners) × (planners ≤ 256) }
-    ensures owned { IfOk result (λ shared. Owns shared.0 shared.1) }
-    ensures first { IfOk result (λ shared. IsFirst (opening scene MOST_ENTRIES) planners shared.1.known) }
-    ensures refused { IfErr result (λ fault. fault ≡ RunFault.OutOfMemory) }
-{
-    let Some(limit) = Limit::new(MOST_ENTRIES) else {
-        unreachable!()
-    };
-    match SharedDesk::share(alloc, Desk::open(alloc, scene, limit), planners) {
-        Ok(shared) => Ok(shared),
-        Err(OutOfMemory) => Err(RunFault::OutOfMemory),
-    }
-}
-
-// A last reading by the first pass, and the desk, which is shared no more.
-fn end_sharing<R: Wait>(
-    rt: &R,
-    shared: SharedDesk,
-    mut first: Pass,
-) -> Result<(Reading, Desk), RunFault>
-    requires { Owns shared first }
-    ensures ended { IfOk result (λ end. IsEnd shared first end.0 end.1) }
-    ensures refused { IfErr result (λ fault. (fault ≡ RunFault.OutOfMemory) ⊎ (fault ≡ RunFault.PassLost)) }
-{
-    let reading = match shared.reading(rt, &mut first) {
-        Ok(reading) => reading,
-        Err(OutOfMemory) => return Err(RunFault::OutOfMemory),
-    };
-    match shared.close(first) {
-        Ok(desk) => Ok((reading, desk)),
-        Err(PassLost) => Err(RunFault::PassLost),
-    }
-}
-
-// The audit's report of the desk, which goes.
-fn last_report<R: Threads + Wait>(
-    rt: &R,
-    alloc: Global,
-    desk: Desk,
-    workers: u32,
-) -> Result<Report, OutOfMemory>
-    requires workers { (1 ≤ workers) × (workers ≤ 64) }
-    ensures { IfOk result (IsReportOf desk.scene.grid desk.scene.mode desk.scene.rows) }
-{
-    let report = report_of(rt, alloc, desk.scene(), workers);
-    drop(desk);
-    report
 }
 
 /// Whether the reports are equal.

@@ -18,6 +18,7 @@ mod saving;
 mod scenes;
 mod scripts;
 mod serving;
+mod sharing;
 
 pub use auditing::run_audit;
 pub use checks::{CheckFault, run_check};

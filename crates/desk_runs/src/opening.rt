@@ -47,7 +47,10 @@ fn replayed(
     };
     let journal = match read_journal(alloc, text) {
         Ok(journal) => journal,
-        Err(fault) => return Err(RunFault::from(fault)),
+        Err(fault) => {
+            drop(scene);
+            return Err(RunFault::from(fault));
+        }
     };
     match replay(alloc, scene, limit, journal) {
         Ok(desk) => Ok(desk),

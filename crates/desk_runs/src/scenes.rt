@@ -31,10 +31,18 @@ pub(crate) fn scene_of(
     };
     let tasks = match read_scen(alloc, scen, grid.size()) {
         Ok(tasks) => tasks,
-        Err(fault) => return Err(RunFault::from(fault)),
+        Err(fault) => {
+            drop(grid);
+            return Err(RunFault::from(fault));
+        }
     };
-    match Scene::with_tasks(alloc, grid, tasks.items(), agents) {
+    let made = Scene::with_tasks(alloc, grid, tasks.items(), agents);
+    drop(tasks);
+    match made {
         Ok(scene) => Ok(scene.with_mode(mode)),
-        Err((fault, _grid)) => Err(RunFault::from(fault)),
+        Err((fault, grid)) => {
+            drop(grid);
+            Err(RunFault::from(fault))
+        }
     }
 }

@@ -1,7 +1,8 @@
 -- Whole sessions: what their lines are answered, and what they leave behind.
-use Rattle.std.specs.Prelude.{◌≡◌, ℕ, ◌+◌, ◌<◌, ◌≤◌, ◌⊎◌, List, [], ◌∷◌, ◌++◌, length, Option, Result, Ok, Err, Bool, true, false, nat_eq}
+use Rattle.std.specs.Prelude.{◌≡◌, ℕ, ◌+◌, ◌<◌, ◌≤◌, ◌⊎◌, List, [], ◌∷◌, ◌++◌, length, Option, Result, Ok, Err, Bool, true, false, nat_eq, OnOk, OnErr}
 use Rattle.std.specs.Io.KnownBytes.{Consumes, IsAtEnd, Appends}
 use Rattle.bench_reader.specs.Lines.{lines_of}
+use Rattle.desk_report.specs.Bytes.{AppendsFront}
 use Rattle.desk_session.specs.LinesOf.{complete_lines, last_piece}
 use Rattle.desk_session.specs.Replies.{reply_text, session_text}
 use Rattle.desk_session.specs.declared.bounds.Bounds.{Bounds}
@@ -19,6 +20,13 @@ Run {S} answers old n [] [] new = new ≡ old
 Run {S} answers old n (line ∷ lines) (reply ∷ replies) new = (mid : S) × answers old n line reply mid × Run answers mid (n + 1) lines replies new
 Run {S} answers old n [] (reply ∷ replies) new = ⊥
 Run {S} answers old n (line ∷ lines) [] new = ⊥
+
+-- the line was answered, and the text of its reply went out, or a front of it where that failed
+pub record IsAnswered {S T E : Type 0} (answers : Answering S) (old : S) (number : ℕ) (line : List ℕ) (held0 held1 : Option (List ℕ)) (result : Result T E) (new : S) : Type 0 where
+  pub reply : Reply
+  pub answered : answers old number line reply new
+  pub sent : OnOk result (Appends held0 held1 (reply_text reply))
+  pub cut : OnErr result (AppendsFront held0 held1 (reply_text reply))
 
 -- what was heard has no more lines and bytes than the bounds allow; a line not yet complete counts
 abbrev pub IsWithin : Bounds → List ℕ → Type 0

@@ -1,15 +1,94 @@
-ghost use Rattle.std.specs.Prelude.{◌≡◌, ◌+◌, ◌||◌};
+ghost use Rattle.std.specs.Prelude.{◌≡◌, ◌+◌, [], is_err, ◌||◌};
 ghost use Rattle.desk_session.specs.Answer.{answering};
 ghost use Rattle.desk_session.specs.Reads.{ReadsUntil, TakesAtMost};
-ghost use Rattle.desk_session.specs.Session.{Serves, is_read_failed, is_write_failed};
+ghost use Rattle.desk_session.specs.Session.{IsAnswered, Serves, is_read_failed, is_write_failed};
 
 use crate::answers::answer;
 use crate::bounds::{Bounds, ServeFault};
 use crate::counters::Counter;
 use crate::drafts::Session;
 use crate::writers::put_reply;
-use desk_report::{Sink, Source};
+use desk_report::{Sink, Source, WriteFailed};
 use std::alloc::Global;
+use std::mem;
+
+// Answers the line, and puts the reply.
+fn answer_line<C: Counter, W: Sink>(
+    alloc: Global,
+    session: &mut Session,
+    counter: &mut C,
+    number: u32,
+    line: &[u8],
+    writer: &mut W,
+) -> Result<(), WriteFailed>
+    ensures answered { IsAnswered (answering C.counting) (session.old, counter.old) number line.now
+        (W.held writer.old) (W.held writer.new) result (session.new, counter.new) }
+    ensures broken { W.broken writer.new ≡ (W.broken writer.old || is_err result) }
+{
+    let before = mem::replace(session, Session::Idle);
+    let (reply, next) = answer(alloc, before, counter, number, line);
+    *session = next;
+    let put = put_reply(writer, &reply);
+    drop(reply);
+    put
+}
+
+// Serves the session from where it is, before the first byte of a line.
+fn serve_lines<C: Counter, R: Source, W: Sink>(
+    alloc: Global,
+    session: &mut Session,
+    line: &mut Vec<u8>,
+    counter: &mut C,
+    reader: &mut R,
+    writer: &mut W,
+    bounds: Bounds,
+) -> Result<u32, ServeFault>
+    requires { line.old.items ≡ [] }
+    ensures session { Serves (answering C.counting) bounds (R.left reader.old) (R.left reader.new)
+        (W.held writer.old) (W.held writer.new) (session.old, counter.old) (session.new, counter.new) result }
+    ensures reads { ReadsUntil R.gives reader.old reader.new (is_read_failed result) }
+    ensures bounded { TakesAtMost R.gives (bounds.bytes + 1) reader.old reader.new }
+    ensures failed { R.failed reader.new ≡ (R.failed reader.old || is_read_failed result) }
+    ensures broken { W.broken writer.new ≡ (W.broken writer.old || is_write_failed result) }
+{
+    let mut lines: u32 = 0;
+    let mut bytes: u64 = 0;
+    'session: loop {
+        match reader.next_byte() {
+            Err(_) => return Err(ServeFault::ReadFailed),
+            Ok(None) => {
+                if line.is_empty() {
+                    return Ok(lines);
+                }
+                match answer_line(alloc, session, counter, lines + 1, line.as_slice(), writer) {
+                    Ok(()) => return Ok(lines + 1),
+                    Err(_) => return Err(ServeFault::WriteFailed),
+                }
+            }
+            Ok(Some(byte)) => {
+                if lines >= bounds.lines {
+                    return Err(ServeFault::TooManyLines);
+                }
+                if bytes >= bounds.bytes {
+                    return Err(ServeFault::TooManyBytes);
+                }
+                bytes += 1;
+                if byte != b'\n' {
+                    match line.push(byte) {
+                        Ok(()) => {}
+                        Err(_) => return Err(ServeFault::OutOfMemory),
+                    }
+                } else {
+                    lines += 1;
+                    match answer_line(alloc, session, counter, lines, line.as_slice(), writer) {
+                        Ok(()) => line.clear(),
+                        Err(_) => return Err(ServeFault::WriteFailed),
+                    }
+                }
+            }
+        }
+    }
+}
 
 /// Serves a session to the end of its input, and answers how many lines it had. Each line is
 /// answered when it is complete.
@@ -34,44 +113,16 @@ pub fn serve<C: Counter, R: Source, W: Sink>(
 {
     let mut session = Session::Idle;
     let mut line: Vec<u8> = Vec::new(alloc);
-    let mut lines: u32 = 0;
-    let mut bytes: u64 = 0;
-    'session: loop {
-        match reader.next_byte() {
-            Err(_) => return Err(ServeFault::ReadFailed),
-            Ok(None) => {
-                if line.is_empty() {
-                    return Ok(lines);
-                }
-                let (reply, _) = answer(alloc, session, counter, lines + 1, line.as_slice());
-                match put_reply(writer, &reply) {
-                    Ok(()) => return Ok(lines + 1),
-                    Err(_) => return Err(ServeFault::WriteFailed),
-                }
-            }
-            Ok(Some(byte)) => {
-                if lines >= bounds.lines {
-                    return Err(ServeFault::TooManyLines);
-                }
-                if bytes >= bounds.bytes {
-                    return Err(ServeFault::TooManyBytes);
-                }
-                bytes += 1;
-                if byte != b'\n' {
-                    match line.push(byte) {
-                        Ok(()) => {}
-                        Err(_) => return Err(ServeFault::OutOfMemory),
-                    }
-                } else {
-                    lines += 1;
-                    let (reply, next) = answer(alloc, session, counter, lines, line.as_slice());
-                    session = next;
-                    match put_reply(writer, &reply) {
-                        Ok(()) => line.clear(),
-                        Err(_) => return Err(ServeFault::WriteFailed),
-                    }
-                }
-            }
-        }
-    }
+    let served = serve_lines(
+        alloc,
+        &mut session,
+        &mut line,
+        counter,
+        reader,
+        writer,
+        bounds,
+    );
+    drop(session);
+    drop(line);
+    served
 }

@@ -47,7 +47,6 @@ fn put_reading<W: Sink>(sink: &mut W, reading: &Reading) -> Result<(), WriteFail
 }
 
 // The reply.
-#[tactic(auto, using(desk_report::proofs::Fronts::fronts))]
 pub(crate) fn put_reply<W: Sink>(sink: &mut W, reply: &Reply) -> Result<(), WriteFailed>
     ensures ok { OnOk result (Appends (W.held sink.old) (W.held sink.new) (reply_text reply.now)) }
     ensures err { OnErr result (AppendsFront (W.held sink.old) (W.held sink.new) (reply_text reply.now)) }

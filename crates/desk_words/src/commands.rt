@@ -151,17 +151,31 @@ fn draw_command<'a>(alloc: Global) -> Result<Command<'a>, AllocError> {
     word(alloc, "draw", draw_arguments(alloc)?, about, DRAW_HELP)
 }
 
+// The command with one more word, where there was memory to make it.
+fn with_word<'a>(
+    command: Command<'a>,
+    word: Result<Command<'a>, AllocError>,
+) -> Result<Command<'a>, AllocError> {
+    match word {
+        Ok(word) => command.subcommand(word),
+        Err(refused) => {
+            drop(command);
+            Err(refused)
+        }
+    }
+}
+
 /// The program's words, as their parser takes them.
 pub fn command<'a>(alloc: Global) -> Result<Command<'a>, AllocError> {
-    Command::new(alloc, "mapf_desk")
+    let command = Command::new(alloc, "mapf_desk")
         .about(ABOUT)
         .after_help(PROGRAM_HELP)
         .arg(version_argument(alloc))?
-        .arg(verbose_argument(alloc))?
-        .subcommand(serve_command(alloc)?)?
-        .subcommand(audit_command(alloc)?)?
-        .subcommand(drill_command(alloc)?)?
-        .subcommand(host_command(alloc)?)?
-        .subcommand(check_command(alloc)?)?
-        .subcommand(draw_command(alloc)?)
+        .arg(verbose_argument(alloc))?;
+    let command = with_word(command, serve_command(alloc))?;
+    let command = with_word(command, audit_command(alloc))?;
+    let command = with_word(command, drill_command(alloc))?;
+    let command = with_word(command, host_command(alloc))?;
+    let command = with_word(command, check_command(alloc))?;
+    with_word(command, draw_command(alloc))
 }

@@ -39,7 +39,9 @@ pub fn refused_range<'a>(alloc: Global) -> Asked<'a> {
     let Ok(mut command) = command(alloc) else {
         return Asked::NoMemory;
     };
-    match command.error(ErrorKind::ValueValidation, RANGE_MISTAKE) {
+    let error = command.error(ErrorKind::ValueValidation, RANGE_MISTAKE);
+    drop(command);
+    match error {
         Ok(error) => Asked::Refused(error),
         Err(_) => Asked::NoMemory,
     }

@@ -109,18 +109,29 @@ fn usual_words<'a>() -> ServeWords<'a> {
     }
 }
 
+// What is asked for by the word of that name.
+fn named_words<'a>(
+    alloc: Global,
+    name: &str,
+    inner: &ArgMatches<'a>,
+) -> Result<Words<'a>, AllocError> {
+    match name {
+        "drill" => Ok(Words::Drill(drill_words(alloc, inner)?)),
+        "host" => Ok(Words::Host(host_words(alloc, inner)?)),
+        "check" => Ok(Words::Check(check_words(inner))),
+        "draw" => Ok(Words::Draw(draw_words(inner))),
+        "audit" => Ok(Words::Audit(audit_words(inner))),
+        _ => Ok(Words::Serve(serve_words(inner))),
+    }
+}
+
 // The version is told whatever else is asked for, as help is.
 fn words_of<'a>(alloc: Global, matches: &ArgMatches<'a>) -> Result<Words<'a>, AllocError> {
     if matches.get_flag("version") {
         return Ok(Words::Version);
     }
     match matches.subcommand() {
-        Some(("drill", inner)) => Ok(Words::Drill(drill_words(alloc, inner)?)),
-        Some(("host", inner)) => Ok(Words::Host(host_words(alloc, inner)?)),
-        Some(("check", inner)) => Ok(Words::Check(check_words(inner))),
-        Some(("draw", inner)) => Ok(Words::Draw(draw_words(inner))),
-        Some(("audit", inner)) => Ok(Words::Audit(audit_words(inner))),
-        Some((_, inner)) => Ok(Words::Serve(serve_words(inner))),
+        Some((name, inner)) => named_words(alloc, name, inner),
         None => Ok(Words::Serve(usual_words())),
     }
 }
@@ -134,20 +145,31 @@ fn is_verbose(matches: &ArgMatches<'_>) -> bool {
         }
 }
 
+// What the words that were matched ask for.
+fn asked_of<'a>(alloc: Global, matches: &ArgMatches<'a>) -> Asked<'a> {
+    if names_no_range(matches) {
+        return refused_range(alloc);
+    }
+    match words_of(alloc, matches) {
+        Ok(words) => Asked::For {
+            words,
+            verbose: is_verbose(matches),
+        },
+        Err(_) => Asked::NoMemory,
+    }
+}
+
 /// What the program's words, its name first, ask for.
 pub fn read_words<'a>(alloc: Global, words: &'a [String]) -> Asked<'a> {
     let Ok(command) = command(alloc) else {
         return Asked::NoMemory;
     };
     match command.try_get_matches_from(words) {
-        Ok(matches) if names_no_range(&matches) => refused_range(alloc),
-        Ok(matches) => match words_of(alloc, &matches) {
-            Ok(words) => Asked::For {
-                words,
-                verbose: is_verbose(&matches),
-            },
-            Err(_) => Asked::NoMemory,
-        },
+        Ok(matches) => {
+            let asked = asked_of(alloc, &matches);
+            drop(matches);
+            asked
+        }
         Err(error) => Asked::Refused(error),
     }
 }

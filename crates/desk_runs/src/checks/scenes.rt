@@ -95,15 +95,22 @@ pub(crate) fn planned_scene(
     };
     let many = spelled.paths.items().len();
     if many > MOST_AGENTS as usize {
+        drop(spelled);
         return Err(too_many());
     }
     let tasks = agents.unwrap_or(many as u32);
     let mut scene = match scene_of(alloc, map, scen, tasks, mode) {
         Ok(scene) => scene,
-        Err(fault) => return Err(CheckFault::from(fault)),
+        Err(fault) => {
+            drop(spelled);
+            return Err(CheckFault::from(fault));
+        }
     };
     match plan(alloc, &mut scene, spelled, scen.is_none()) {
         Ok(()) => Ok(scene),
-        Err(fault) => Err(fault),
+        Err(fault) => {
+            drop(scene);
+            Err(fault)
+        }
     }
 }

@@ -57,12 +57,16 @@ pub fn run_check<T: Threads + Wait, W: Sink>(
         Ok(scene) => scene,
         Err(fault) => return Err(fault),
     };
-    let report = match report_of(rt, alloc, &scene, workers) {
+    let told = report_of(rt, alloc, &scene, workers);
+    drop(scene);
+    let report = match told {
         Ok(report) => report,
         Err(OutOfMemory) => return Err(CheckFault::OutOfMemory),
     };
     let yes = solves(&report, kinds);
-    match put_check(writer, quiet, &report, yes) {
+    let put = put_check(writer, quiet, &report, yes);
+    drop(report);
+    match put {
         Ok(()) => Ok(yes),
         Err(WriteFailed) => Err(CheckFault::WriteFailed),
     }

@@ -168,21 +168,29 @@ pub fn host_planners<R: Threads + Wait + Sync, S: Seats>(
     ensures refused { IfErr result (IsHostFault planners) }
 {
     if planners > MOST_HOSTED {
+        drop(desk);
         return Err(HostFault::TooManyPlanners);
     }
     let none = Err(SeatFault::NoThread);
     let seated: Result<Vec<Outcome>, _> = vec![in alloc; none; planners as usize];
     let Ok(outcomes) = seated else {
+        drop(desk);
         return Err(HostFault::OutOfMemory);
     };
     let (shared, first) = match SharedDesk::share(alloc, desk, planners + 1) {
         Ok(shared) => shared,
-        Err(OutOfMemory) => return Err(HostFault::OutOfMemory),
+        Err(OutOfMemory) => {
+            drop(outcomes);
+            return Err(HostFault::OutOfMemory);
+        }
     };
     let (first, operator, outcomes) = host_threads(rt, alloc, &shared, first, seats, outcomes);
     let mut desk = match shared.close(first) {
         Ok(desk) => desk,
-        Err(PassLost) => return Err(HostFault::PassLost),
+        Err(PassLost) => {
+            drop(outcomes);
+            return Err(HostFault::PassLost);
+        }
     };
     let same = compare(rt, alloc, &mut desk, workers);
     Ok(HostEnd {

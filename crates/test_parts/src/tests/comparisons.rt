@@ -12,6 +12,50 @@ use std::process::Abort;
 use test_support::Chain;
 use where_index::{Move, Passing, WhereIndex};
 
+// Who is in the cell at the time. The index tells of each agent whether it is there.
+fn standing_at(
+    rt: &impl Abort,
+    alloc: Global,
+    index: &WhereIndex,
+    fleet: &Fleet,
+    time: u32,
+    cell: Cell,
+) -> Vec<Agent> {
+    let (plans, mode) = (&fleet.plans, fleet.mode);
+    let mut standing = Vec::new(alloc);
+    for rank in 0..plans.count() {
+        let (agent, _) = plans.entry_at(rank);
+        let here = position(plans, mode, agent, time) == Some(cell);
+        assert!(rt; index.is_at(agent, Step::new(time), cell) == here);
+        if here {
+            standing.push(agent).expect(rt, "memory");
+        }
+    }
+    standing
+}
+
+// Who of those agents, all of whom are in the cell, is elsewhere at the time.
+fn moving_out(
+    rt: &impl Abort,
+    alloc: Global,
+    standing: &[Agent],
+    fleet: &Fleet,
+    time: u32,
+    cell: Cell,
+) -> Vec<Move> {
+    let mut moving = Vec::new(alloc);
+    for agent in standing {
+        let next = position(&fleet.plans, fleet.mode, *agent, time);
+        if let Some(to) = next
+            && to != cell
+        {
+            let agent = *agent;
+            moving.push(Move { agent, to }).expect(rt, "memory");
+        }
+    }
+    moving
+}
+
 // Compares who is in the cell at the time, and who moves out of it.
 fn compare_at(
     rt: &impl Abort,
@@ -21,26 +65,16 @@ fn compare_at(
     time: u32,
     cell: Cell,
 ) {
-    let (plans, mode, step) = (&fleet.plans, fleet.mode, Step::new(time));
-    let mut standing = Vec::new(alloc);
-    let mut moving = Vec::new(alloc);
-    for rank in 0..plans.count() {
-        let (agent, _) = plans.entry_at(rank);
-        let here = position(plans, mode, agent, time) == Some(cell);
-        assert!(rt; index.is_at(agent, step, cell) == here);
-        if here {
-            standing.push(agent).expect(rt, "memory");
-            let next = position(plans, mode, agent, time.saturating_add(1));
-            if let Some(to) = next
-                && to != cell
-            {
-                moving.push(Move { agent, to }).expect(rt, "memory");
-            }
-        }
-    }
+    let step = Step::new(time);
+    let standing = standing_at(rt, alloc, index, fleet, time, cell);
     let found = index.standing_at(step, cell).expect(rt, "memory");
     assert!(rt; found.items() == standing.as_slice());
+    drop(found);
+    let next = time.saturating_add(1);
+    let moving = moving_out(rt, alloc, standing.as_slice(), fleet, next, cell);
     assert!(rt; index.movers(step, cell) == moving.as_slice());
+    drop(moving);
+    drop(standing);
 }
 
 // Compares who comes through the cell from the time on.

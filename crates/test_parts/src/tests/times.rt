@@ -177,4 +177,6 @@ fn puts_and_flips_in_little_time(rt: HostRuntime) {
     tell(&rt, "10,000 flips", began);
     assert!(rt; ledger.sum() == Some(262_144) && ledger.unfinished() == 0);
     drop(ledger);
+    drop(grid);
+    drop(plan);
 }

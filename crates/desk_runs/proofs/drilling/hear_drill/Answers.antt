@@ -13,14 +13,17 @@ returns-then-len-gt-MOST_SCRIPTS-clause-refused g c =
 pub returns-in-Err-clause-refused : goal.returns-in-Err-clause-refused
 returns-in-Err-clause-refused g c =
     let few : length c.args.scripts.items ≤ MOST_SCRIPTS = omega (arith, c.if-len-gt-MOST_SCRIPTS.false, c.len.ensures) in
-    fails_unwritten _ _ _ _ c.args.scripts.items _ _ c.in-Err.fault few c.in-Err.ensures.refused refl
+    fails_unwritten _ _ _ _ c.args.scripts.items _ _ c.in-Err.fault few (rw c.as_slice-texts.ensures.value at c.in-Err.ensures.refused) refl
 
 pub returns-in-Err-clause-broken : goal.returns-in-Err-clause-broken
 returns-in-Err-clause-broken g c =
     let none = unwritten _ _ _ _ _ c.in-Err.fault c.in-Err.ensures.refused in
     subst (λ (b : Bool). g.W.Sink.broken c.args.writer.now ≡ (g.W.Sink.broken c.args.writer.now || b)) (sym none) (sym (or-false _))
 
-pub returns-clause-refused : goal.returns-clause-refused
-returns-clause-refused g c =
+pub returns-in-Err-put-clause-refused : goal.returns-in-Err-put-clause-refused
+returns-in-Err-put-clause-refused g c =
     let few : length c.args.scripts.items ≤ MOST_SCRIPTS = omega (arith, c.if-len-gt-MOST_SCRIPTS.false, c.len.ensures) in
-    fails_writing _ _ _ _ c.args.scripts.items _ _ c.in-Ok.end.0 c.in-Ok.end.1 few c.in-Ok.ensures.drilled c.in-Err-put_drill.ensures.err
+    fails_writing _ _ _ _ c.args.scripts.items _ _ c.in-Ok.end.0 c.in-Ok.end.1 few (rw c.as_slice-texts.ensures.value at c.in-Ok.ensures.drilled) c.in-Err-put.ensures.err
+
+pub returns-in-Ok-put-clause-drilled : goal.returns-in-Ok-put-clause-drilled
+returns-in-Ok-put-clause-drilled g c = record { reading = c.in-Ok.end.0; comes_to = rw c.as_slice-texts.ensures.value at c.in-Ok.ensures.drilled; written = c.in-Ok-put.ensures.ok }

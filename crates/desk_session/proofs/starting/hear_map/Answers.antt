@@ -1,4 +1,4 @@
-use Rattle.std.proofs.Common.{rules, arith, ◌≡◌, ◌+◌, ◌++◌, [], ◌∷◌, false, nat_eq, length, ap, ◌∙◌, ℕ, List}
+use Rattle.std.proofs.Common.{rules, arith, ◌≡◌, ◌+◌, ◌++◌, [], ◌∷◌, false, nat_eq, length, append-nil, inr, ap, ◌∙◌, ℕ, List}
 use Rattle.std.proofs.KnownBytes.{Consumes-trans}
 use Rattle.bench_reader.specs.Announced.{rows_announced}
 use Rattle.bench_reader.specs.Lines as text_lines
@@ -8,6 +8,24 @@ use Rattle.desk_session.proofs.MapLines.{Told, told-fourth, told-other, hears-wh
 use Rattle.desk_session.proofs.Reading.{one-more, then-failed, takes-byte, takes-kept, takes-end, takes-failure, takes-fewer}
 use Rattle.desk_session.proofs.starting.hear_map.Goals as goal
 use Rattle.desk_session.proofs.starting.hear_map.Goals.{then-lines-eq4, else-lines-eq4}
+
+pub returns-in-Err-clause-stopped : goal.returns-in-Err-clause-stopped
+returns-in-Err-clause-stopped g c =
+    (c.map.text.items, record { taken = Consumes-trans _ _ _ _ [] c.map.invariant.taken c.in-Err.ensures.bytes; unfinished = omega arith }, c.map.invariant.within)
+
+pub returns-in-Ok-None-clause-heard : goal.returns-in-Ok-None-clause-heard
+returns-in-Ok-None-clause-heard g c =
+    let took = rw c.in-Ok-None.field-0-is at c.in-Ok-None.ensures.bytes in
+    record {
+      taken = rw append-nil at (Consumes-trans _ _ _ c.map.text.items [] c.map.invariant.taken took);
+      within = c.map.invariant.within;
+      whole = inr (omega arith, c.in-Ok-None.ensures.end c.in-Ok-None.field-0-is);
+    }
+
+pub returns-then-len-most-clause-stopped : goal.returns-then-len-most-clause-stopped
+returns-then-len-most-clause-stopped g c =
+    let took = rw c.in-Ok-Some.field-0-is at c.in-Ok-Some.ensures.bytes in
+    (c.map.text.items, c.in-Ok-Some.byte, stops-over _ _ _ c.map.text.items c.in-Ok-Some.byte c.map.lines c.map.wanted c.map.invariant.taken took c.map.invariant.counted c.map.invariant.told c.map.invariant.unfinished, omega arith)
 
 pub returns-in-Err-push-clause-stopped : goal.returns-in-Err-push-clause-stopped
 returns-in-Err-push-clause-stopped g c =

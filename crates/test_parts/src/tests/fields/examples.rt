@@ -1,7 +1,11 @@
 //! Worked examples of repairs.
+ghost use Rattle.std.specs.Prelude.{◌≡◌};
+ghost use Rattle.grid_cells.specs.Size.{Holds};
+ghost use Rattle.goal_fields.specs.Held.{StandFor};
+
 use super::build::{NO, at, change, change_each, has_row, open_map};
 use goal_fields::{Field, Fields};
-use grid_cells::Size;
+use grid_cells::{Cell, Grid, Size};
 use std::alloc::Global;
 use std::process::Abort;
 
@@ -77,21 +81,44 @@ const EXAMPLES: &[Example] = &[
     },
 ];
 
+// The cells at the places.
+fn cells_at(rt: &impl Abort, alloc: Global, places: &[(u32, u32)]) -> Vec<Cell> {
+    let mut cells = Vec::new(alloc);
+    for (x, y) in places {
+        cells.push(at(rt, *x, *y)).expect(rt, "memory");
+    }
+    cells
+}
+
+// Makes one repair of that example.
+fn repair(
+    rt: &impl Abort,
+    alloc: Global,
+    field: &mut Field,
+    grid: &mut Grid,
+    repair: Repair,
+    name: &str,
+)
+    requires { field.old.grid ≡ grid.old }
+    ensures { field.new.grid ≡ grid.new }
+{
+    let (free, places, count, rows) = repair;
+    let cells = cells_at(rt, alloc, places);
+    let taken = change(field, grid, cells.as_slice(), free);
+    drop(cells);
+    assert!(rt; taken == count, "{name}");
+    assert!(rt; has_row(rt, field, 0, rows[0]), "{name}");
+    assert!(rt; has_row(rt, field, 1, rows[1]), "{name}");
+}
+
 fn run(rt: &impl Abort, alloc: Global, example: Example) {
     let size = Size::new(example.width, example.height).expect(rt, "a size");
     let goal = at(rt, example.goal.0, example.goal.1);
     assert!(rt; size.holds(goal));
     let mut grid = open_map(rt, alloc, size);
     let mut field = Field::new(alloc, &grid, goal).expect(rt, "memory");
-    for (free, places, count, rows) in example.repairs {
-        let mut cells = Vec::new(alloc);
-        for place in places.iter() {
-            cells.push(at(rt, place.0, place.1)).expect(rt, "memory");
-        }
-        let taken = change(&mut field, &mut grid, cells.as_slice(), *free);
-        assert!(rt; taken == *count, "{}", example.name);
-        assert!(rt; has_row(rt, &field, 0, rows[0]), "{}", example.name);
-        assert!(rt; has_row(rt, &field, 1, rows[1]), "{}", example.name);
+    for next in example.repairs {
+        repair(rt, alloc, &mut field, &mut grid, *next, example.name);
     }
     drop(field);
     drop(grid);
@@ -104,6 +131,24 @@ fn repairs_by_worked_examples(rt: HostRuntime) {
     }
 }
 
+// The fields of two goals.
+fn fields_of(rt: &impl Abort, alloc: Global, grid: &Grid, one: Cell, other: Cell) -> Fields
+    requires one { Holds grid.now.size one }
+    requires other { Holds grid.now.size other }
+    ensures { StandFor grid.now result.fields }
+{
+    let fields = Fields::new(alloc).hold(grid, one).expect(rt, "memory");
+    fields.hold(grid, other).expect(rt, "memory")
+}
+
+// The left goal alone is reached from the left.
+fn is_cut(rt: &impl Abort, fields: &Fields, left: Cell, right: Cell) {
+    let field = fields.field(left).expect(rt, "a field");
+    assert!(rt; field.distance(left) == Some(0));
+    assert!(rt; field.distance(at(rt, 1, 0)).is_none());
+    assert!(rt; field.distance(right).is_none());
+}
+
 // Each of the two goals loses two cells where the middle one closes.
 #[test]
 fn sum_over_two_goals(rt: HostRuntime) {
@@ -111,14 +156,9 @@ fn sum_over_two_goals(rt: HostRuntime) {
     let (left, right) = (at(&rt, 0, 0), at(&rt, 2, 0));
     assert!(rt; size.holds(left) && size.holds(right));
     let mut grid = open_map(&rt, rt.alloc(), size);
-    let fields = Fields::new(rt.alloc())
-        .hold(&grid, right)
-        .expect(&rt, "memory");
-    let mut fields = fields.hold(&grid, left).expect(&rt, "memory");
+    let mut fields = fields_of(&rt, rt.alloc(), &grid, right, left);
     assert!(rt; change_each(&mut fields, &mut grid, &[at(&rt, 1, 0)], false) == 4);
-    let field = fields.field(left).expect(&rt, "a field");
-    assert!(rt; field.distance(left) == Some(0));
-    assert!(rt; field.distance(at(&rt, 1, 0)).is_none());
-    assert!(rt; field.distance(right).is_none());
+    is_cut(&rt, &fields, left, right);
     drop(fields);
+    drop(grid);
 }

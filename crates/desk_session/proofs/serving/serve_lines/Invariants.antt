@@ -1,13 +1,12 @@
 use Rattle.std.proofs.Common.{length, ◌-◌, ◌≡◌, ◌≤◌, ◌<◌}
 use Rattle.desk_session.specs.Answer.{answering}
 use Rattle.desk_session.specs.Reads.{NoneFailed, TakesAtMost}
-use Rattle.desk_session.specs.declared.drafts.Session.TheVariants.{Idle}
 use Rattle.desk_session.proofs.Progress.{Progress}
-use Rattle.desk_session.proofs.serving.serve.Given as goal
+use Rattle.desk_session.proofs.serving.serve_lines.Given as goal
 
 abbrev pub invariant-session : goal.invariant-session
 invariant-session g l = record {
-  so_far : Progress (answering g.C.Counter.counting) (g.R.Source.left l.fn.reader) (g.R.Source.left l.reader) (g.W.Sink.held l.fn.writer) (g.W.Sink.held l.writer) (Idle, l.fn.counter) (l.session, l.counter) l.line.items l.lines l.bytes;
+  so_far : Progress (answering g.C.Counter.counting) (g.R.Source.left l.fn.reader) (g.R.Source.left l.reader) (g.W.Sink.held l.fn.writer) (g.W.Sink.held l.writer) (l.fn.session, l.fn.counter) (l.session, l.counter) l.line.items l.lines l.bytes;
   lines_within : l.lines ≤ l.bounds.lines;
   bytes_within : l.bytes ≤ l.bounds.bytes;
   room : 0 < length l.line.items → l.lines < l.bounds.lines;

@@ -3,7 +3,7 @@ use Rattle.cost_ledger.specs.Spots.{spot_of, GainsAll, LosesAll}
 use Rattle.cost_ledger.specs.declared.spots.Spot.{Spot}
 use Rattle.mapf_rules.specs.declared.visits.Visit.{Visit}
 use Rattle.cost_ledger.proofs.Keeping.{visits_flipped}
-use Rattle.cost_ledger.proofs.ledger.CostLedger.flip.Goals as goal
+use Rattle.cost_ledger.proofs.ledger.CostLedger.give_state.Goals as goal
 
 pub returns-clause-stands : goal.returns-clause-stands
 returns-clause-stands c = λ old new stands but at.

@@ -1,0 +1,125 @@
+//! How a ledger changes where an agent gets a plan.
+ghost use Rattle.std.specs.Prelude.{◌≡◌, None, Some, IfOk, IfSome, IfNone};
+ghost use Rattle.plan_table.specs.Plans.{row_of, ChangesRow, IsByAgent};
+ghost use Rattle.cost_ledger.specs.Ledger.{StandsFor};
+
+use super::CostLedger;
+use crate::replans::{Planned, add_row, follow_row};
+use crate::rows::elsewhere;
+use grid_cells::{Agent, Cell, Grid, OutOfMemory};
+use plan_table::Plan;
+
+impl CostLedger {
+    /// Puts in an agent that is not in it. The grid is the one that the ledger stands for.
+    ///
+    /// # Errors
+    ///
+    /// Want of memory. The ledger is gone then.
+    pub fn put(
+        mut self,
+        agent: Agent,
+        goal: Cell,
+        plan: &Plan,
+        grid: &Grid,
+    ) -> Result<CostLedger, OutOfMemory>
+        requires absent { row_of self.rows agent ≡ None }
+        ensures row { IfOk result (λ ledger. ChangesRow self.rows ledger.rows agent (Some (record { goal = goal; plan = plan.now }))) }
+        ensures by_agent { IfOk result (λ ledger. IsByAgent ledger.rows) }
+        ensures stands { IfOk result (λ ledger. StandsFor self grid.now → StandsFor ledger grid.now) }
+    {
+        let _number = agent.number();
+        let planned = Planned {
+            agent,
+            goal,
+            plan,
+            grid,
+        };
+        match add_row(
+            &mut self.rows,
+            &mut self.spots,
+            &mut self.blocked,
+            &mut self.rests,
+            &planned,
+        ) {
+            Ok(away) => {
+                self.total += u64::from(plan.last());
+                self.elsewhere += away;
+                let _count = self.blocked.count();
+                Ok(self)
+            }
+            Err(refused) => {
+                let CostLedger {
+                    alloc: _,
+                    rows,
+                    spots,
+                    blocked,
+                    rests,
+                    total: _,
+                    elsewhere: _,
+                } = self;
+                drop((rows, spots, blocked, rests));
+                Err(refused)
+            }
+        }
+    }
+
+    /// Gives the agent another plan, if it is in it. The grid is the one that the ledger stands for.
+    /// What is kept changes from the first time on at which the plans differ.
+    ///
+    /// # Errors
+    ///
+    /// Want of memory. The ledger is gone then.
+    pub fn set_plan(
+        mut self,
+        agent: Agent,
+        plan: &Plan,
+        grid: &Grid,
+    ) -> Result<CostLedger, OutOfMemory>
+        ensures row { IfOk result (λ ledger. IfSome (row_of self.rows agent) (λ row. ChangesRow self.rows ledger.rows agent (Some (record row { plan = plan.now })))) }
+        ensures by_agent { IfOk result (λ ledger. IsByAgent ledger.rows) }
+        ensures stands { IfOk result (λ ledger. StandsFor self grid.now → StandsFor ledger grid.now) }
+        ensures none { IfNone (row_of self.rows agent) (IfOk result (λ ledger. ledger ≡ self)) }
+    {
+        let Some(old) = self.rows.remove(agent) else {
+            return Ok(self);
+        };
+        let planned = Planned {
+            agent,
+            goal: old.goal,
+            plan,
+            grid,
+        };
+        let since = old.plan.same_front(plan);
+        match follow_row(
+            &mut self.rows,
+            &mut self.spots,
+            &mut self.blocked,
+            &mut self.rests,
+            &old.plan,
+            &planned,
+            since,
+        ) {
+            Ok(stays_away) => {
+                self.total = self.total - u64::from(old.plan.last()) + u64::from(plan.last());
+                self.elsewhere = self.elsewhere - elsewhere(&old) + stays_away;
+                let _count = self.blocked.count();
+                drop(old);
+                Ok(self)
+            }
+            Err(refused) => {
+                drop(old);
+                let CostLedger {
+                    alloc: _,
+                    rows,
+                    spots,
+                    blocked,
+                    rests,
+                    total: _,
+                    elsewhere: _,
+                } = self;
+                drop((rows, spots, blocked, rests));
+                Err(refused)
+            }
+        }
+    }
+}
