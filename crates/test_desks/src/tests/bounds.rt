@@ -25,6 +25,27 @@ fn over_desk<R: Source>(
     (ended, writer.into_inner())
 }
 
+// A line of so many times the byte is heard with so many calls, ends the session so, and has that answer.
+fn is_heard(
+    rt: &impl Abort,
+    alloc: Global,
+    line: (u8, u64, u64),
+    ended: Result<u32, ServeFault>,
+    text: &str,
+) {
+    let (byte, left, calls) = line;
+    let mut reader = Repeated::new(byte, left);
+    let bounds = Bounds {
+        lines: 10,
+        bytes: BYTES,
+    };
+    let (got, written) = over_desk(rt, alloc, &mut reader, bounds);
+    assert_eq!(rt; got, ended, "{left} times {byte}");
+    assert_eq!(rt; reader.calls(), calls, "{left} times {byte}");
+    assert_eq!(rt; written.as_slice(), text.as_bytes(), "{left} times {byte}");
+    drop(written);
+}
+
 #[test]
 fn lines_at_the_bound_of_bytes(rt: HostRuntime) {
     for (byte, left, calls, ended, text) in [
@@ -43,17 +64,28 @@ fn lines_at_the_bound_of_bytes(rt: HostRuntime) {
         (b' ', BYTES, BYTES + 1, Ok(1), ""),
         (b'\n', u64::MAX, 11, Err(ServeFault::TooManyLines), ""),
     ] {
-        let mut reader = Repeated::new(byte, left);
-        let bounds = Bounds {
-            lines: 10,
-            bytes: BYTES,
-        };
-        let (got, written) = over_desk(&rt, rt.alloc(), &mut reader, bounds);
-        assert_eq!(rt; got, ended, "{left} times {byte}");
-        assert_eq!(rt; reader.calls(), calls, "{left} times {byte}");
-        assert_eq!(rt; written.as_slice(), text.as_bytes(), "{left} times {byte}");
-        drop(written);
+        is_heard(&rt, rt.alloc(), (byte, left, calls), ended, text);
     }
+}
+
+// The text, heard within those bounds, ends the session so, and has that answer.
+fn is_within(
+    rt: &impl Abort,
+    alloc: Global,
+    input: &str,
+    bounds: Bounds,
+    ended: Result<u32, ServeFault>,
+    text: &str,
+) {
+    let mut reader = Tap::new(input.as_bytes());
+    let (got, written) = over_desk(rt, alloc, &mut reader, bounds);
+    assert_eq!(rt; got, ended, "{input:?} within {bounds:?}");
+    assert_eq!(rt;
+        written.as_slice(),
+        text.as_bytes(),
+        "{input:?} within {bounds:?}"
+    );
+    drop(written);
 }
 
 #[test]
@@ -82,16 +114,8 @@ fn texts_at_the_bounds(rt: HostRuntime) {
             "bad 1 word\n",
         ),
     ] {
-        let mut reader = Tap::new(input.as_bytes());
         let bounds = Bounds { lines, bytes };
-        let (got, written) = over_desk(&rt, rt.alloc(), &mut reader, bounds);
-        assert_eq!(rt; got, ended, "{input:?} within {bounds:?}");
-        assert_eq!(rt;
-            written.as_slice(),
-            text.as_bytes(),
-            "{input:?} within {bounds:?}"
-        );
-        drop(written);
+        is_within(&rt, rt.alloc(), input, bounds, ended, text);
     }
 }
 
