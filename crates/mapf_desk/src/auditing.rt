@@ -1,7 +1,7 @@
 //! The word `audit`.
 use crate::details::Texts;
-use crate::files::{file_bytes, named_bytes};
 use crate::finishing::finish;
+use crate::named::read_files;
 use crate::stages::tell_stage;
 use crate::telling::More;
 use desk_report::Spout;
@@ -30,35 +30,35 @@ pub fn audit_files<'a, R: Files + AllocGlobal + Print + Eprint + Threads + Wait>
         return Err(Fault::AgentsWithoutScen);
     }
     tell_stage(rt, stages, "reading the files");
-    let map = match file_bytes(rt, words.map, more) {
-        Ok(map) => map,
+    let named = match read_files(rt, Some(words.map), words.scen, words.journal, more) {
+        Ok(named) => named,
         Err(fault) => return Err(fault),
     };
-    let scen = match named_bytes(rt, words.scen, more) {
-        Ok(scen) => scen,
-        Err(fault) => return Err(fault),
-    };
-    let journal = match named_bytes(rt, words.journal, more) {
-        Ok(journal) => journal,
-        Err(fault) => return Err(fault),
-    };
-    let alloc = rt.alloc();
-    let Ok(buffered) = BufWriter::new(alloc, io::writer(rt)) else {
-        return Err(Fault::Run(RunFault::OutOfMemory));
-    };
-    let texts = Texts {
-        map: Some(map.as_slice()),
-        scen: scen.as_deref(),
-        journal: journal.as_deref(),
-    };
-    match audit_texts(rt, alloc, texts, words, stages, buffered, more) {
+    let ended = audit_texts(rt, named.texts(), words, stages, more);
+    drop(named);
+    match ended {
         Ok(()) => Ok(()),
         Err(fault) => Err(Fault::Run(fault)),
     }
 }
 
+// Audits the texts onto standard output.
+fn audit_texts<R: AllocGlobal + Print + Eprint + Threads + Wait>(
+    rt: &R,
+    texts: Texts<'_>,
+    words: &AuditWords<'_>,
+    stages: bool,
+    more: &mut More,
+) -> Result<(), RunFault> {
+    let alloc = rt.alloc();
+    let Ok(buffered) = BufWriter::new(alloc, io::writer(rt)) else {
+        return Err(RunFault::OutOfMemory);
+    };
+    audit_onto(rt, alloc, texts, words, stages, buffered, more)
+}
+
 // Audits the texts onto a writer.
-fn audit_texts<R: Eprint + Threads + Wait, O: Write + Drop>(
+fn audit_onto<R: Eprint + Threads + Wait, O: Write + Drop>(
     rt: &R,
     alloc: Global,
     texts: Texts<'_>,

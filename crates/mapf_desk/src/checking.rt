@@ -37,11 +37,18 @@ pub fn check_files<'a, R: Files + AllocGlobal + Print + Eprint + Threads + Wait>
     };
     let scen = match named_bytes(rt, words.scen, more) {
         Ok(scen) => scen,
-        Err(fault) => return Err(ProgramFault::Desk(fault)),
+        Err(fault) => {
+            drop(map);
+            return Err(ProgramFault::Desk(fault));
+        }
     };
     let paths = match file_bytes(rt, words.paths, more) {
         Ok(paths) => paths,
-        Err(fault) => return Err(ProgramFault::Desk(fault)),
+        Err(fault) => {
+            drop(scen);
+            drop(map);
+            return Err(ProgramFault::Desk(fault));
+        }
     };
     tell_stage(rt, stages, "checking the paths");
     let texts = Texts {
@@ -49,7 +56,11 @@ pub fn check_files<'a, R: Files + AllocGlobal + Print + Eprint + Threads + Wait>
         scen: scen.as_deref(),
         journal: None,
     };
-    match check_texts(rt, texts, paths.as_slice(), words, more) {
+    let checked = check_texts(rt, texts, paths.as_slice(), words, more);
+    drop(paths);
+    drop(scen);
+    drop(map);
+    match checked {
         Ok(solved) => Ok(solved),
         Err(fault) => Err(ProgramFault::Check(fault)),
     }

@@ -1,8 +1,8 @@
 //! The word `draw`.
 use crate::details::{Texts, more_of_check};
 use crate::faults::ProgramFault;
-use crate::files::{file_bytes, named_bytes};
 use crate::finishing::finish;
+use crate::named::read_files;
 use crate::stages::tell_stage;
 use crate::telling::More;
 use desk_pictures::Frame;
@@ -44,25 +44,15 @@ pub fn draw_files<'a, R: Files + AllocGlobal + Print + Eprint + Threads + Wait>(
         return Err(ProgramFault::Desk(Fault::AgentsWithoutScen));
     }
     tell_stage(rt, stages, "reading the files");
-    let map = match file_bytes(rt, words.map, more) {
-        Ok(map) => map,
-        Err(fault) => return Err(ProgramFault::Desk(fault)),
-    };
-    let scen = match named_bytes(rt, words.scen, more) {
-        Ok(scen) => scen,
-        Err(fault) => return Err(ProgramFault::Desk(fault)),
-    };
-    let text = match named_bytes(rt, words.journal.or(words.paths), more) {
-        Ok(text) => text,
+    let journal = words.journal.or(words.paths);
+    let named = match read_files(rt, Some(words.map), words.scen, journal, more) {
+        Ok(named) => named,
         Err(fault) => return Err(ProgramFault::Desk(fault)),
     };
     tell_stage(rt, stages, "making the report, and drawing");
-    let texts = Texts {
-        map: Some(map.as_slice()),
-        scen: scen.as_deref(),
-        journal: text.as_deref(),
-    };
-    match draw_texts(rt, texts, words, more) {
+    let ended = draw_texts(rt, named.texts(), words, more);
+    drop(named);
+    match ended {
         Ok(()) => Ok(()),
         Err(fault) => Err(ProgramFault::Check(fault)),
     }

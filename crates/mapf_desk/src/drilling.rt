@@ -1,7 +1,8 @@
 //! The word `drill`.
 use crate::details::Texts;
-use crate::files::{file_bytes, named_bytes};
+use crate::files::file_bytes;
 use crate::finishing::finish;
+use crate::named::read_files;
 use crate::stages::tell_stage;
 use crate::tallies::Tallies;
 use crate::telling::More;
@@ -25,9 +26,13 @@ fn bytes_of_all<'a, R: Files + AllocGlobal>(
     for file in files {
         let bytes = match file_bytes(rt, file, more) {
             Ok(bytes) => bytes,
-            Err(fault) => return Err(fault),
+            Err(fault) => {
+                drop(all);
+                return Err(fault);
+            }
         };
         if let Err(_refused) = all.push(bytes) {
+            drop(all);
             return Err(Fault::Run(RunFault::OutOfMemory));
         }
     }
@@ -52,25 +57,21 @@ pub fn drill_files<'a, R: Files + AllocGlobal + Print + Eprint + Threads + Wait 
         return Err(Fault::AgentsWithoutScen);
     }
     tell_stage(rt, stages, "reading the files");
-    let map = match file_bytes(rt, words.map, more) {
-        Ok(map) => map,
-        Err(fault) => return Err(fault),
-    };
-    let scen = match named_bytes(rt, words.scen, more) {
-        Ok(scen) => scen,
+    let named = match read_files(rt, Some(words.map), words.scen, None, more) {
+        Ok(named) => named,
         Err(fault) => return Err(fault),
     };
     let scripts = match bytes_of_all(rt, words.scripts.as_slice(), more) {
         Ok(scripts) => scripts,
-        Err(fault) => return Err(fault),
+        Err(fault) => {
+            drop(named);
+            return Err(fault);
+        }
     };
     tell_stage(rt, stages, "serving the scripts, and auditing the desk");
-    let texts = Texts {
-        map: Some(map.as_slice()),
-        scen: scen.as_deref(),
-        journal: None,
-    };
-    match drill_counted(rt, texts, scripts, words, more, verbose) {
+    let ended = drill_counted(rt, named.texts(), scripts, words, more, verbose);
+    drop(named);
+    match ended {
         Ok(same) => Ok(same),
         Err(fault) => Err(Fault::Run(fault)),
     }
@@ -88,10 +89,12 @@ fn drill_counted<R: AllocGlobal + Print + Threads + Wait + Sync>(
 ) -> Result<bool, RunFault> {
     let alloc = rt.alloc();
     let Ok(buffered) = BufWriter::new(alloc, io::writer(rt)) else {
+        drop(scripts);
         return Err(RunFault::OutOfMemory);
     };
     let counted = if verbose { scripts.len() } else { 0 };
     let Ok(tallies) = Tallies::new(alloc, counted) else {
+        drop(scripts);
         return Err(RunFault::OutOfMemory);
     };
     let ended = drill_texts(rt, alloc, texts, scripts, words, &tallies, buffered, more);

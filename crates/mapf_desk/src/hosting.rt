@@ -105,6 +105,7 @@ fn open_named<'a, R: Files + AllocGlobal>(
         Err(fault) => return Err(ProgramFault::Desk(fault)),
     };
     if let Some(name) = named_twice(words.names.as_slice()) {
+        drop(named);
         return Err(ProgramFault::NamedTwice { name });
     }
     let texts = named.texts();
@@ -117,12 +118,13 @@ fn open_named<'a, R: Files + AllocGlobal>(
         words.desk.mode,
         texts.journal,
     );
+    if let Err(fault) = &opened {
+        more.put(more_of(rt.alloc(), fault, texts));
+    }
+    drop(named);
     match opened {
         Ok(desk) => Ok(desk),
-        Err(fault) => {
-            more.put(more_of(rt.alloc(), &fault, texts));
-            Err(ProgramFault::Desk(Fault::Run(fault)))
-        }
+        Err(fault) => Err(ProgramFault::Desk(Fault::Run(fault))),
     }
 }
 

@@ -1,4 +1,4 @@
-//! The files that the words of `serve` name.
+//! The files that the words name.
 use crate::details::Texts;
 use crate::files::named_bytes;
 use crate::saving::look_ahead;
@@ -25,7 +25,41 @@ impl Named {
     }
 }
 
-/// Reads the files, and looks whether the last one can be written.
+/// Reads the files that are named.
+///
+/// # Errors
+///
+/// The first file that can't be read.
+pub fn read_files<'a, R: Files + AllocGlobal>(
+    rt: &R,
+    map: Option<&'a str>,
+    scen: Option<&'a str>,
+    journal: Option<&'a str>,
+    more: &mut More,
+) -> Result<Named, Fault<'a>> {
+    let map = match named_bytes(rt, map, more) {
+        Ok(map) => map,
+        Err(fault) => return Err(fault),
+    };
+    let scen = match named_bytes(rt, scen, more) {
+        Ok(scen) => scen,
+        Err(fault) => {
+            drop(map);
+            return Err(fault);
+        }
+    };
+    let journal = match named_bytes(rt, journal, more) {
+        Ok(journal) => journal,
+        Err(fault) => {
+            drop(scen);
+            drop(map);
+            return Err(fault);
+        }
+    };
+    Ok(Named { map, scen, journal })
+}
+
+/// Reads the files of `serve`, and looks whether the one that is to be saved can be written.
 ///
 /// # Errors
 ///
@@ -38,23 +72,19 @@ pub fn read_named<'a, R: Files + AllocGlobal>(
     if words.agents > 0 && words.scen.is_none() {
         return Err(Fault::AgentsWithoutScen);
     }
-    let map = match named_bytes(rt, words.map, more) {
-        Ok(map) => map,
+    let named = match read_files(rt, words.map, words.scen, words.journal, more) {
+        Ok(named) => named,
         Err(fault) => return Err(fault),
     };
-    let scen = match named_bytes(rt, words.scen, more) {
-        Ok(scen) => scen,
-        Err(fault) => return Err(fault),
+    let ready = match words.save {
+        Some(file) => look_ahead(rt, file, more),
+        None => Ok(()),
     };
-    let journal = match named_bytes(rt, words.journal, more) {
-        Ok(journal) => journal,
-        Err(fault) => return Err(fault),
-    };
-    if let Some(file) = words.save {
-        match look_ahead(rt, file, more) {
-            Ok(()) => {}
-            Err(fault) => return Err(fault),
+    match ready {
+        Ok(()) => Ok(named),
+        Err(fault) => {
+            drop(named);
+            Err(fault)
         }
     }
-    Ok(Named { map, scen, journal })
 }
