@@ -8,6 +8,7 @@ use Rattle.where_index.specs.Index.{Contents}
 use Rattle.conflict_ledger.specs.Sight.{Shows}
 use Rattle.mapf_rules.specs.Naming.{time_of}
 use Rattle.conflict_ledger.specs.Turns.{IsLeft, IsLeftAt, MayTurn}
+use Rattle.conflict_ledger.specs.declared.turns.Turn.{Turn}
 use Rattle.mapf_rules.specs.declared.entries.Conflict.{Conflict}
 use Rattle.mapf_rules.specs.declared.entries.Conflict.TheVariants.{Vertex, Parked, Edge, Following, Swapping, Cycle}
 use Rattle.conflict_ledger.proofs.Late.{comes_early}
@@ -37,6 +38,6 @@ left_before index agent route other shows last is fleet (Following x a b c) left
 left_before index agent route other shows last is fleet (Swapping x a b c n) left = absurd left
 left_before index agent route other shows last is fleet (Cycle x r) left = left_early index agent route other shows last is fleet x r left
 
-pub told_found : (fleet : Fleet) (route : Option Route) (found : Option Conflict) (time : ℕ) (told : Conflict) (agent : ℕ) → time ≡ time_of told → MayTurn told agent → IfSome found (λ e. IsLeft fleet route e × (time_of e ≡ time)) → IfSome found (λ e. IsLeft fleet route e × (time_of e ≡ time_of told) × MayTurn told agent)
-told_found fleet route None time told agent at turn is = tt
-told_found fleet route (Some e) time told agent at turn is = (is.0, is.1 ∙ at, turn)
+pub told_found : (fleet : Fleet) (route : Option Route) (found : Option Conflict) (time : ℕ) (turn : Turn) (told : Conflict) (agent : ℕ) → time ≡ time_of told → MayTurn turn told agent → IfSome found (λ e. IsLeft fleet route e × (time_of e ≡ time)) → IfSome found (λ e. IsLeft fleet route e × (time_of e ≡ time_of told) × MayTurn turn told agent)
+told_found fleet route None time turn told agent at may is = tt
+told_found fleet route (Some e) time turn told agent at may is = (is.0, is.1 ∙ at, may)

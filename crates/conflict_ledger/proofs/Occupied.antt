@@ -4,9 +4,9 @@ use Rattle.std.proofs.lemmas.Bool.{cases_lt, lt-ltb, le-ltb}
 use Rattle.grid_cells.specs.Cell.{Point}
 use Rattle.plan_table.specs.Route.{Route, Fleet, position_of}
 use Rattle.where_index.specs.Index.{Contents}
-use Rattle.where_index.specs.Spot.{spot}
+use Rattle.cell_spots.specs.Spot.{spot}
 use Rattle.where_index.specs.Asked.{StandsIn, RestsIn, IsOccupant}
-use Rattle.where_index.specs.declared.spots.Spot.{Spot}
+use Rattle.cell_spots.specs.declared.spot_sets.Spot.{Spot}
 use Rattle.mapf_rules.specs.Finding.{KeepsAll}
 use Rattle.mapf_rules.specs.declared.entries.Conflict.{Conflict}
 use Rattle.conflict_ledger.specs.Sight.{Shows}

@@ -20,6 +20,8 @@ use Rattle.conflict_ledger.specs.Gathering.{IsAgents, AreAgents}
 use Rattle.conflict_ledger.specs.Spans.{IsIn, HasEntriesIn, SameBeside}
 use Rattle.conflict_ledger.specs.declared.spans.Span.{Span}
 use Rattle.conflict_ledger.specs.Turns.{IsLeft, IsLeftAt, MayTurn, IsToldAt}
+use Rattle.conflict_ledger.specs.declared.turns.Turn.{Turn}
+use Rattle.conflict_ledger.specs.declared.turns.Turn.TheVariants.{Broken, Joined}
 use Rattle.conflict_ledger.specs.Kept.{GainsAll, LosesAll}
 use Rattle.mapf_rules.specs.declared.entries.Conflict.{Conflict}
 use Rattle.mapf_rules.specs.declared.entries.Conflict.TheVariants.{Vertex, Parked, Edge, Following, Swapping, Cycle}
@@ -190,7 +192,7 @@ module _ (index : Contents) (agent : ℕ) (route : Option Route) (out into : Fle
       ]
 
   -- the agent has an entry where a ring is at the cell that it moves out of
-  told_broken : (time : ℕ) (ring : List ℕ) → IsLeftAt out route time ring → (e : Conflict) × IsAgents into agent e × (time_of e ≡ time) × MayTurn e agent
+  told_broken : (time : ℕ) (ring : List ℕ) → IsLeftAt out route time ring → (e : Conflict) × IsAgents into agent e × (time_of e ≡ time) × MayTurn Broken e agent
   told_broken time ring left =
       let member : ℕ = left.round.member in
       let apart : member ≢ agent = λ is. not_there time left.cell (subst (λ (q : ℕ). position_of out q time ≡ Some left.cell) is left.round.out.from) in
@@ -202,7 +204,7 @@ module _ (index : Contents) (agent : ℕ) (route : Option Route) (out into : Fle
         | inr above ↦ (Vertex time agent member left.cell, record { stands = record { ordered = omega (arith, apart); first_there = own; second_there = its; passes = inl (omega arith) }; pair = tt; names = inl refl }, refl, tt)
       ]
 
-  told_joined : (time : ℕ) (ring : List ℕ) → IsLeftAt into route time ring → (e : Conflict) × IsAgents into agent e × (time_of e ≡ time) × MayTurn e agent
+  told_joined : (time : ℕ) (ring : List ℕ) → IsLeftAt into route time ring → (e : Conflict) × IsAgents into agent e × (time_of e ≡ time) × MayTurn Joined e agent
   told_joined time ring left =
       let before = one_to into time ring left.round.round agent (joined_in time ring left) in
       let out_of = before.1.sole.moves in (
@@ -223,35 +225,25 @@ module _ (index : Contents) (agent : ℕ) (route : Option Route) (out into : Fle
       )
 
   module _ (broken joined pairs : List Conflict) (span : Span) (p_are : AreAgents into agent span pairs)
-      (b_only : (e : Conflict) → Contains broken e → IsLeft out route e × IsToldAt pairs agent (time_of e)) (b_has : (e : Conflict) → IsLeft out route e → IsToldAt pairs agent (time_of e) → Contains broken e)
-      (j_only : (e : Conflict) → Contains joined e → IsLeft into route e × IsToldAt pairs agent (time_of e)) (j_has : (e : Conflict) → IsLeft into route e → IsToldAt pairs agent (time_of e) → Contains joined e) where
-    told_in : (time : ℕ) → IsToldAt pairs agent time → IsIn span time
+      (b_only : (e : Conflict) → Contains broken e → IsLeft out route e × IsToldAt Broken pairs agent (time_of e)) (b_has : (e : Conflict) → IsLeft out route e → IsToldAt Broken pairs agent (time_of e) → Contains broken e)
+      (j_only : (e : Conflict) → Contains joined e → IsLeft into route e × IsToldAt Joined pairs agent (time_of e)) (j_has : (e : Conflict) → IsLeft into route e → IsToldAt Joined pairs agent (time_of e) → Contains joined e) where
+    told_in : {turn : Turn} → (time : ℕ) → IsToldAt turn pairs agent time → IsIn span time
     told_in time told = subst (IsIn span) told.at (p_are.only told.entry told.has).1
 
-    told_by : (time : ℕ) → IsIn span time → (e : Conflict) × IsAgents into agent e × (time_of e ≡ time) × MayTurn e agent → IsToldAt pairs agent time
-    told_by time inside w = record { entry = w.0; has = p_are.has w.0 w.1 (subst (IsIn span) (sym w.2) inside); at = w.2; turn = w.3 }
-
-    told_out : (e : Conflict) → IsIn span (time_of e) → IsLeft out route e → IsToldAt pairs agent (time_of e)
-    told_out (Vertex x a b c) inside left = absurd left
-    told_out (Parked x a b c) inside left = absurd left
-    told_out (Edge x a b c n) inside left = absurd left
-    told_out (Following x a b c) inside left = absurd left
-    told_out (Swapping x a b c n) inside left = absurd left
-    told_out (Cycle x r) inside left = told_by x inside (told_broken x r left)
-
-    told_into : (e : Conflict) → IsIn span (time_of e) → IsLeft into route e → IsToldAt pairs agent (time_of e)
-    told_into (Vertex x a b c) inside left = absurd left
-    told_into (Parked x a b c) inside left = absurd left
-    told_into (Edge x a b c n) inside left = absurd left
-    told_into (Following x a b c) inside left = absurd left
-    told_into (Swapping x a b c n) inside left = absurd left
-    told_into (Cycle x r) inside left = told_by x inside (told_joined x r left)
+    -- where such rings have an entry that tells of them, the agent's entries have it
+    told_at : (turn : Turn) (fleet : Fleet) → ((x : ℕ) (r : List ℕ) → IsLeftAt fleet route x r → (e : Conflict) × IsAgents into agent e × (time_of e ≡ x) × MayTurn turn e agent) → (e : Conflict) → IsIn span (time_of e) → IsLeft fleet route e → IsToldAt turn pairs agent (time_of e)
+    told_at turn fleet tells (Vertex x a b c) inside left = absurd left
+    told_at turn fleet tells (Parked x a b c) inside left = absurd left
+    told_at turn fleet tells (Edge x a b c n) inside left = absurd left
+    told_at turn fleet tells (Following x a b c) inside left = absurd left
+    told_at turn fleet tells (Swapping x a b c n) inside left = absurd left
+    told_at turn fleet tells (Cycle x r) inside left = let w = tells x r left in record { entry = w.0; has = p_are.has w.0 w.1 (subst (IsIn span) (sym w.2) inside); at = w.2; may = w.3 }
 
     b_is : (e : Conflict) → IsIn span (time_of e) → Contains broken e ↔ IsLeft out route e
-    b_is e inside = (λ h. (b_only e h).0, λ left. b_has e left (told_out e inside left))
+    b_is e inside = (λ h. (b_only e h).0, λ left. b_has e left (told_at Broken out told_broken e inside left))
 
     j_is : (e : Conflict) → IsIn span (time_of e) → Contains joined e ↔ IsLeft into route e
-    j_is e inside = (λ h. (j_only e h).0, λ left. j_has e left (told_into e inside left))
+    j_is e inside = (λ h. (j_only e h).0, λ left. j_has e left (told_at Joined into told_joined e inside left))
 
     p_is : (e : Conflict) → IsIn span (time_of e) → Contains pairs e ↔ IsAgents into agent e
     p_is e inside = (λ h. (p_are.only e h).0, λ is. p_are.has e is inside)

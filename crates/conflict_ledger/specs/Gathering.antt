@@ -10,7 +10,7 @@ use Rattle.conflict_ledger.specs.Spans.{IsIn}
 use Rattle.conflict_ledger.specs.declared.spans.Span.{Span}
 use Rattle.mapf_rules.specs.declared.entries.Conflict.{Conflict}
 use Rattle.mapf_rules.specs.declared.entries.Conflict.TheVariants.{Vertex, Parked, Edge, Following, Swapping, Cycle}
-use Rattle.where_index.specs.declared.spots.Spot.{Spot}
+use Rattle.cell_spots.specs.declared.spot_sets.Spot.{Spot}
 use Rattle.conflict_ledger.specs.declared.places.Place.{Place}
 use Rattle.conflict_ledger.specs.declared.places.Place.TheVariants.{Beside, Ahead, Behind}
 

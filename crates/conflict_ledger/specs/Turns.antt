@@ -5,6 +5,8 @@ use Rattle.plan_table.specs.Route.{Route, Fleet}
 use Rattle.mapf_rules.specs.Cycles.{IsRingAt}
 use Rattle.mapf_rules.specs.Naming.{time_of}
 use Rattle.conflict_ledger.specs.Sight.{own_place}
+use Rattle.conflict_ledger.specs.declared.turns.Turn.{Turn}
+use Rattle.conflict_ledger.specs.declared.turns.Turn.TheVariants.{Broken, Joined}
 use Rattle.mapf_rules.specs.declared.entries.Conflict.{Conflict}
 use Rattle.mapf_rules.specs.declared.entries.Conflict.TheVariants.{Vertex, Parked, Edge, Following, Swapping, Cycle}
 
@@ -26,19 +28,32 @@ IsLeft fleet route (Following time follower leader cell) = ⊥
 IsLeft fleet route (Swapping time first second cell other) = ⊥
 IsLeft fleet route (Cycle time ring) = IsLeftAt fleet route time ring
 
--- the entry is a meeting before the later path's end, or of one who follows the agent: where the agent's moves make or break
--- a ring, there is one
-abbrev pub MayTurn : Conflict → ℕ → Type 0
-MayTurn (Vertex time first second cell) agent = Unit {0}
-MayTurn (Parked time first second cell) agent = ⊥
-MayTurn (Edge time first second cell next) agent = ⊥
-MayTurn (Following time follower leader cell) agent = leader ≡ agent
-MayTurn (Swapping time first second cell other) agent = ⊥
-MayTurn (Cycle time ring) agent = ⊥
+-- the entry is a meeting before the later path's end: where the agent's moves break a ring of others, there is one
+abbrev pub MayBreak : Conflict → Type 0
+MayBreak (Vertex time first second cell) = Unit {0}
+MayBreak (Parked time first second cell) = ⊥
+MayBreak (Edge time first second cell next) = ⊥
+MayBreak (Following time follower leader cell) = ⊥
+MayBreak (Swapping time first second cell other) = ⊥
+MayBreak (Cycle time ring) = ⊥
+
+-- the entry is of one who follows the agent: where the agent is in a ring, there is one
+abbrev pub MayJoin : Conflict → ℕ → Type 0
+MayJoin (Vertex time first second cell) agent = ⊥
+MayJoin (Parked time first second cell) agent = ⊥
+MayJoin (Edge time first second cell next) agent = ⊥
+MayJoin (Following time follower leader cell) agent = leader ≡ agent
+MayJoin (Swapping time first second cell other) agent = ⊥
+MayJoin (Cycle time ring) agent = ⊥
+
+-- the entry lets the agent's moves break, or join, a ring at its time
+abbrev pub MayTurn : Turn → Conflict → ℕ → Type 0
+MayTurn Broken entry agent = MayBreak entry
+MayTurn Joined entry agent = MayJoin entry agent
 
 -- one of the entries is such a one at that time
-pub record IsToldAt (entries : List Conflict) (agent time : ℕ) : Type 0 where
+pub record IsToldAt (turn : Turn) (entries : List Conflict) (agent time : ℕ) : Type 0 where
   pub entry : Conflict
   pub has : Contains entries entry
   pub at : time_of entry ≡ time
-  pub turn : MayTurn entry agent
+  pub may : MayTurn turn entry agent

@@ -9,7 +9,7 @@ use crate::gather::gather;
 use crate::kept::KeptEntries;
 use crate::sight::Sight;
 use crate::spans::Span;
-use crate::turns::rings_left;
+use crate::turns::{Turn, rings_left};
 use grid_cells::{Agent, OutOfMemory};
 use plan_table::Track;
 use std::alloc::Global;
@@ -39,8 +39,8 @@ impl KeptEntries {
             shown: Some(track),
         };
         let entries = gather(alloc, &with, span)?;
-        let broken = rings_left(alloc, &without, &with, &entries)?;
-        let joined = rings_left(alloc, &with, &with, &entries)?;
+        let broken = rings_left(alloc, &without, &with, Turn::Broken, &entries)?;
+        let joined = rings_left(alloc, &with, &with, Turn::Joined, &entries)?;
         self.lose_all(&broken);
         self.put_all(joined)?;
         self.put_all(entries)?;
@@ -70,8 +70,8 @@ impl KeptEntries {
             shown: Some(track),
         };
         let entries = gather(alloc, &with, span)?;
-        let broken = rings_left(alloc, &without, &with, &entries)?;
-        let joined = rings_left(alloc, &with, &with, &entries)?;
+        let broken = rings_left(alloc, &without, &with, Turn::Broken, &entries)?;
+        let joined = rings_left(alloc, &with, &with, Turn::Joined, &entries)?;
         self.lose_all(&joined);
         self.lose_all(&entries);
         self.put_all(broken)?;

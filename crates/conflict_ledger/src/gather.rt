@@ -10,11 +10,11 @@ use crate::places::{Place, edge_of, following_of, in_order, meeting_of, place_of
 use crate::resting::gather_late;
 use crate::sight::Sight;
 use crate::spans::Span;
+use cell_spots::Spot;
 use grid_cells::{Agent, Cell, OutOfMemory, Step};
 use mapf_rules::{Conflict, offer};
 use std::alloc::Global;
 use std::collections::btree_set::Range;
-use where_index::Spot;
 
 // Adds the entries that the agent has in that step with the other one where they meet in that place.
 fn offer_met(

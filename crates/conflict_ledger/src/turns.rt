@@ -12,6 +12,13 @@ use grid_cells::{Agent, Cell, OutOfMemory, Step};
 use mapf_rules::{Conflict, Movers, offer, ring_out_of};
 use std::alloc::Global;
 
+// Which rings an agent's moves turn: those of the others that they break, or those that they join.
+#[derive(Clone, Copy)]
+pub(crate) enum Turn {
+    Broken,
+    Joined,
+}
+
 // Whether the view can show a ring in that step at the cell. Where nobody moves the opposite way of
 // the agent that moves out of it, there is none, however long the chain of agents ahead is. The way
 // of the view's own agent is known without a look at who moves out of the cell.
@@ -43,10 +50,10 @@ fn ring_left_at(
     let Some(cell) = with.own(time) else {
         return Ok(None);
     };
-    let Some(_to) = with.own_move(time, cell) else {
+    let Some(to) = with.own(time + 1) else {
         return Ok(None);
     };
-    if !may_ring(view, time, cell) {
+    if to == cell || !may_ring(view, time, cell) {
         return Ok(None);
     }
     match ring_out_of(alloc, view, time, cell)? {
@@ -58,29 +65,30 @@ fn ring_left_at(
     }
 }
 
-// Whether a ring that the agent's moves make or break can stand at the entry's time.
-fn may_turn(entry: &Conflict, agent: Agent) -> bool
-    ensures { IsTrue result ↔ MayTurn entry.now agent }
+// Whether the agent's moves can turn such a ring at the entry's time: they break one only where the
+// agent meets a member of it in its cell, and join one only where another follows the agent.
+fn may_turn(turn: Turn, entry: &Conflict, agent: Agent) -> bool
+    ensures { IsTrue result ↔ MayTurn turn entry.now agent }
 {
-    match entry {
-        Conflict::Vertex { .. } => true,
-        Conflict::Following { leader, .. } => *leader == agent,
-        _ => false,
+    match turn {
+        Turn::Broken => matches!(entry, Conflict::Vertex { .. }),
+        Turn::Joined => matches!(entry, Conflict::Following { leader, .. } if *leader == agent),
     }
 }
 
 // The ring that the view shows at the entry's time at the cell that the agent of the other sight
-// moves out of, where the entry lets one stand.
+// moves out of, where the entry lets the agent's moves turn one.
 fn ring_told(
     alloc: Global,
     view: &Sight<'_>,
     with: &Sight<'_>,
+    turn: Turn,
     entry: &Conflict,
 ) -> Result<Option<Conflict>, OutOfMemory>
-    ensures only { IfOk result (λ found. (fleet : Fleet) → Sees view.now fleet → IfSome found (λ ring. IsLeft fleet (option_map route_of with.now.shown) ring × (time_of ring ≡ time_of entry.now) × MayTurn entry.now with.now.agent)) }
-    ensures has { IfOk result (λ found. (fleet other : Fleet) (ring : Conflict) → Sees view.now fleet → Sees with.now other → IsLeft fleet (option_map route_of with.now.shown) ring → time_of ring ≡ time_of entry.now → MayTurn entry.now with.now.agent → found ≡ Some ring) }
+    ensures only { IfOk result (λ found. (fleet : Fleet) → Sees view.now fleet → IfSome found (λ ring. IsLeft fleet (option_map route_of with.now.shown) ring × (time_of ring ≡ time_of entry.now) × MayTurn turn entry.now with.now.agent)) }
+    ensures has { IfOk result (λ found. (fleet other : Fleet) (ring : Conflict) → Sees view.now fleet → Sees with.now other → IsLeft fleet (option_map route_of with.now.shown) ring → time_of ring ≡ time_of entry.now → MayTurn turn entry.now with.now.agent → found ≡ Some ring) }
 {
-    if !may_turn(entry, with.agent) {
+    if !may_turn(turn, entry, with.agent) {
         return Ok(None);
     }
     let time = entry.time().number();
@@ -92,19 +100,20 @@ fn ring_told(
 }
 
 /// The rings that the view shows at the cells that the agent of the other sight moves out of, at the
-/// times at which one of that agent's entries lets one stand.
+/// times at which one of that agent's entries lets its moves turn one.
 pub(crate) fn rings_left(
     alloc: Global,
     view: &Sight<'_>,
     with: &Sight<'_>,
+    turn: Turn,
     entries: &[Conflict],
 ) -> Result<Vec<Conflict>, OutOfMemory>
-    ensures only { IfOk result (λ rings. (fleet : Fleet) → Sees view.now fleet → (entry : Conflict) → Contains rings.items entry → IsLeft fleet (option_map route_of with.now.shown) entry × IsToldAt entries.now with.now.agent (time_of entry)) }
-    ensures has { IfOk result (λ rings. (fleet other : Fleet) → Sees view.now fleet → Sees with.now other → (entry : Conflict) → IsLeft fleet (option_map route_of with.now.shown) entry → IsToldAt entries.now with.now.agent (time_of entry) → Contains rings.items entry) }
+    ensures only { IfOk result (λ rings. (fleet : Fleet) → Sees view.now fleet → (entry : Conflict) → Contains rings.items entry → IsLeft fleet (option_map route_of with.now.shown) entry × IsToldAt turn entries.now with.now.agent (time_of entry)) }
+    ensures has { IfOk result (λ rings. (fleet other : Fleet) → Sees view.now fleet → Sees with.now other → (entry : Conflict) → IsLeft fleet (option_map route_of with.now.shown) entry → IsToldAt turn entries.now with.now.agent (time_of entry) → Contains rings.items entry) }
 {
     let mut rings = Vec::new(alloc);
     for entry in entries {
-        let found = ring_told(alloc, view, with, entry)?;
+        let found = ring_told(alloc, view, with, turn, entry)?;
         offer(&mut rings, found)?;
     }
     Ok(rings)

@@ -24,14 +24,16 @@ use Rattle.plan_table.proofs.Fleets.{row_here}
 use Rattle.plan_table.proofs.Rows.{rows_few}
 use Rattle.cost_ledger.specs.Kept.{Keeps, AreSpots, AreRests, SwapsRow, last_of_row, ends_elsewhere, sum_of_rows, rest, visit_cmp}
 use Rattle.cost_ledger.specs.Ledger.{SameBut, SameAt}
-use Rattle.cost_ledger.specs.Spots.{spot_of, Gains, Loses, GainsAll, LosesAll, IsSpotIn, AreThrough}
+use Rattle.cell_spots.specs.Spot.{Gains, Loses}
+use Rattle.cell_spots.specs.Spot.{AreBetween}
+use Rattle.cost_ledger.specs.Spots.{spot_of, GainsAll, LosesAll, IsSpotIn}
 use Rattle.mapf_rules.specs.Visits.{IsBlocked, visit_key, AreVisits}
 use Rattle.mapf_rules.specs.VisitSearch.{IsVisitIn}
 use Rattle.cost_ledger.specs.declared.rests.Rest.{Rest}
-use Rattle.cost_ledger.specs.declared.spots.Spot.{Spot}
+use Rattle.cell_spots.specs.declared.spot_sets.Spot.{Spot}
 use Rattle.mapf_rules.specs.declared.visits.Visit.{Visit}
 use Rattle.cost_ledger.proofs.KeyOrders.{visit_total}
-use Rattle.cost_ledger.proofs.SpotOrder.{from_lt, from_eq, cases3}
+use Rattle.cell_spots.proofs.SpotOrder.{from_lt, from_eq, cases3}
 use Rattle.mapf_rules.proofs.Visiting.{key_before}
 use Rattle.cost_ledger.proofs.RowSums.{sum_remove}
 
@@ -296,7 +298,7 @@ point_cases a b = elim (same_or_apart a.x b.x) [
   ]
 ]
 
-module _ (old new grid : Chart) (rows : List (ℕ × Row)) (spots found : List Spot) (cell : Point) (before visits : List Visit) (paths : (agent : ℕ) (row : Row) → row_of rows agent ≡ Some row → IsPath row.plan) (are : AreSpots rows spots) (through : AreThrough spots cell MOST_LAST_INDEX found) (but : SameBut old new cell) (at : SameAt grid new cell) (sorted : IsStrictlySortedBy visit_cmp visits) (were : AreVisits old rows before) where
+module _ (old new grid : Chart) (rows : List (ℕ × Row)) (spots found : List Spot) (cell : Point) (before visits : List Visit) (paths : (agent : ℕ) (row : Row) → row_of rows agent ≡ Some row → IsPath row.plan) (are : AreSpots rows spots) (through : AreBetween spots cell 0 MOST_LAST_INDEX found) (but : SameBut old new cell) (at : SameAt grid new cell) (sorted : IsStrictlySortedBy visit_cmp visits) (were : AreVisits old rows before) where
   found_at : (v : Visit) → Contains found (spot_of v) → (v.cell ≡ cell) × ((row : Row) × (row_of rows v.agent ≡ Some row) × (v.time ≤ last_index row.plan) × (place row.plan v.time ≡ Some v.cell))
   found_at v h =
       let is = (through (spot_of v)).0 h in
@@ -306,7 +308,7 @@ module _ (old new grid : Chart) (rows : List (ℕ × Row)) (spots found : List S
   at_found : (v : Visit) (row : Row) → v.cell ≡ cell → row_of rows v.agent ≡ Some row → v.time ≤ last_index row.plan → place row.plan v.time ≡ Some v.cell → Contains found (spot_of v)
   at_found v row e live on there =
       let short : last_index row.plan ≤ MOST_LAST_INDEX = (paths v.agent row live).walkable.short in
-      (through (spot_of v)).1 ((are (spot_of v)).1 (row, live, record { same_agent = refl; late = omega arith; early = omega arith; there = there }), e, omega arith)
+      (through (spot_of v)).1 ((are (spot_of v)).1 (row, live, record { same_agent = refl; late = omega arith; early = omega arith; there = there }), e, omega arith, omega arith)
 
   pub visits_closed : IsClosed grid cell → GainsAll before visits (λ v. Contains found (spot_of v)) → AreVisits new rows visits
   visits_closed closed gains = visits_listed new rows visits sorted (λ v. elim (point_cases v.cell cell) [

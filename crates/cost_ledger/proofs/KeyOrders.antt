@@ -6,7 +6,7 @@ use Rattle.std.proofs.lemmas.Cmp.{nat_cmp_total, on_total, then_total}
 use Rattle.cost_ledger.specs.Kept.{rest_cmp, visit_cmp}
 use Rattle.cost_ledger.specs.declared.rests.Rest.{Rest}
 use Rattle.mapf_rules.specs.declared.visits.Visit.{Visit}
-use Rattle.cost_ledger.proofs.SpotOrder.{then_equal}
+use Rattle.cell_spots.proofs.SpotOrder.{then_equal}
 
 pub rest_total : IsTotalOrder rest_cmp
 rest_total = then_total (on_total (λ (r : Rest). r.time) nat_cmp_total) (on_total (λ (r : Rest). r.agent) nat_cmp_total)

@@ -9,9 +9,10 @@ use Rattle.plan_table.proofs.Order.{Contains-cons_cases, Contains-cons_head, Con
 use Rattle.grid_cells.specs.Cell.{Point}
 use Rattle.grid_cells.specs.Grid.{Chart, IsClosed}
 use Rattle.plan_table.specs.Path.{last_index, place}
-use Rattle.cost_ledger.specs.Spots.{spot, spot_of, IsSpotIn}
+use Rattle.cell_spots.specs.Spot.{spot}
+use Rattle.cost_ledger.specs.Spots.{spot_of, IsSpotIn}
 use Rattle.mapf_rules.specs.VisitSearch.{IsVisitIn}
-use Rattle.cost_ledger.specs.declared.spots.Spot.{Spot}
+use Rattle.cell_spots.specs.declared.spot_sets.Spot.{Spot}
 use Rattle.mapf_rules.specs.declared.visits.Visit.{Visit}
 
 module _ (agent : ℕ) (path : List Point) (from : ℕ) where

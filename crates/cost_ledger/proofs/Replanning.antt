@@ -17,10 +17,10 @@ use Rattle.cost_ledger.specs.Replans.{Replaces, SameBelow}
 use Rattle.cost_ledger.specs.Spots.{spot_of, GainsAll, LosesAll, IsSpotIn}
 use Rattle.mapf_rules.specs.Visits.{IsBlocked, AreVisits}
 use Rattle.mapf_rules.specs.VisitSearch.{IsVisitIn}
-use Rattle.cost_ledger.specs.declared.spots.Spot.{Spot}
+use Rattle.cell_spots.specs.declared.spot_sets.Spot.{Spot}
 use Rattle.mapf_rules.specs.declared.visits.Visit.{Visit}
 use Rattle.cost_ledger.proofs.Keeping.{VisitOf, visit_in, of_take, of_put, visits_of, visits_listed}
-use Rattle.cost_ledger.proofs.Sets.{filter_keeps}
+use Rattle.cell_spots.proofs.Sets.{filter_keeps}
 
 false_true : {G : Type 0} → false ≡ true → G
 false_true e = absurd (cc)

@@ -15,7 +15,7 @@ use Rattle.std.proofs.lemmas.Map.Keys.{Less-from_sorted}
 use Rattle.plan_table.specs.Plans.{IsByAgent, row_of, ChangesRow}
 use Rattle.plan_table.specs.declared.plans.Row.{Row}
 use Rattle.cost_ledger.specs.Kept.{sum_of_rows}
-use Rattle.cost_ledger.proofs.SpotOrder.{from_lt, cases3}
+use Rattle.cell_spots.proofs.SpotOrder.{from_lt, cases3}
 
 same_test : (agent a : ℕ) → is_eq (nat_cmp agent a) ≡ eqb a agent
 same_test agent a = grind (arith, nat_tests)

@@ -9,7 +9,7 @@ use Rattle.plan_table.specs.Plans.{IsByAgent, row_of, ChangesRow}
 use Rattle.plan_table.specs.declared.plans.Row.{Row}
 use Rattle.cost_ledger.specs.Spots.{IsSpotIn}
 use Rattle.cost_ledger.specs.declared.rests.Rest.{Rest}
-use Rattle.cost_ledger.specs.declared.spots.Spot.{Spot}
+use Rattle.cell_spots.specs.declared.spot_sets.Spot.{Spot}
 use Rattle.mapf_rules.specs.declared.visits.Visit.{Visit}
 
 -- an agent and the time at which it comes to rest

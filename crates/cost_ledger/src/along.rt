@@ -4,7 +4,7 @@ ghost use Rattle.cost_ledger.specs.Spots.{spot_of, GainsAll, LosesAll, IsSpotIn}
 ghost use Rattle.mapf_rules.specs.VisitSearch.{IsVisitIn};
 
 use crate::blocked::Blocked;
-use crate::spots::{Spot, Spots};
+use cell_spots::{Spot, Spots};
 use grid_cells::{Agent, Grid, OutOfMemory, Step};
 use mapf_rules::{Visit, is_closed};
 use plan_table::Plan;

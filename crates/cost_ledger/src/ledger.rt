@@ -11,7 +11,8 @@ use crate::along::{lose_spots, set_blocked, unblock};
 use crate::blocked::Blocked;
 use crate::rests::Rests;
 use crate::rows::{Rows, elsewhere};
-use crate::spots::Spots;
+use crate::spots::through;
+use cell_spots::Spots;
 use grid_cells::{Agent, Cell, Grid, List, OutOfMemory};
 use mapf_rules::{Visit, is_closed, is_finished, settle_time};
 use plan_table::MOST_LAST_INDEX;
@@ -19,7 +20,7 @@ use std::alloc::Global;
 use std::marker::Model;
 
 /// The costs and the blocked visits of the rows put into it, kept under changes.
-#[derive(Debug, Drop)]
+#[derive(Drop)]
 pub struct CostLedger {
     alloc: Global,
     rows: Rows,
@@ -113,7 +114,7 @@ impl CostLedger {
         ensures rows { OnOk result (self.new.rows ≡ self.old.rows) }
         ensures stands { OnOk result ((old new : Chart) → StandsFor self.old old → SameBut old new cell → SameAt grid.now new cell → StandsFor self.new new) }
     {
-        let spots = self.spots.through(self.alloc, cell, MOST_LAST_INDEX)?;
+        let spots = through(&self.spots, self.alloc, cell, MOST_LAST_INDEX)?;
         set_blocked(&mut self.blocked, &spots, is_closed(grid, cell))?;
         let _count = self.blocked.count();
         Ok(())

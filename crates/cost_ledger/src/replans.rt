@@ -4,7 +4,8 @@ ghost use Rattle.plan_table.specs.Path.{last_index};
 ghost use Rattle.plan_table.specs.Plans.{row_of, ChangesRow, IsByAgent};
 ghost use Rattle.plan_table.specs.declared.plans.Row.{Row};
 ghost use Rattle.cost_ledger.specs.Kept.{ends_elsewhere, rest, sum_of_rows};
-ghost use Rattle.cost_ledger.specs.Spots.{spot_of, Gains, GainsAll, IsSpotIn};
+ghost use Rattle.cell_spots.specs.Spot.{Gains};
+ghost use Rattle.cost_ledger.specs.Spots.{spot_of, GainsAll, IsSpotIn};
 ghost use Rattle.mapf_rules.specs.VisitSearch.{IsVisitIn};
 ghost use Rattle.cost_ledger.specs.Replans.{Replaces, SameBelow, planned_row};
 
@@ -12,7 +13,7 @@ use crate::along::{add_spots, block, lose_spots, unblock};
 use crate::blocked::Blocked;
 use crate::rests::Rests;
 use crate::rows::{Rows, elsewhere};
-use crate::spots::Spots;
+use cell_spots::Spots;
 use grid_cells::{Agent, Cell, Grid, OutOfMemory};
 use plan_table::{Plan, Row};
 

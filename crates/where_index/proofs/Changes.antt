@@ -4,9 +4,9 @@ use Rattle.std.proofs.lemmas.Bool.Decides.{nat_tests}
 use Rattle.grid_cells.specs.Cell.{Point}
 use Rattle.where_index.specs.declared.moves.Move.{Move}
 use Rattle.where_index.specs.declared.hops.Place.{Place}
-use Rattle.where_index.specs.declared.spots.Spot.{Spot}
+use Rattle.cell_spots.specs.declared.spot_sets.Spot.{Spot}
 use Rattle.where_index.specs.declared.trails.Hop.{Hop}
-use Rattle.where_index.specs.Spot.{spot, Gains, Loses}
+use Rattle.cell_spots.specs.Spot.{spot, Gains, Loses}
 use Rattle.where_index.specs.Hops.{GainsAt, LosesAt}
 use Rattle.where_index.specs.Records.{changes_below, changed, changed_hop, same_point}
 use Rattle.where_index.specs.Changes.{HasSpots, HasHops, set_at, set_row, mixed}

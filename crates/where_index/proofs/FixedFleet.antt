@@ -7,9 +7,9 @@ use Rattle.std.proofs.lemmas.Option.{slice_get_within, unwrap_or-slice_get}
 use Rattle.grid_cells.specs.Cell.{Point}
 use Rattle.plan_table.specs.Path.{last_index}
 use Rattle.plan_table.specs.Route.{Route, position}
-use Rattle.where_index.specs.declared.spots.Spot.{Spot}
+use Rattle.cell_spots.specs.declared.spot_sets.Spot.{Spot}
 use Rattle.where_index.specs.declared.ends.End.{End}
-use Rattle.where_index.specs.Spot.{spot}
+use Rattle.cell_spots.specs.Spot.{spot}
 use Rattle.where_index.specs.Records.{stand_at, tail_at}
 use Rattle.where_index.specs.Changes.{HasSpots}
 use Rattle.where_index.specs.Ends.{IsEndOf}

@@ -9,13 +9,13 @@ use Rattle.std.proofs.lemmas.Option.{slice_get-get_or}
 use Rattle.grid_cells.specs.Cell.{Point}
 use Rattle.grid_cells.specs.declared.numbers.TheConstants.{MOST_AGENT}
 use Rattle.plan_table.specs.Route.{Route, Fleet}
-use Rattle.where_index.specs.declared.spots.Spot.{Spot}
+use Rattle.cell_spots.specs.declared.spot_sets.Spot.{Spot}
 use Rattle.where_index.specs.declared.trails.Hop.{Hop}
 use Rattle.where_index.specs.declared.ways.Way.{Way}
 use Rattle.where_index.specs.declared.ways.Way.TheVariants.{Up, Left, Right, Down}
 use Rattle.where_index.specs.declared.flows.Flows.{Flows}
-use Rattle.where_index.specs.Agents.{HaveAgents}
-use Rattle.where_index.specs.Spot.{spot}
+use Rattle.cell_spots.specs.Spot.{HaveAgents}
+use Rattle.cell_spots.specs.Spot.{spot}
 use Rattle.where_index.specs.Records.{stand_at, hop_at, hop_between}
 use Rattle.where_index.specs.Changes.{HasSpots}
 use Rattle.where_index.specs.Flows.{leads, goes, flow, HasFlows}

@@ -1,8 +1,6 @@
-pub mod Sets
-pub mod SpotOrder
 pub mod MoveSearch
 pub mod Rising
-pub mod HopOrder
+pub mod Places
 pub mod Changes
 pub mod Counts
 pub mod Flowing

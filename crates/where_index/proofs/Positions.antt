@@ -7,8 +7,9 @@ use Rattle.std.proofs.lemmas.Option.{slice_get_within}
 use Rattle.grid_cells.specs.Cell.{Point}
 use Rattle.plan_table.specs.Path.{last_index, place}
 use Rattle.plan_table.specs.Route.{Route, Fleet, position, position_of, last_of}
-use Rattle.where_index.specs.declared.spots.Spot.{Spot}
-use Rattle.where_index.specs.Spot.{AreBetween, spot, HasAgent, HasPassing, HasOther}
+use Rattle.cell_spots.specs.declared.spot_sets.Spot.{Spot}
+use Rattle.cell_spots.specs.Spot.{AreBetween, spot, HasOther}
+use Rattle.where_index.specs.Spot.{HasAgent, HasPassing}
 use Rattle.where_index.specs.Records.{route, stand_at, tail_at, hop_at, hop_between, same_point}
 use Rattle.where_index.specs.Changes.{HasSpots, HasHops}
 use Rattle.where_index.specs.declared.trails.Hop.{Hop}

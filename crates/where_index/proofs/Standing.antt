@@ -16,7 +16,7 @@ use Rattle.where_index.specs.Traffic.{ChangesMoves}
 use Rattle.where_index.specs.Index.{Contents, end_in, all_of, StandsFor, with_route}
 use Rattle.where_index.specs.Ends.{IsEndOf}
 use Rattle.where_index.specs.Records.{nothing}
-use Rattle.where_index.proofs.Sets.{tied_or_not}
+use Rattle.cell_spots.proofs.Sets.{tied_or_not}
 use Rattle.where_index.proofs.Changes.{HasSpots-ext, row_cases}
 use Rattle.where_index.proofs.Flowing.{HasTraffic-ext}
 

@@ -6,11 +6,11 @@ use Rattle.plan_table.specs.Order.{ListsAll}
 use Rattle.plan_table.specs.Route.{Fleet, position_of, last_of}
 use Rattle.where_index.specs.declared.moves.Move.{Move}
 use Rattle.where_index.specs.declared.passings.Passing.{Passing}
-use Rattle.where_index.specs.declared.spots.Spot.{Spot}
+use Rattle.cell_spots.specs.declared.spot_sets.Spot.{Spot}
 use Rattle.where_index.specs.declared.occupants.Occupants.{Occupants}
 use Rattle.where_index.specs.declared.ways.Way.{Way}
 use Rattle.where_index.specs.Flows.{leads}
-use Rattle.where_index.specs.Spot.{spot}
+use Rattle.cell_spots.specs.Spot.{spot}
 
 -- the agents whose position at that time is the cell, ascending
 abbrev pub AreStandingAt : Fleet → ℕ → Point → List ℕ → Type 0

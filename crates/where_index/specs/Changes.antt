@@ -2,7 +2,7 @@
 use Rattle.std.specs.Prelude.{◌≡◌, ◌↔◌, ℕ, ◌&&◌, ◌==◌, nat_lt, if◌then◌else◌, Option, Some, List, Contains}
 use Rattle.grid_cells.specs.Cell.{Point}
 use Rattle.plan_table.specs.Route.{Route}
-use Rattle.where_index.specs.declared.spots.Spot.{Spot}
+use Rattle.cell_spots.specs.declared.spot_sets.Spot.{Spot}
 use Rattle.where_index.specs.declared.moves.Move.{Move}
 use Rattle.where_index.specs.declared.hops.Place.{Place}
 use Rattle.where_index.specs.declared.trails.Hop.{Hop}

@@ -1,8 +1,6 @@
 -- Moves by place: the cell that they leave and the step.
-use Rattle.std.specs.Prelude.{◌≡◌, ◌⊎◌, ◌↔◌, ℕ, List, [], Contains, unwrap_or}
-use Rattle.std.specs.Ordering.{nat_cmp, ordering_then, is_eq}
+use Rattle.std.specs.Prelude.{◌≡◌, ◌⊎◌, ◌↔◌, ℕ, Bool, ◌&&◌, ◌==◌, List, [], Contains, unwrap_or}
 use Rattle.std.specs.Map.{lookup}
-use Rattle.std.specs.declared.cmp.Ordering.{Ordering}
 use Rattle.grid_cells.specs.Cell.{Point}
 use Rattle.where_index.specs.declared.moves.Move.{Move}
 use Rattle.where_index.specs.declared.hops.Place.{Place}
@@ -10,13 +8,13 @@ use Rattle.where_index.specs.declared.hops.Place.{Place}
 abbrev pub place : Point → ℕ → Place
 place cell time = record { cell = cell; time = time }
 
--- places compare by the cell's row and column, then time
-abbrev pub place_cmp : Place → Place → Ordering
-place_cmp a b = ordering_then (ordering_then (nat_cmp a.cell.y b.cell.y) (nat_cmp a.cell.x b.cell.x)) (nat_cmp a.time b.time)
+-- the two have the same cell and time
+abbrev pub place_eq : Place → Place → Bool
+place_eq a b = (a.cell.y == b.cell.y && a.cell.x == b.cell.x) && a.time == b.time
 
 -- the moves out of a cell in a step
 abbrev pub movers_in : List (Place × List Move) → Point → ℕ → List Move
-movers_in lists cell time = unwrap_or (lookup (λ k. is_eq (place_cmp (place cell time) k)) lists) []
+movers_in lists cell time = unwrap_or (lookup (place_eq (place cell time)) lists) []
 
 -- new has that move in place of the agent's there, and the other moves of old
 abbrev pub GainsAt : List (Place × List Move) → List (Place × List Move) → Point → ℕ → Move → Type 0

@@ -1,5 +1,4 @@
 pub mod Spot
-pub mod Agents
 pub mod Moves
 pub mod Hops
 pub mod Records

@@ -6,7 +6,7 @@ ghost use Rattle.where_index.specs.declared.passings.Passing.{Passing};
 ghost use Rattle.where_index.specs.Spot.{HasAgent, HasPassing, passing_cmp};
 
 use crate::passings::Passing;
-use crate::spots::Spot;
+use cell_spots::Spot;
 use grid_cells::{Agent, List, OutOfMemory};
 use std::alloc::Global;
 use std::collections::BTreeSet;

@@ -7,11 +7,11 @@ ghost use Rattle.where_index.specs.Moves.{AreByAgent};
 use crate::moves::{Move, MoveList};
 use grid_cells::{Agent, Cell, OutOfMemory};
 use std::alloc::Global;
-use std::collections::BTreeMap;
+use std::collections::HashMap;
 use std::marker::Model;
 
-/// A cell at a time. Places compare by cell, then time.
-#[derive(Clone, Copy, Debug, PartialEq, Eq, PartialOrd, Ord)]
+/// A cell at a time.
+#[derive(Clone, Copy, Debug, PartialEq, Eq, Hash)]
 pub struct Place {
     pub cell: Cell,
     pub time: u32,
@@ -21,7 +21,7 @@ pub struct Place {
 #[derive(Drop)]
 pub struct Hops {
     alloc: Global,
-    lists: BTreeMap<Place, MoveList>,
+    lists: HashMap<Place, MoveList>,
 }
 
 impl Model for Hops {
@@ -41,7 +41,7 @@ impl Hops {
     {
         Hops {
             alloc,
-            lists: BTreeMap::new(alloc),
+            lists: HashMap::new(alloc),
         }
     }
 
@@ -60,14 +60,12 @@ impl Hops {
     pub fn add(&mut self, cell: Cell, time: u32, added: Move) -> Result<(), OutOfMemory>
         ensures { OnOk result (GainsAt self.old self.new cell time added) }
     {
-        let place = Place { cell, time };
-        let mut list = self
+        let list = self
             .lists
-            .remove(&place)
-            .unwrap_or(MoveList::new(self.alloc));
+            .entry(Place { cell, time })?
+            .or_insert(MoveList::new(self.alloc));
         list.lose(added.agent);
         list.add(added)?;
-        self.lists.insert(place, list)?;
         Ok(())
     }
 
@@ -82,7 +80,7 @@ impl Hops {
 }
 
 // Takes an empty list out.
-fn drop_list(lists: &mut BTreeMap<Place, MoveList>, cell: Cell, time: u32)
+fn drop_list(lists: &mut HashMap<Place, MoveList>, cell: Cell, time: u32)
     requires { movers_in lists.old.entries cell time ≡ [] }
     ensures { (c : Point) (t : ℕ) → movers_in lists.new.entries c t ≡ movers_in lists.old.entries c t }
 {
@@ -90,7 +88,7 @@ fn drop_list(lists: &mut BTreeMap<Place, MoveList>, cell: Cell, time: u32)
 }
 
 // Takes the agent's move out of the place's list, and answers whether the list is empty then.
-fn lose_in(lists: &mut BTreeMap<Place, MoveList>, cell: Cell, time: u32, agent: Agent) -> bool
+fn lose_in(lists: &mut HashMap<Place, MoveList>, cell: Cell, time: u32, agent: Agent) -> bool
     ensures lost { LosesAt lists.old.entries lists.new.entries cell time agent }
     ensures empty { OnTrue result (movers_in lists.new.entries cell time ≡ []) }
 {

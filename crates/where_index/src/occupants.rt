@@ -1,4 +1,4 @@
-use crate::spots::Spot;
+use cell_spots::Spot;
 use std::collections::btree_set::Range;
 
 /// Who is in one cell at steps from one to another. Both parts go by time, then agent.

@@ -6,7 +6,7 @@ ghost use Rattle.where_index.specs.Traffic.{HasTraffic, ChangesMoves};
 
 use crate::hop_changes::change_hops;
 use crate::spot_changes::{change_stands, change_tails};
-use crate::spots::Spots;
+use cell_spots::Spots;
 use crate::traffic::Traffic;
 use crate::trails::Trail;
 use grid_cells::{Agent, OutOfMemory};

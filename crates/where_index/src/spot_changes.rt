@@ -3,7 +3,7 @@ ghost use Rattle.plan_table.specs.declared.paths.TheConstants.{MOST_LAST_INDEX};
 ghost use Rattle.where_index.specs.Records.{stand_at, tail_at, changed, changes_below};
 ghost use Rattle.where_index.specs.Changes.{ChangesSpots, ChangesSpot};
 
-use crate::spots::Spots;
+use cell_spots::Spots;
 use crate::trails::Trail;
 use grid_cells::{Agent, Cell, OutOfMemory};
 

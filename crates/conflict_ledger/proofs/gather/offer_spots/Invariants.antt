@@ -1,6 +1,6 @@
 use Rattle.std.proofs.Common.{◌≡◌, ◌⊎◌, Contains}
 use Rattle.plan_table.specs.Route.{Fleet}
-use Rattle.where_index.specs.declared.spots.Spot.{Spot}
+use Rattle.cell_spots.specs.declared.spot_sets.Spot.{Spot}
 use Rattle.conflict_ledger.specs.Sight.{Sees}
 use Rattle.conflict_ledger.specs.Gathering.{Gathers, IsWhere, AreNear, HasMet, place_of}
 use Rattle.conflict_ledger.proofs.gather.offer_spots.Given as goal

@@ -1,6 +1,7 @@
 use Rattle.std.proofs.Common.{◌≡◌, ◌+◌, Some, subst, arith}
 use Rattle.plan_table.specs.Path.{last_index, place}
-use Rattle.cost_ledger.specs.Spots.{IsSpotIn, LosesAll, Loses, spot_of}
+use Rattle.cell_spots.specs.Spot.{Loses}
+use Rattle.cost_ledger.specs.Spots.{IsSpotIn, LosesAll, spot_of}
 use Rattle.mapf_rules.specs.declared.visits.Visit.{Visit}
 use Rattle.cost_ledger.proofs.Sets.{loses_more, loses_none}
 use Rattle.cost_ledger.proofs.PathSteps.{visit_more, no_spot}

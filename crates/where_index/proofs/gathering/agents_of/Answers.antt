@@ -1,7 +1,7 @@
 use Rattle.std.proofs.Common.{◌⊎◌, [], ◌∷◌, sym, subst}
 use Rattle.std.proofs.lemmas.Result.{IfOk-weaker}
 use Rattle.plan_table.specs.Order.{ListsAll}
-use Rattle.where_index.specs.declared.spots.Spot.{Spot}
+use Rattle.cell_spots.specs.declared.spot_sets.Spot.{Spot}
 use Rattle.where_index.specs.Spot.{HasAgent}
 use Rattle.where_index.proofs.Gathered.{gathers_two, agents_ascend}
 use Rattle.where_index.proofs.gathering.agents_of.Goals as goal

@@ -1,7 +1,7 @@
 use Rattle.std.proofs.lemmas.Cmp.{nat_cmp_total}
 use Rattle.std.proofs.lemmas.Map.Lookups.{exact_unsigned}
-use Rattle.where_index.specs.declared.spots.Spot.{Spot}
-use Rattle.where_index.proofs.Sets.{set_gains}
+use Rattle.cell_spots.specs.declared.spot_sets.Spot.{Spot}
+use Rattle.cell_spots.proofs.Sets.{set_gains}
 use Rattle.where_index.proofs.Gathered.{gathers_none, gathers_more, gathers_all}
 use Rattle.where_index.proofs.gathering.gather_agents.Goals as goal
 

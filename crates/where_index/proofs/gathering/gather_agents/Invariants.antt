@@ -1,4 +1,4 @@
-use Rattle.where_index.specs.declared.spots.Spot.{Spot}
+use Rattle.cell_spots.specs.declared.spot_sets.Spot.{Spot}
 use Rattle.where_index.proofs.Gathered.{Gathers}
 use Rattle.where_index.proofs.gathering.gather_agents.Given as goal
 

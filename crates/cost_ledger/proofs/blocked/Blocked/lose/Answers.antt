@@ -1,4 +1,4 @@
-use Rattle.cost_ledger.proofs.Sets.{set_loses}
+use Rattle.cell_spots.proofs.Sets.{set_loses}
 use Rattle.cost_ledger.proofs.KeyOrders.{visit_total, visit_exact}
 use Rattle.cost_ledger.proofs.blocked.Blocked.lose.Goals as goal
 

@@ -1,6 +1,6 @@
 use Rattle.std.proofs.Common.{◌≡◌, List, Contains, subst}
 use Rattle.cost_ledger.specs.Spots.{spot_of, GainsAll, LosesAll}
-use Rattle.cost_ledger.specs.declared.spots.Spot.{Spot}
+use Rattle.cell_spots.specs.declared.spot_sets.Spot.{Spot}
 use Rattle.mapf_rules.specs.declared.visits.Visit.{Visit}
 use Rattle.cost_ledger.proofs.Keeping.{visits_flipped}
 use Rattle.cost_ledger.proofs.ledger.CostLedger.give_state.Goals as goal

@@ -2,7 +2,7 @@ use Rattle.std.proofs.Common.{◌≡◌, ◌-◌, Some, refl, sym, arith}
 use Rattle.plan_table.specs.Plans.{row_of}
 use Rattle.plan_table.specs.declared.plans.Row.{Row}
 use Rattle.cost_ledger.specs.Kept.{Keeps, ends_elsewhere, last_of_row}
-use Rattle.cost_ledger.specs.declared.spots.Spot.{Spot}
+use Rattle.cell_spots.specs.declared.spot_sets.Spot.{Spot}
 use Rattle.cost_ledger.proofs.Keeping.{keeps_put, keeps_take, total_small, elsewhere_small, one_at_most}
 use Rattle.cost_ledger.proofs.Replanning.{same_below, others, spots_lost, spots_gained, visits_replanned}
 use Rattle.cost_ledger.proofs.ledger.CostLedger.set_plan.Goals as goal

@@ -1,4 +1,4 @@
-use Rattle.cost_ledger.proofs.Sets.{set_gains}
+use Rattle.cell_spots.proofs.Sets.{set_gains}
 use Rattle.cost_ledger.proofs.KeyOrders.{rest_total, rest_exact}
 use Rattle.cost_ledger.proofs.rests.Rests.add.Goals as goal
 

@@ -1,0 +1,18 @@
+use Rattle.std.proofs.Common.{◌≤◌, arith}
+use Rattle.grid_cells.specs.declared.numbers.TheConstants.{MOST_AGENT}
+use Rattle.cell_spots.specs.Spot.{spot}
+use Rattle.cell_spots.proofs.ByCell.{still, still_gained, all_gained}
+use Rattle.cell_spots.proofs.spots.Spots.add.Goals as goal
+
+pub invariant_of-self : goal.invariant_of-self
+invariant_of-self c = (c.self.invariant.0, still _ _ c.self.invariant.1 c.in_err-add_in.ensures.refused)
+
+pub invariant_of-self-2 : goal.invariant_of-self-2
+invariant_of-self-2 c =
+    let few : c.args.agent ≤ MOST_AGENT = omega arith in
+    (c.self.invariant.0, still_gained _ _ c.self.invariant.1 (spot c.args.cell c.args.time c.args.agent) few c.in_ok-add_in.ensures.gains)
+
+pub returns : goal.returns
+returns c =
+    let few : c.args.agent ≤ MOST_AGENT = omega arith in
+    rw (← c.self.view_is) (all_gained _ _ c.self.invariant.1 (spot c.args.cell c.args.time c.args.agent) few c.in_ok-add_in.ensures.gains)
