@@ -122,8 +122,7 @@ module _ (old new : List (Point × List Spot)) (are : AreByCell old) where
     pub all_gained : s.agent ≤ MOST_AGENT → GainsAt old new s → Gains (all_of old) (all_of new) s
     all_gained few gains v =
         let before = by_cell old are v in
-        let after = by_cell new (still_gained few gains) v in
-        (
+        let after = by_cell new (still_gained few gains) v in (
           (λ h. elim ((gains v.cell v).0 (after.0 h)) [ inl o ↦ inl (before.1 o) | inr is ↦ inr is.1 ]),
           (λ h. elim h [ inl o ↦ after.1 ((gains v.cell v).1 (inl (before.0 o))) | inr is ↦ after.1 ((gains v.cell v).1 (inr (ap (λ (w : Spot). w.cell) is, is))) ]),
         )
@@ -134,8 +133,7 @@ module _ (old new : List (Point × List Spot)) (are : AreByCell old) where
     pub all_lost : LosesAt old new s → Loses (all_of old) (all_of new) s
     all_lost loses v =
         let before = by_cell old are v in
-        let after = by_cell new (still_lost loses) v in
-        (
+        let after = by_cell new (still_lost loses) v in (
           (λ h. let l = (loses v.cell v).0 (after.0 h) in (before.1 l.0, λ is. l.1 (ap (λ (w : Spot). w.cell) is, is))),
           (λ h. after.1 ((loses v.cell v).1 (before.0 h.0, λ is. h.1 is.1))),
         )

@@ -6,12 +6,7 @@ use grid_cells::{Cell, OutOfMemory};
 use std::alloc::Global;
 
 /// The spots at the cell up to the time.
-pub fn through(
-    spots: &Spots,
-    alloc: Global,
-    cell: Cell,
-    to: u32,
-) -> Result<Vec<Spot>, OutOfMemory>
+pub fn through(spots: &Spots, alloc: Global, cell: Cell, to: u32) -> Result<Vec<Spot>, OutOfMemory>
     ensures { IfOk result (λ found. AreBetween spots.now cell 0 to found.items) }
 {
     let mut found = Vec::new(alloc);

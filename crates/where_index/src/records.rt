@@ -6,9 +6,9 @@ ghost use Rattle.where_index.specs.Traffic.{HasTraffic, ChangesMoves};
 
 use crate::hop_changes::change_hops;
 use crate::spot_changes::{change_stands, change_tails};
-use cell_spots::Spots;
 use crate::traffic::Traffic;
 use crate::trails::Trail;
+use cell_spots::Spots;
 use grid_cells::{Agent, OutOfMemory};
 use std::alloc::Global;
 

@@ -3,8 +3,8 @@ ghost use Rattle.plan_table.specs.declared.paths.TheConstants.{MOST_LAST_INDEX};
 ghost use Rattle.where_index.specs.Records.{stand_at, tail_at, changed, changes_below};
 ghost use Rattle.where_index.specs.Changes.{ChangesSpots, ChangesSpot};
 
-use cell_spots::Spots;
 use crate::trails::Trail;
+use cell_spots::Spots;
 use grid_cells::{Agent, Cell, OutOfMemory};
 
 /// Puts the new trail's stands in the place of the old one's, and counts those that only one of the

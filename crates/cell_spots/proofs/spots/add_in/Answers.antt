@@ -14,7 +14,7 @@ returns-in-Some-clause-gains c =
     let found = sym c.get_mut.ensures.value ∙ ap option_copied_mut c.in-Some.is in
     let before : spots_at c.args.sets.now.entries c.args.cell ≡ c.in-Some.set.now = ap (λ (o : Option (List Spot)). unwrap_or o []) found in
     on_ok_weaker c.add.result (λ g. gains_at _ _ (spot c.args.cell c.args.time c.args.agent) c.add.new.self
-      (subst (λ l. Gains l c.add.new.self (spot c.args.cell c.args.time c.args.agent)) (sym before) g) (h.3 (subst IsSome (sym found) refl)).0) c.add.ensures.gains
+    (subst (λ l. Gains l c.add.new.self (spot c.args.cell c.args.time c.args.agent)) (sym before) g) (h.3 (subst IsSome (sym found) refl)).0) c.add.ensures.gains
 
 pub returns-in-Some-clause-refused : goal.returns-in-Some-clause-refused
 returns-in-Some-clause-refused c =
