@@ -12,11 +12,13 @@ import tempfile
 
 sys.dont_write_bytecode = True
 
-from processes import answers, bounds, checks, demos, drawing, faults, fleets, hosting, kills, memory, pictures, saving, stepping, streams, telling, words
+from processes import answers, bounds, chances, checks, demos, drawing, drills, faults, fleets, hosting, kills, lines, memory, pictures, saving
+from processes import stepping, streams, telling, windows, words
 from processes.running import PATIENCE, TOP, Program, Wrong, put
 from processes.texts import FILES
 
-TOPICS = (faults, words, answers, telling, checks, fleets, pictures, drawing, hosting, saving, kills, stepping, streams, memory, bounds, demos)
+TOPICS = (faults, words, answers, telling, checks, fleets, pictures, drawing, hosting, windows, drills, chances, saving, kills, stepping, streams, lines,
+          memory, bounds, demos)
 
 
 LONGEST = 10 * PATIENCE  # seconds that one test may take, of as many runs as it has

@@ -2,13 +2,19 @@
 use super::build::limit;
 use desk_core::{Desk, Scene};
 use desk_report::{Source, Spout, Tap};
-use desk_session::{Bounds, ServeFault, serve};
+use desk_session::{Bounds, ServeFault, StartFault, serve, serve_with_map};
+use plan_table::Mode;
 use std::alloc::Global;
 use std::process::Abort;
 use test_support::{Repeated, open_grid};
 
 /// Four megabytes.
 const BYTES: u64 = 4 << 20;
+
+const WIDE: Bounds = Bounds {
+    lines: 10,
+    bytes: BYTES,
+};
 
 // Serves a session over an open map of one cell, and tells what is written.
 fn over_desk<R: Source>(
@@ -25,20 +31,18 @@ fn over_desk<R: Source>(
     (ended, writer.into_inner())
 }
 
-// A line of so many times the byte is heard with so many calls, ends the session so, and has that answer.
+// A line of so many times the byte is heard with so many calls within those bounds, ends the session so,
+// and has that answer.
 fn is_heard(
     rt: &impl Abort,
     alloc: Global,
     line: (u8, u64, u64),
+    bounds: Bounds,
     ended: Result<u32, ServeFault>,
     text: &str,
 ) {
     let (byte, left, calls) = line;
     let mut reader = Repeated::new(byte, left);
-    let bounds = Bounds {
-        lines: 10,
-        bytes: BYTES,
-    };
     let (got, written) = over_desk(rt, alloc, &mut reader, bounds);
     assert_eq!(rt; got, ended, "{left} times {byte}");
     assert_eq!(rt; reader.calls(), calls, "{left} times {byte}");
@@ -47,7 +51,7 @@ fn is_heard(
 }
 
 #[test]
-fn lines_at_the_bound_of_bytes(rt: HostRuntime) {
+fn endless_readers_and_lines_at_the_bound_of_bytes(rt: HostRuntime) {
     for (byte, left, calls, ended, text) in [
         (b'#', u64::MAX, BYTES + 1, Err(ServeFault::TooManyBytes), ""),
         (b'x', u64::MAX, BYTES + 1, Err(ServeFault::TooManyBytes), ""),
@@ -64,7 +68,16 @@ fn lines_at_the_bound_of_bytes(rt: HostRuntime) {
         (b' ', BYTES, BYTES + 1, Ok(1), ""),
         (b'\n', u64::MAX, 11, Err(ServeFault::TooManyLines), ""),
     ] {
-        is_heard(&rt, rt.alloc(), (byte, left, calls), ended, text);
+        let line = (byte, left, calls);
+        is_heard(&rt, rt.alloc(), line, WIDE, ended, text);
+    }
+    for (byte, lines, bytes, calls, fault) in [
+        (b'#', 3, 10, 11, ServeFault::TooManyBytes),
+        (b'\n', 3, 100, 4, ServeFault::TooManyLines),
+    ] {
+        let line = (byte, u64::MAX, calls);
+        let bounds = Bounds { lines, bytes };
+        is_heard(&rt, rt.alloc(), line, bounds, Err(fault), "");
     }
 }
 
@@ -89,7 +102,7 @@ fn is_within(
 }
 
 #[test]
-fn texts_at_the_bounds(rt: HostRuntime) {
+fn too_many_lines_and_texts_at_the_bounds(rt: HostRuntime) {
     for (input, lines, bytes, ended, text) in [
         ("", 0, 0, Ok(0), ""),
         ("\n", 0, 9, Err(ServeFault::TooManyLines), ""),
@@ -98,6 +111,13 @@ fn texts_at_the_bounds(rt: HostRuntime) {
         ("\n\nx", 2, 2, Err(ServeFault::TooManyLines), ""),
         ("\n\nx", 3, 2, Err(ServeFault::TooManyBytes), ""),
         ("\n\nx", 3, 3, Ok(3), "bad 3 word\n"),
+        (
+            "version\nversion\nversion\n",
+            2,
+            1_000,
+            Err(ServeFault::TooManyLines),
+            "version 0\nversion 0\n",
+        ),
         ("x\ncancel", 2, 8, Ok(2), "bad 1 word\nbad 2 notbegun\n"),
         (
             "x\ncancel",
@@ -119,20 +139,34 @@ fn texts_at_the_bounds(rt: HostRuntime) {
     }
 }
 
+// How a session behind a map ends where so many bytes are heard at most. Nothing is written.
+fn over_map<R: Source>(
+    rt: &impl Abort,
+    alloc: Global,
+    reader: &mut R,
+    bytes: u64,
+) -> Result<u32, StartFault> {
+    let mut writer = Spout::new(Vec::new(alloc));
+    let bounds = Bounds { lines: 3, bytes };
+    let ended = serve_with_map(alloc, reader, &mut writer, limit(rt, 5), Mode::Stay, bounds);
+    let written: Vec<u8> = writer.into_inner();
+    assert!(rt; written.is_empty());
+    drop(written);
+    ended
+}
+
 #[test]
-fn each_byte_alone(rt: HostRuntime) {
-    let bounds = Bounds { lines: 9, bytes: 9 };
-    for byte in 0..=255u8 {
-        let line = [byte];
-        let mut reader = Tap::new(line.as_slice());
-        let (got, written) = over_desk(&rt, rt.alloc(), &mut reader, bounds);
-        let text = if b" \t\r\n#".contains(&byte) {
-            b"".as_slice()
-        } else {
-            b"bad 1 word\n".as_slice()
-        };
-        assert_eq!(rt; got, Ok(1), "byte {byte}");
-        assert_eq!(rt; written.as_slice(), text, "byte {byte}");
-        drop(written);
+fn bytes_of_a_map_count(rt: HostRuntime) {
+    let alloc = rt.alloc();
+    let too_many = Err(StartFault::Serve(ServeFault::TooManyBytes));
+    for (input, bytes) in [
+        ("type octile\nheight 1\nwidth 1\nmap\n.\n# x\n\n", 36),
+        ("type octile\n", 11),
+    ] {
+        let mut reader = Tap::new(input.as_bytes());
+        assert!(rt; over_map(&rt, alloc, &mut reader, bytes) == too_many);
     }
+    let mut reader = Repeated::new(b'#', u64::MAX);
+    assert!(rt; over_map(&rt, alloc, &mut reader, 10) == too_many);
+    assert!(rt; reader.calls() == 11);
 }

@@ -86,6 +86,7 @@ const ALL_OR_NONE_WITHOUT_A_CELL_EDIT: Row = Row {
     ],
 };
 
+// A snapshot of a desk as it was opened.
 const EDITS_IN_A_ROW: Row = Row {
     scene: &["agent 3 0,0 2,0"],
     limit: 10,
@@ -117,32 +118,25 @@ fn holds(rt: &impl Abort, alloc: Global, row: &Row) {
 }
 
 #[test]
-fn stale_second_planner(rt: HostRuntime) {
-    holds(&rt, rt.alloc(), &STALE_SECOND_PLANNER);
-}
-
-#[test]
-fn watch_makes_stale(rt: HostRuntime) {
-    holds(&rt, rt.alloc(), &WATCH_MAKES_STALE);
-}
-
-#[test]
-fn all_or_none_and_refusal_order(rt: HostRuntime) {
-    holds(&rt, rt.alloc(), &ALL_OR_NONE_AND_REFUSAL_ORDER);
-}
-
-#[test]
-fn all_or_none_without_a_cell_edit(rt: HostRuntime) {
-    holds(&rt, rt.alloc(), &ALL_OR_NONE_WITHOUT_A_CELL_EDIT);
-}
-
-#[test]
-fn drive_with_watch_of_the_map_and_drive_refused_its_room(rt: HostRuntime) {
-    holds(&rt, rt.alloc(), &DRIVE_WITH_WATCH_OF_THE_MAP);
-}
-
-// A snapshot of a desk as it was opened.
-#[test]
-fn edits_in_a_row(rt: HostRuntime) {
-    holds(&rt, rt.alloc(), &EDITS_IN_A_ROW);
+fn each_call_of_the_rows_is_refused_in_turn(rt: HostRuntime) {
+    for (row, name) in &[
+        (STALE_SECOND_PLANNER, "stale_second_planner"),
+        (WATCH_MAKES_STALE, "watch_makes_stale"),
+        (
+            ALL_OR_NONE_AND_REFUSAL_ORDER,
+            "all_or_none_and_refusal_order",
+        ),
+        (
+            ALL_OR_NONE_WITHOUT_A_CELL_EDIT,
+            "all_or_none_without_a_cell_edit",
+        ),
+        (
+            DRIVE_WITH_WATCH_OF_THE_MAP,
+            "drive_with_watch_of_the_map, drive_refused_its_room",
+        ),
+        (EDITS_IN_A_ROW, "edits_in_a_row"),
+    ] {
+        println!(rt; "{name}").expect(&rt, "an output");
+        holds(&rt, rt.alloc(), row);
+    }
 }

@@ -1,5 +1,5 @@
 use super::worked::MAP;
-use desk_audit::{Gate, NoGate};
+use desk_audit::Gate;
 use desk_report::Spout;
 use desk_runs::{RunFault, run_drill};
 use plan_table::Mode;
@@ -20,11 +20,10 @@ pub fn texts(rt: &impl Abort, alloc: Global, scripts: &[&[u8]]) -> Vec<Vec<u8>> 
     all
 }
 
-// What `run_drill` answers on that map with those scripts, and what it writes.
-pub fn drilled<R: Threads + Wait + Sync, G: Gate>(
+// What `run_drill` answers with those scripts, and what it writes.
+fn drilled<R: Threads + Wait + Sync, G: Gate>(
     rt: &R,
     alloc: Global,
-    map: &str,
     scripts: Vec<Vec<u8>>,
     gate: &G,
 ) -> (Result<bool, RunFault>, Vec<u8>) {
@@ -32,7 +31,7 @@ pub fn drilled<R: Threads + Wait + Sync, G: Gate>(
     let ended = run_drill(
         rt,
         alloc,
-        map.as_bytes(),
+        MAP.as_bytes(),
         None,
         0,
         Mode::Stay,
@@ -44,40 +43,23 @@ pub fn drilled<R: Threads + Wait + Sync, G: Gate>(
     (ended, writer.into_inner())
 }
 
-// Scripts that are one too many are refused before the map is read.
-#[test]
-fn too_many_scripts(rt: HostRuntime) {
-    let alloc = rt.alloc();
-    for (count, wanted) in [(256, "too many scripts"), (255, "map: not octile")] {
-        let mut scripts = Vec::new(alloc);
-        for _ in 0..count {
-            scripts.push(Vec::new(alloc)).expect(&rt, "memory");
-        }
-        let (ended, written) = drilled(&rt, alloc, "", scripts, &NoGate);
-        let fault = ended.expect_err(&rt, "a fault");
-        let text = format!(in alloc; "{fault}").expect(&rt, "a text");
-        assert!(rt; text.as_str() == wanted);
-        assert!(rt; written.is_empty());
-    }
-}
-
-/// Holds each of two scripts until the other has begun. The wrong body drill_one_after_another misses.
+// Holds each of two scripts until the other has begun. The wrong body drill_one_after_another misses.
 #[derive(Drop)]
-pub struct Meeting {
+struct Meeting {
     begun: [AtomicBool; 2],
     missed: AtomicU64,
 }
 
 impl Meeting {
-    pub fn new() -> Meeting {
+    fn new() -> Meeting {
         Meeting {
             begun: [AtomicBool::new(false), AtomicBool::new(false)],
             missed: AtomicU64::new(0),
         }
     }
 
-    /// Whether both have begun, and each found the other.
-    pub fn is_met(&self) -> bool {
+    // Whether both have begun, and each found the other.
+    fn is_met(&self) -> bool {
         self.begun[0].load(Ordering::SeqCst)
             && self.begun[1].load(Ordering::SeqCst)
             && self.missed.load(Ordering::SeqCst) == 0
@@ -110,7 +92,7 @@ fn scripts_run_at_once(rt: HostRuntime) {
         &[b"agent 0 0,0 0,0".as_slice(), b"agent 1 2,0 2,0".as_slice()],
     );
     let gate = Meeting::new();
-    let (ended, _) = drilled(&rt, alloc, MAP, scripts, &gate);
+    let (ended, _) = drilled(&rt, alloc, scripts, &gate);
     assert!(rt; ended == Ok(true));
     assert!(rt; gate.is_met());
 }

@@ -152,18 +152,15 @@ fn each_line_refused(rt: &impl Abort, alloc: Global, session: &Session) {
     drop(text);
 }
 
-#[test]
-fn gathered_commit_in_a_session(rt: HostRuntime) {
-    each_line_refused(&rt, rt.alloc(), &GATHERED_COMMIT_IN_A_SESSION);
-}
-
 // The wrong body always_out_of_memory answers nothing else, with ample memory too.
 #[test]
-fn meets_a_resting_agent(rt: HostRuntime) {
-    each_line_refused(&rt, rt.alloc(), &MEETS_A_RESTING_AGENT);
-}
-
-#[test]
-fn goal_cell_closed(rt: HostRuntime) {
-    each_line_refused(&rt, rt.alloc(), &GOAL_CELL_CLOSED);
+fn each_line_of_the_sessions_is_refused_in_turn(rt: HostRuntime) {
+    for (session, name) in &[
+        (GATHERED_COMMIT_IN_A_SESSION, "gathered_commit_in_a_session"),
+        (MEETS_A_RESTING_AGENT, "meets_a_resting_agent"),
+        (GOAL_CELL_CLOSED, "goal_cell_closed"),
+    ] {
+        println!(rt; "{name}").expect(&rt, "an output");
+        each_line_refused(&rt, rt.alloc(), session);
+    }
 }

@@ -1,5 +1,4 @@
 //! Planners who share a desk.
-mod alone;
 mod build;
 mod calls;
 mod refusals;

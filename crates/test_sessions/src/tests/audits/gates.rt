@@ -1,8 +1,7 @@
-use super::build::scene;
 use desk_audit::{Gate, audit};
-use plan_table::Mode;
 use std::sync::atomic::{AtomicBool, AtomicU64, Ordering};
 use std::thread;
+use test_support::scene;
 
 // Holds each of two pieces until the other has begun, for 10,000,000 turns at most. The wrong body
 // audit_on_one_thread misses.
@@ -29,13 +28,13 @@ impl Gate for Meeting {
 #[test]
 fn pieces_run_at_once(rt: HostRuntime) {
     let alloc = rt.alloc();
-    let scene = scene(
-        &rt,
-        alloc,
-        (2, 1),
-        Mode::Stay,
-        &[(&[(0, 0), (1, 0)], (1, 0)), (&[(1, 0), (0, 0)], (0, 0))],
-    );
+    let lines = [
+        "agent 0 0,0 1,0",
+        "agent 1 1,0 0,0",
+        "path 0 0,0 1,0",
+        "path 1 1,0 0,0",
+    ];
+    let scene = scene(alloc, 2, 1, &lines).expect(&rt, "a scene");
     let gate = Meeting {
         begun: [AtomicBool::new(false), AtomicBool::new(false)],
         missed: AtomicU64::new(0),
@@ -60,7 +59,7 @@ impl Gate for Turnstile {
 #[test]
 fn empty_pieces_begin_too(rt: HostRuntime) {
     let alloc = rt.alloc();
-    let scene = scene(&rt, alloc, (1, 1), Mode::Stay, &[(&[(0, 0)], (0, 0))]);
+    let scene = scene(alloc, 1, 1, &["agent 0 0,0 0,0"]).expect(&rt, "a scene");
     let gate = Turnstile {
         begun: AtomicU64::new(0),
     };

@@ -1,6 +1,3 @@
-//! Audits of random scenes, of too few and too many workers, and what an audit costs.
-mod build;
+//! Audits whose pieces wait for one another, and of too few and too many workers.
 mod gates;
-mod scenes;
-mod times;
 mod workers;

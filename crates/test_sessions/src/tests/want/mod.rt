@@ -1,5 +1,4 @@
 //! Runs with too little memory. Each answers that there is none, or as ever.
 mod audits;
 mod drills;
-mod faulty_scripts;
 mod serves;
