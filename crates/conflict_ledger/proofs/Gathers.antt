@@ -9,7 +9,8 @@ use Rattle.std.proofs.lemmas.Option.{MatchOption-at_some}
 use Rattle.plan_table.specs.Route.{Fleet, last_of}
 use Rattle.mapf_rules.specs.ConflictList.{Stands}
 use Rattle.mapf_rules.specs.Naming.{IsOfPair, IsPair, Names, time_of}
-use Rattle.conflict_ledger.specs.Gathering.{Gathers, IsAgents, AreAgents, HasTime}
+use Rattle.conflict_ledger.specs.Gathering.{Gathers, IsAgents, AreAgents, HasPlace, HasTime}
+use Rattle.conflict_ledger.specs.declared.places.Place.{Place}
 use Rattle.mapf_rules.specs.Finding.{Offers}
 use Rattle.mapf_rules.specs.declared.entries.Conflict.{Conflict}
 use Rattle.mapf_rules.specs.declared.entries.Conflict.TheVariants.{Vertex, Parked, Edge, Following, Swapping, Cycle}
@@ -29,6 +30,10 @@ gathers_at fleet agent at more old new into gathers = record {
   keeps = gathers.keeps;
   only = λ e h. elim (gathers.only e h) [ inl before ↦ inl before | inr is ↦ inr (is.0, into (time_of e) is.1) ];
 }
+
+-- what was there of a place is there still
+pub place_on : (fleet : Fleet) (agent : ℕ) (at : ℕ → Type 0) (old new : List Conflict) → Gathers fleet agent at old new → (time : ℕ) (place : Place) → HasPlace fleet agent time place old → HasPlace fleet agent time place new
+place_on fleet agent at old new gathers time place has other cell apart own there entry is then two _ met = gathers.keeps entry (has other cell apart own there entry is then two apart met)
 
 pair_time : (entry : Conflict) (time first second : ℕ) → IsOfPair entry time first second → time_of entry ≡ time
 pair_time (Vertex x a b c) time first second of = of.0

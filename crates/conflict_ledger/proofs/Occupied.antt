@@ -1,6 +1,5 @@
 -- Whom an index shows in a cell, and in which place the agent meets them.
-use Rattle.std.proofs.Common.{◌≡◌, ◌≢◌, inl, inr, ℕ, ◌+◌, ◌<◌, ◌≤◌, Bool, true, false, List, Contains, Some, Option, refl, sym, subst, arith}
-use Rattle.std.proofs.lemmas.Bool.{cases_lt, lt-ltb, le-ltb}
+use Rattle.std.proofs.Common.{◌≡◌, ◌≢◌, inl, inr, ℕ, ◌+◌, ◌≤◌, Bool, true, false, List, Contains, Some, Option, refl, subst, arith}
 use Rattle.grid_cells.specs.Cell.{Point}
 use Rattle.plan_table.specs.Route.{Route, Fleet, position_of}
 use Rattle.where_index.specs.Index.{Contents}
@@ -10,68 +9,49 @@ use Rattle.cell_spots.specs.declared.spot_sets.Spot.{Spot}
 use Rattle.mapf_rules.specs.Finding.{KeepsAll}
 use Rattle.mapf_rules.specs.declared.entries.Conflict.{Conflict}
 use Rattle.conflict_ledger.specs.Sight.{Shows}
-use Rattle.conflict_ledger.specs.Gathering.{IsWhere, IsNear, AreNear, HasMet, HasSpots, place_of}
+use Rattle.conflict_ledger.specs.Gathering.{AreShowing, IsShown, HasMet, HasSeen, HasSpots, HasStop, IsNear, seen_at, step_of}
 use Rattle.conflict_ledger.specs.declared.places.Place.{Place}
 use Rattle.conflict_ledger.specs.declared.places.Place.TheVariants.{Beside, Ahead, Behind}
-use Rattle.conflict_ledger.proofs.Late.{fleet_there}
-use Rattle.conflict_ledger.proofs.Meetings.{behind_moves}
+use Rattle.conflict_ledger.specs.declared.places.Stop.{Stop}
+use Rattle.conflict_ledger.proofs.Late.{base_there, fleet_there}
 
-early : (s : Spot) (time : ℕ) → s.time ≤ time → place_of false s time ≡ Beside
-early s time le = rw (le-ltb time s.time le) refl
+-- one that is in the cell as the step begins, or as it ends, is beside one there, or behind
+pub near_here : (place : Place) (fleet : Fleet) (other time : ℕ) (here next : Point) → place ≢ Ahead → position_of fleet other (seen_at place time) ≡ Some here → IsNear place fleet other time here next
+near_here Beside fleet other time here next not there = there
+near_here Ahead fleet other time here next not there = absurd (not refl)
+near_here Behind fleet other time here next not there = there
 
-late : (s : Spot) (time : ℕ) → time < s.time → place_of false s time ≡ Behind
-late s time lt = rw (lt-ltb time s.time lt) refl
+-- what the spot shows in each place is all that it shows
+module _ (fleet : Fleet) (agent : ℕ) (stop : Stop) (lasting : Bool) (s : Spot) (mid entries : List Conflict) where
+  pub seen_all : (stop.before ≢ stop.here → IsShown lasting s stop.past → HasMet fleet agent stop.past Ahead s.agent mid) → KeepsAll mid entries
+      → (IsShown lasting s stop.time → HasMet fleet agent stop.time Beside s.agent entries) → (IsShown lasting s (stop.time + 1) → HasMet fleet agent stop.time Behind s.agent entries) → HasSeen fleet agent stop lasting entries s
+  seen_all ahead keeps beside behind Beside of is = beside is
+  seen_all ahead keeps beside behind Ahead of is = λ entry own at two apart met. keeps entry (ahead of is entry own at two apart met)
+  seen_all ahead keeps beside behind Behind of is = behind is
 
-module _ (index : Contents) (agent : ℕ) (route : Option Route) (fleet : Fleet) (shows : Shows index agent route fleet) (time : ℕ) (here next : Point) where
-  near : (s : Spot) → s.agent ≢ agent → (s.time ≤ time → position_of shows.base s.agent time ≡ Some here) → (time < s.time → position_of shows.base s.agent (time + 1) ≡ Some here) → IsNear (place_of false s time) fleet s.agent time here next
-  near s apart now then = elim (cases_lt time s.time) [
-    | inl lt ↦ subst (λ (p : Place). IsNear p fleet s.agent time here next) (sym (late s time lt)) (fleet_there index agent route fleet shows s.agent (time + 1) here apart (then lt))
-    | inr le ↦ subst (λ (p : Place). IsNear p fleet s.agent time here next) (sym (early s time (omega arith))) (fleet_there index agent route fleet shows s.agent time here apart (now (omega arith)))
-  ]
+module _ (index : Contents) (agent : ℕ) (route : Option Route) (fleet : Fleet) (shows : Shows index agent route fleet) where
+  pub stands_show : (cell : Point) (from to : ℕ) (stands : List Spot) → ((s : Spot) → Contains stands s → StandsIn shows.base cell from to s) → AreShowing fleet agent cell false stands
+  stands_show cell from to stands all s h apart time is = fleet_there index agent route fleet shows s.agent time cell apart (subst (λ (t : ℕ). position_of shows.base s.agent t ≡ Some cell) is (all s h).there)
 
-  pub stands_near : (stands : List Spot) → ((s : Spot) → Contains stands s → StandsIn shows.base here time (time + 1) s) → AreNear fleet agent time false here next stands
-  stands_near stands all s h apart =
-      let is = all s h in
-      near s apart (λ le. subst (λ (t : ℕ). position_of shows.base s.agent t ≡ Some here) (omega (arith, le, is.not_before)) is.there) (λ lt. subst (λ (t : ℕ). position_of shows.base s.agent t ≡ Some here) (omega (arith, lt, is.not_after)) is.there)
+  pub tails_show : (cell : Point) (to : ℕ) (tails : List Spot) → ((s : Spot) → Contains tails s → RestsIn shows.base cell to s) → AreShowing fleet agent cell true tails
+  tails_show cell to tails all s h apart time is = fleet_there index agent route fleet shows s.agent time cell apart ((all s h).there time is)
 
-  pub tails_near : (tails : List Spot) → ((s : Spot) → Contains tails s → RestsIn shows.base here (time + 1) s) → AreNear fleet agent time false here next tails
-  tails_near tails all s h apart = let is = all s h in near s apart (λ le. is.there time le) (λ lt. is.there (time + 1) is.not_after)
+  -- what was offered of all whom both lists show has the entries with each who is at the stop
+  module _ (stop : Stop) (stands tails : List Spot) (mid entries : List Conflict) (order : stop.past ≤ stop.time) (stood : HasSpots fleet agent stop false stands mid) (keeps : KeepsAll mid entries) (rested : HasSpots fleet agent stop true tails entries) where
+    from_past : (place : Place) → stop.past ≤ seen_at place (step_of stop place)
+    from_past Beside = order
+    from_past Ahead = omega arith
+    from_past Behind = omega (arith, order)
 
-  pub stands_ahead : here ≢ next → (stands : List Spot) → ((s : Spot) → Contains stands s → StandsIn shows.base next time time s) → AreNear fleet agent time true here next stands
-  stands_ahead moves stands all s h apart =
-      let is = all s h in
-      (moves, fleet_there index agent route fleet shows s.agent time next apart (subst (λ (t : ℕ). position_of shows.base s.agent t ≡ Some next) (omega (arith, is.not_before, is.not_after)) is.there))
+    until_later : (place : Place) → seen_at place (step_of stop place) ≤ stop.time + 1
+    until_later Beside = omega arith
+    until_later Ahead = omega (arith, order)
+    until_later Behind = omega arith
 
-  pub tails_ahead : here ≢ next → (tails : List Spot) → ((s : Spot) → Contains tails s → RestsIn shows.base next time s) → AreNear fleet agent time true here next tails
-  tails_ahead moves tails all s h apart = let is = all s h in (moves, fleet_there index agent route fleet shows s.agent time next apart (is.there time is.not_after))
-
-  -- what was offered of all whom both lists show has the entries with each whom they show
-  module _ (ahead : Bool) (stands tails : List Spot) (mid entries : List Conflict) (stood : HasSpots fleet agent time ahead stands mid) (keeps : KeepsAll mid entries) (rested : HasSpots fleet agent time ahead tails entries) where
-    of_stand : (t other : ℕ) (cell : Point) (place : Place) → place_of ahead (spot cell t other) time ≡ place → Contains stands (spot cell t other) → HasMet fleet agent time place other entries
-    of_stand t other cell place is h entry own at two apart met = keeps entry (subst (λ (p : Place). HasMet fleet agent time p other mid) is (stood (spot cell t other) h) entry own at two apart met)
-
-    of_tail : (s : Spot) (other : ℕ) (place : Place) → s.agent ≡ other → place_of ahead s time ≡ place → Contains tails s → HasMet fleet agent time place other entries
-    of_tail s other place who is h = subst (λ (a : ℕ). HasMet fleet agent time place a entries) who (subst (λ (p : Place). HasMet fleet agent time p s.agent entries) is (rested s h))
-
-    pub has_ahead : ahead ≡ true → (other : ℕ) (cell : Point) → IsOccupant cell time other stands tails → HasMet fleet agent time Ahead other entries
-    has_ahead is other cell found = elim found [
-      | inl h ↦ of_stand time other cell Ahead (rw is refl) h
-      | inr (s, h, who, le) ↦ of_tail s other Ahead who (rw is refl) h
-    ]
-
-    pub has_beside : ahead ≡ false → (other : ℕ) (cell : Point) → IsOccupant cell time other stands tails → HasMet fleet agent time Beside other entries
-    has_beside is other cell found = elim found [
-      | inl h ↦ of_stand time other cell Beside (rw is (early (spot cell time other) time (omega arith))) h
-      | inr (s, h, who, le) ↦ of_tail s other Beside who (rw is (early s time le)) h
-    ]
-
-    pub has_behind : ahead ≡ false → IsWhere fleet agent time here next → ((s : Spot) → Contains tails s → RestsIn shows.base here (time + 1) s) → (other : ℕ) (cell : Point) → IsOccupant cell (time + 1) other stands tails → HasMet fleet agent time Behind other entries
-    has_behind is place all other cell found = elim found [
-      | inl h ↦ of_stand (time + 1) other cell Behind (rw is (late (spot cell (time + 1) other) time (omega arith))) h
-      | inr (s, h, who, le) ↦ elim (cases_lt time s.time) [
-        | inl lt ↦ of_tail s other Behind who (rw is (late s time lt)) h
-        | inr early ↦ λ entry own at two apart met.
-            let there = fleet_there index agent route fleet shows other time here apart (subst (λ (a : ℕ). position_of shows.base a time ≡ Some here) who ((all s h).there time (omega arith))) in
-            absurd (behind_moves fleet agent other time here next place entry own at two apart met there)
-      ]
-    ]
+    pub stop_has : ((a time : ℕ) → stop.past ≤ time → time ≤ stop.time + 1 → position_of shows.base a time ≡ Some stop.here → IsOccupant stop.here time a stands tails) → HasStop fleet agent stop entries
+    stop_has all place of other apart there =
+        let seen : ℕ = seen_at place (step_of stop place) in
+        elim (all other seen (from_past place) (until_later place) (base_there index agent route fleet shows other seen stop.here apart there)) [
+          | inl h ↦ λ entry own at two _ met. keeps entry (stood (spot stop.here seen other) h place of refl entry own at two apart met)
+          | inr (s, h, who, le) ↦ subst (λ (a : ℕ). HasMet fleet agent (step_of stop place) place a entries) who (rested s h place of le)
+        ]

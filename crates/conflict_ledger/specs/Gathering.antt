@@ -1,5 +1,5 @@
 -- What a search beside one agent's track has gathered: words for the ledger's own steps (this project's choice).
-use Rattle.std.specs.Prelude.{◌≡◌, ◌≢◌, ◌⊎◌, ℕ, ◌+◌, ◌<◌, ◌≤◌, Bool, nat_lt, if◌then◌else◌, Some, List, Contains}
+use Rattle.std.specs.Prelude.{◌≡◌, ◌≢◌, ◌⊎◌, ℕ, ◌+◌, ◌<◌, ◌≤◌, Bool, true, false, Some, List, Contains}
 use Rattle.std.specs.Option.{unwrap_or}
 use Rattle.grid_cells.specs.Cell.{Point}
 use Rattle.plan_table.specs.Route.{Fleet, position_of}
@@ -12,6 +12,7 @@ use Rattle.mapf_rules.specs.declared.entries.Conflict.{Conflict}
 use Rattle.mapf_rules.specs.declared.entries.Conflict.TheVariants.{Vertex, Parked, Edge, Following, Swapping, Cycle}
 use Rattle.cell_spots.specs.declared.spot_sets.Spot.{Spot}
 use Rattle.conflict_ledger.specs.declared.places.Place.{Place}
+use Rattle.conflict_ledger.specs.declared.places.Stop.{Stop}
 use Rattle.conflict_ledger.specs.declared.places.Place.TheVariants.{Beside, Ahead, Behind}
 
 -- the entry is of two agents, stands, and names the agent
@@ -47,13 +48,42 @@ IsNear Beside fleet other time here next = position_of fleet other time ≡ Some
 IsNear Ahead fleet other time here next = (here ≢ next) × (position_of fleet other time ≡ Some next)
 IsNear Behind fleet other time here next = position_of fleet other (time + 1) ≡ Some here
 
--- in which place the spot shows its agent, ahead or in the cell where one is as the step begins
-abbrev pub place_of : Bool → Spot → ℕ → Place
-place_of ahead s time = if ahead then Ahead else (if nat_lt time s.time then Behind else Beside)
+-- the stop is one of the agent's: whence it came there, if from elsewhere, and where it goes on
+pub record IsStop (fleet : Fleet) (agent : ℕ) (stop : Stop) : Type 0 where
+  pub came : stop.before ≢ stop.here → IsWhere fleet agent stop.past stop.before stop.here
+  pub goes : IsWhere fleet agent stop.time stop.here stop.next
 
--- the spots of others show them in their places
-abbrev pub AreNear : Fleet → ℕ → ℕ → Bool → Point → Point → List Spot → Type 0
-AreNear fleet agent time ahead here next spots = (s : Spot) → Contains spots s → s.agent ≢ agent → IsNear (place_of ahead s time) fleet s.agent time here next
+-- a step that begins then leads to the stop, or on from it
+abbrev pub IsAbout : Stop → ℕ → Type 0
+IsAbout stop time = (stop.past ≤ time) × (time ≤ stop.time)
+
+-- one who meets others at the stop in that place does so in the step that begins at this time
+abbrev pub step_of : Stop → Place → ℕ
+step_of stop Ahead = stop.past
+step_of stop place = stop.time
+
+-- another one is met in that place where it is in the cell at this time, in the step that begins at that one
+abbrev pub seen_at : Place → ℕ → ℕ
+seen_at Behind time = time + 1
+seen_at place time = time
+
+-- one may meet others at the stop in that place: ahead only if one came from elsewhere
+abbrev pub IsPlaceOf : Stop → Place → Type 0
+IsPlaceOf stop Ahead = stop.before ≢ stop.here
+IsPlaceOf stop place = Unit {0}
+
+-- the spot shows its agent at the time: one that lasts does so from its own time on
+abbrev pub IsShown : Bool → Spot → ℕ → Type 0
+IsShown true s time = s.time ≤ time
+IsShown false s time = s.time ≡ time
+
+-- the agent of the spot, if another, is in the cell whenever the spot shows it
+abbrev pub IsShowing : Fleet → ℕ → Point → Bool → Spot → Type 0
+IsShowing fleet agent cell lasting s = s.agent ≢ agent → (time : ℕ) → IsShown lasting s time → position_of fleet s.agent time ≡ Some cell
+
+-- so are those of the spots
+abbrev pub AreShowing : Fleet → ℕ → Point → Bool → List Spot → Type 0
+AreShowing fleet agent cell lasting spots = (s : Spot) → Contains spots s → IsShowing fleet agent cell lasting s
 
 -- the agent meets the other one of the entry in that place
 abbrev pub IsMet : Place → Conflict → ℕ → Type 0
@@ -70,9 +100,29 @@ abbrev pub HasMet : Fleet → ℕ → ℕ → Place → ℕ → List Conflict �
 HasMet fleet agent time place other entries =
     (entry : Conflict) → IsAgents fleet agent entry → time_of entry ≡ time → Names entry other → other ≢ agent → IsMet place entry agent → Contains entries entry
 
--- each entry of the agent at that time with one whom the spots show is there
-abbrev pub HasSpots : Fleet → ℕ → ℕ → Bool → List Spot → List Conflict → Type 0
-HasSpots fleet agent time ahead spots entries = (s : Spot) → Contains spots s → HasMet fleet agent time (place_of ahead s time) s.agent entries
+-- each entry of the agent at the stop with the one whom the spot shows is there
+abbrev pub HasSeen : Fleet → ℕ → Stop → Bool → List Conflict → Spot → Type 0
+HasSeen fleet agent stop lasting entries s =
+    (place : Place) → IsPlaceOf stop place → IsShown lasting s (seen_at place (step_of stop place)) → HasMet fleet agent (step_of stop place) place s.agent entries
+
+-- with each whom the spots show
+abbrev pub HasSpots : Fleet → ℕ → Stop → Bool → List Spot → List Conflict → Type 0
+HasSpots fleet agent stop lasting spots entries = (s : Spot) → Contains spots s → HasSeen fleet agent stop lasting entries s
+
+-- and with each who is there
+abbrev pub HasStop : Fleet → ℕ → Stop → List Conflict → Type 0
+HasStop fleet agent stop entries =
+    (place : Place) → IsPlaceOf stop place → (other : ℕ) → other ≢ agent → position_of fleet other (seen_at place (step_of stop place)) ≡ Some stop.here → HasMet fleet agent (step_of stop place) place other entries
+
+-- the time at which the agent itself is in the cell where it meets others in that place
+abbrev pub own_at : Place → ℕ → ℕ
+own_at Ahead time = time + 1
+own_at place time = time
+
+-- each entry of the agent at that time with those whom it meets in that place is there
+abbrev pub HasPlace : Fleet → ℕ → ℕ → Place → List Conflict → Type 0
+HasPlace fleet agent time place entries =
+    (other : ℕ) (cell : Point) → other ≢ agent → position_of fleet agent (own_at place time) ≡ Some cell → position_of fleet other (seen_at place time) ≡ Some cell → HasMet fleet agent time place other entries
 
 -- each entry of two agents that names the agent, at that time, is there
 abbrev pub HasTime : Fleet → ℕ → ℕ → List Conflict → Type 0

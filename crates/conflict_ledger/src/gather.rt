@@ -1,151 +1,88 @@
-ghost use Rattle.std.specs.Prelude.{◌≡◌, ◌≢◌, ℕ, ◌+◌, ◌<◌, ◌≤◌, Some, OnOk, IfOk};
-ghost use Rattle.plan_table.specs.Route.{Fleet, position_of, last_of};
+ghost use Rattle.std.specs.Prelude.{◌≡◌, ℕ, ◌+◌, ◌<◌, ◌≤◌, OnOk, IfOk};
+ghost use Rattle.plan_table.specs.Route.{Fleet, last_of};
 ghost use Rattle.mapf_rules.specs.declared.entries.Conflict.{Conflict};
 ghost use Rattle.conflict_ledger.specs.declared.places.Place.{Place};
 ghost use Rattle.conflict_ledger.specs.Sight.{Sees};
-ghost use Rattle.conflict_ledger.specs.Gathering.{Gathers, AreAgents, IsWhere, IsNear, AreNear, HasMet, HasSpots, HasTime};
+ghost use Rattle.conflict_ledger.specs.Gathering.{Gathers, AreAgents, IsStop, IsAbout, AreShowing, HasSpots, HasStop, HasPlace, HasTime};
 ghost use Rattle.conflict_ledger.specs.Spans.{Fits};
 
-use crate::places::{Place, edge_of, following_of, in_order, meeting_of, place_of, swapping_of};
+use crate::offers::{offer_ahead, offer_here};
+use crate::places::Stop;
 use crate::resting::gather_late;
 use crate::sight::Sight;
 use crate::spans::Span;
 use cell_spots::Spot;
-use grid_cells::{Agent, Cell, OutOfMemory, Step};
-use mapf_rules::{Conflict, offer};
+use grid_cells::{OutOfMemory, Step};
+use mapf_rules::Conflict;
 use std::alloc::Global;
 use std::collections::btree_set::Range;
 
-// Adds the entries that the agent has in that step with the other one where they meet in that place.
-fn offer_met(
-    sight: &Sight<'_>,
-    entries: &mut Vec<Conflict>,
-    time: u32,
-    place: Place,
-    other: Agent,
-    here: Cell,
-    next: Cell,
-) -> Result<(), OutOfMemory>
-    requires { time < u32.MAX }
-    ensures gathers { OnOk result ((fleet : Fleet) → Sees sight.now fleet → IsWhere fleet sight.now.agent time here next → (other ≢ sight.now.agent → IsNear place fleet other time here next) → Gathers fleet sight.now.agent (λ t. t ≡ time) entries.old.items entries.new.items) }
-    ensures has { OnOk result ((fleet : Fleet) → Sees sight.now fleet → IsWhere fleet sight.now.agent time here next → HasMet fleet sight.now.agent time place other entries.new.items) }
-{
-    let agent = sight.agent;
-    if other == agent {
-        return Ok(());
-    }
-    match place {
-        Place::Beside => {
-            let (first, second) = in_order(agent, other);
-            offer(entries, meeting_of(sight, time, first, second, here))?;
-            offer(entries, edge_of(sight, time, first, second, here, next))?;
-            Ok(())
-        }
-        Place::Ahead => {
-            offer(entries, following_of(sight, time, agent, other, next))?;
-            offer(entries, swapping_of(sight, time, agent, other, here, next))?;
-            offer(entries, swapping_of(sight, time, other, agent, next, here))?;
-            Ok(())
-        }
-        Place::Behind => {
-            offer(entries, following_of(sight, time, other, agent, here))?;
-            Ok(())
-        }
-    }
-}
-
-// Adds the entries that the agent has in that step with each whom the spots show, ahead of it or not.
+// Adds the entries that the agent has at the stop with each whom the spots show, at all later times too
+// where they last.
 fn offer_spots(
     sight: &Sight<'_>,
     entries: &mut Vec<Conflict>,
-    time: u32,
-    ahead: bool,
+    stop: &Stop,
+    lasting: bool,
     spots: Range<'_, Spot>,
-    here: Cell,
-    next: Cell,
 ) -> Result<(), OutOfMemory>
-    requires { time < u32.MAX }
-    ensures gathers { OnOk result ((fleet : Fleet) → Sees sight.now fleet → IsWhere fleet sight.now.agent time here next → AreNear fleet sight.now.agent time ahead here next spots.entry → Gathers fleet sight.now.agent (λ t. t ≡ time) entries.old.items entries.new.items) }
-    ensures has { OnOk result ((fleet : Fleet) → Sees sight.now fleet → IsWhere fleet sight.now.agent time here next → AreNear fleet sight.now.agent time ahead here next spots.entry → HasSpots fleet sight.now.agent time ahead spots.entry entries.new.items) }
+    requires { (stop.now.past ≤ stop.now.time) × (stop.now.time < u32.MAX) }
+    ensures gathers { OnOk result ((fleet : Fleet) → Sees sight.now fleet → IsStop fleet sight.now.agent stop.now → AreShowing fleet sight.now.agent stop.now.here lasting spots.entry → Gathers fleet sight.now.agent (IsAbout stop.now) entries.old.items entries.new.items) }
+    ensures has { OnOk result ((fleet : Fleet) → Sees sight.now fleet → IsStop fleet sight.now.agent stop.now → AreShowing fleet sight.now.agent stop.now.here lasting spots.entry → HasSpots fleet sight.now.agent stop.now lasting spots.entry entries.new.items) }
 {
     for spot in spots {
-        let place = place_of(ahead, spot, time);
-        offer_met(sight, entries, time, place, spot.agent, here, next)?;
+        offer_ahead(sight, entries, stop, lasting, spot)?;
+        offer_here(sight, entries, stop, lasting, spot)?;
     }
     Ok(())
 }
 
-// Adds the entries of the agent, which moves in that step, with those ahead of it.
-fn gather_ahead(
+// Adds the entries of the agent with those whom it meets at the stop: who is in its cell one step
+// before it, with it, and one step after.
+fn gather_stop(
     sight: &Sight<'_>,
     entries: &mut Vec<Conflict>,
-    time: u32,
-    here: Cell,
-    next: Cell,
+    stop: &Stop,
 ) -> Result<(), OutOfMemory>
-    requires { time < u32.MAX }
-    ensures gathers { OnOk result ((fleet : Fleet) → Sees sight.now fleet → IsWhere fleet sight.now.agent time here next → Gathers fleet sight.now.agent (λ t. t ≡ time) entries.old.items entries.new.items) }
-    ensures has { OnOk result ((fleet : Fleet) → Sees sight.now fleet → IsWhere fleet sight.now.agent time here next → (other : ℕ) → other ≢ sight.now.agent → position_of fleet other time ≡ Some next → HasMet fleet sight.now.agent time Place.Ahead other entries.new.items) }
-{
-    if here == next {
-        return Ok(());
-    }
-    let now = Step::new(time);
-    let found = sight.index.occupants(next, now, now);
-    offer_spots(sight, entries, time, true, found.stands, here, next)?;
-    offer_spots(sight, entries, time, true, found.tails, here, next)?;
-    Ok(())
-}
-
-// Adds the entries of the agent in that step with those beside it and behind it.
-fn gather_here(
-    sight: &Sight<'_>,
-    entries: &mut Vec<Conflict>,
-    time: u32,
-    here: Cell,
-    next: Cell,
-) -> Result<(), OutOfMemory>
-    requires { time < u32.MAX }
-    ensures gathers { OnOk result ((fleet : Fleet) → Sees sight.now fleet → IsWhere fleet sight.now.agent time here next → Gathers fleet sight.now.agent (λ t. t ≡ time) entries.old.items entries.new.items) }
-    ensures beside { OnOk result ((fleet : Fleet) → Sees sight.now fleet → IsWhere fleet sight.now.agent time here next → (other : ℕ) → other ≢ sight.now.agent → position_of fleet other time ≡ Some here → HasMet fleet sight.now.agent time Place.Beside other entries.new.items) }
-    ensures behind { OnOk result ((fleet : Fleet) → Sees sight.now fleet → IsWhere fleet sight.now.agent time here next → (other : ℕ) → other ≢ sight.now.agent → position_of fleet other (time + 1) ≡ Some here → HasMet fleet sight.now.agent time Place.Behind other entries.new.items) }
+    requires { (stop.now.past ≤ stop.now.time) × (stop.now.time < u32.MAX) }
+    ensures gathers { OnOk result ((fleet : Fleet) → Sees sight.now fleet → IsStop fleet sight.now.agent stop.now → Gathers fleet sight.now.agent (IsAbout stop.now) entries.old.items entries.new.items) }
+    ensures has { OnOk result ((fleet : Fleet) → Sees sight.now fleet → IsStop fleet sight.now.agent stop.now → HasStop fleet sight.now.agent stop.now entries.new.items) }
 {
     let found = sight
         .index
-        .occupants(here, Step::new(time), Step::new(time + 1));
-    offer_spots(sight, entries, time, false, found.stands, here, next)?;
-    offer_spots(sight, entries, time, false, found.tails, here, next)?;
+        .occupants(stop.here, Step::new(stop.past), Step::new(stop.time + 1));
+    offer_spots(sight, entries, stop, false, found.stands)?;
+    offer_spots(sight, entries, stop, true, found.tails)?;
     Ok(())
 }
 
-// Adds the entries of the agent in that step, in which it is here and then in the next cell.
-fn gather_step(
+// Adds the entries of the agent with those whom it meets where it is at the time: ahead of it in the
+// step before, if that begins at `past`, and beside it and behind it in the step that begins then.
+fn gather_at(
     sight: &Sight<'_>,
     entries: &mut Vec<Conflict>,
+    past: u32,
     time: u32,
-    here: Cell,
-    next: Cell,
 ) -> Result<(), OutOfMemory>
-    requires { time < u32.MAX }
-    ensures gathers { OnOk result ((fleet : Fleet) → Sees sight.now fleet → IsWhere fleet sight.now.agent time here next → Gathers fleet sight.now.agent (λ t. t ≡ time) entries.old.items entries.new.items) }
-    ensures has { OnOk result ((fleet : Fleet) → Sees sight.now fleet → IsWhere fleet sight.now.agent time here next → HasTime fleet sight.now.agent time entries.new.items) }
-{
-    gather_ahead(sight, entries, time, here, next)?;
-    gather_here(sight, entries, time, here, next)?;
-    Ok(())
-}
-
-// Adds the entries of the agent in the step that begins at the time.
-fn gather_at(sight: &Sight<'_>, entries: &mut Vec<Conflict>, time: u32) -> Result<(), OutOfMemory>
-    requires { time < u32.MAX }
-    ensures gathers { OnOk result ((fleet : Fleet) → Sees sight.now fleet → Gathers fleet sight.now.agent (λ t. t ≡ time) entries.old.items entries.new.items) }
-    ensures has { OnOk result ((fleet : Fleet) → Sees sight.now fleet → HasTime fleet sight.now.agent time entries.new.items) }
+    requires { (past ≤ time) × (time < u32.MAX) }
+    ensures gathers { OnOk result ((fleet : Fleet) → Sees sight.now fleet → time ≤ past + 1 → Gathers fleet sight.now.agent (λ t. (past ≤ t) × (t ≤ time)) entries.old.items entries.new.items) }
+    ensures ahead { OnOk result ((fleet : Fleet) → Sees sight.now fleet → past + 1 ≡ time → HasPlace fleet sight.now.agent past Place.Ahead entries.new.items) }
+    ensures beside { OnOk result ((fleet : Fleet) → Sees sight.now fleet → time ≤ past + 1 → HasPlace fleet sight.now.agent time Place.Beside entries.new.items) }
+    ensures behind { OnOk result ((fleet : Fleet) → Sees sight.now fleet → time ≤ past + 1 → HasPlace fleet sight.now.agent time Place.Behind entries.new.items) }
 {
     let Some(here) = sight.own(time) else {
         return Ok(());
     };
+    let before = sight.own(past).unwrap_or(here);
     let next = sight.own(time + 1).unwrap_or(here);
-    gather_step(sight, entries, time, here, next)
+    let stop = Stop {
+        past,
+        time,
+        before,
+        here,
+        next,
+    };
+    gather_stop(sight, entries, &stop)
 }
 
 // Adds the entries of the agent from one time on, up to the last index of its path.
@@ -157,10 +94,11 @@ fn gather_path(
 ) -> Result<(), OutOfMemory>
     requires { last < u32.MAX }
     ensures gathers { OnOk result ((fleet : Fleet) → Sees sight.now fleet → from ≤ last → Gathers fleet sight.now.agent (λ t. (from ≤ t) × (t ≤ last)) entries.old.items entries.new.items) }
-    ensures has { OnOk result ((fleet : Fleet) → Sees sight.now fleet → (time : ℕ) → from ≤ time → time ≤ last → HasTime fleet sight.now.agent time entries.new.items) }
+    ensures has { OnOk result ((fleet : Fleet) → Sees sight.now fleet → last ≡ last_of fleet sight.now.agent → (time : ℕ) → from ≤ time → time ≤ last → HasTime fleet sight.now.agent time entries.new.items) }
 {
     for time in from..last + 1 {
-        gather_at(sight, entries, time)?;
+        let past = time.saturating_sub(1).max(from);
+        gather_at(sight, entries, past, time)?;
     }
     Ok(())
 }

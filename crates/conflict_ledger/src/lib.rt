@@ -8,6 +8,7 @@ mod kept;
 mod least;
 mod ledger;
 mod movers;
+mod offers;
 mod places;
 mod resting;
 mod sight;

@@ -1,11 +1,12 @@
-ghost use Rattle.std.specs.Prelude.{◌≡◌, ◌≢◌, ℕ, ◌+◌, ◌<◌, min, max, Some, IfSome};
+ghost use Rattle.std.specs.Prelude.{◌≡◌, ◌≢◌, ◌⊎◌, ◌↔◌, ℕ, ◌+◌, ◌<◌, min, max, Some, IfSome, IsTrue};
 ghost use Rattle.plan_table.specs.Route.{Fleet, position_of};
 ghost use Rattle.mapf_rules.specs.declared.entries.Conflict.{Conflict};
 ghost use Rattle.mapf_rules.specs.Entries.{IsVertex, IsParked, IsEdge, IsFollowing, IsSwapping};
 ghost use Rattle.mapf_rules.specs.ConflictList.{Stands};
 ghost use Rattle.mapf_rules.specs.Naming.{IsOfPair};
 ghost use Rattle.conflict_ledger.specs.Sight.{Sees};
-ghost use Rattle.conflict_ledger.specs.Gathering.{AreTogether, place_of};
+ghost use Rattle.conflict_ledger.specs.declared.places.Place.{Place};
+ghost use Rattle.conflict_ledger.specs.Gathering.{AreTogether, IsShown, seen_at};
 
 use crate::sight::Sight;
 use cell_spots::Spot;
@@ -21,16 +22,43 @@ pub enum Place {
     Behind,
 }
 
-// In which place the spot shows its agent: ahead, or in the cell where one is as the step begins.
-pub(crate) fn place_of(ahead: bool, spot: &Spot, time: u32) -> Place
-    ensures { result ≡ place_of ahead spot.now time }
+// Where the agent is at the time, and where it is in the steps that lead there and on: it comes from
+// the cell before in the step that begins at `past`, and goes to the next one. Where the step before
+// is none of those asked about, both of `past` and `before` are those of the stop itself.
+#[derive(Clone, Copy)]
+pub struct Stop {
+    pub past: u32,
+    pub time: u32,
+    pub before: Cell,
+    pub here: Cell,
+    pub next: Cell,
+}
+
+// Whether the spot shows its agent at the time: one that lasts does so from its own time on.
+pub(crate) fn is_shown(lasting: bool, spot: &Spot, time: u32) -> bool
+    ensures { IsTrue result ↔ IsShown lasting spot.now time }
 {
-    if ahead {
-        Place::Ahead
-    } else if spot.time > time {
-        Place::Behind
+    if lasting {
+        spot.time <= time
     } else {
-        Place::Beside
+        spot.time == time
+    }
+}
+
+// In which place the spot shows its agent in the step that begins at the time, if it does, where one
+// is in its cell then: behind only if not beside.
+pub(crate) fn place_of(lasting: bool, spot: &Spot, time: u32) -> Option<Place>
+    requires { time < u32.MAX }
+    ensures beside { IsShown lasting spot.now time → result ≡ Some Place.Beside }
+    ensures behind { IsShown lasting spot.now (time + 1) → (result ≡ Some Place.Behind) ⊎ IsShown lasting spot.now time }
+    ensures shown { IfSome result (λ place. (place ≢ Place.Ahead) × IsShown lasting spot.now (seen_at place time)) }
+{
+    if is_shown(lasting, spot, time) {
+        Some(Place::Beside)
+    } else if is_shown(lasting, spot, time + 1) {
+        Some(Place::Behind)
+    } else {
+        None
     }
 }
 

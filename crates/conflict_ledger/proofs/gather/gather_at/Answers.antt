@@ -1,17 +1,45 @@
-use Rattle.std.proofs.Common.{Option, ap, sym, ◌∙◌}
-use Rattle.std.specs.Option.{option_and_then}
-use Rattle.plan_table.specs.Route.{Route, position}
+use Rattle.std.proofs.Common.{◌≡◌, ◌+◌, ◌≤◌, Option, ap, sym, ◌∙◌, arith}
+use Rattle.std.specs.Option.{unwrap_or}
+use Rattle.grid_cells.specs.Cell.{Point}
 use Rattle.std.proofs.lemmas.Result.{on_ok_weaker}
-use Rattle.conflict_ledger.proofs.Late.{nowhere_has, where_own}
+use Rattle.plan_table.specs.Route.{Fleet}
+use Rattle.conflict_ledger.specs.Sight.{Sees}
+use Rattle.conflict_ledger.specs.Gathering.{IsWhere, IsStop}
+use Rattle.conflict_ledger.specs.declared.places.Stop.{Stop}
+use Rattle.conflict_ledger.specs.declared.places.Place.TheVariants.{Beside, Ahead, Behind}
+use Rattle.conflict_ledger.proofs.Late.{came_own, nowhere_place, stop_own, stop_ahead, stop_beside, stop_behind}
 use Rattle.conflict_ledger.proofs.gather.gather_at.Goals as goal
 
-pub returns-in_default-clause-has : goal.returns-in_default-clause-has
-returns-in_default-clause-has c fleet shows =
-    nowhere_has _ _ _ fleet shows c.args.time c.args.entries.now.items
-    (ap (λ (o : Option Route). option_and_then (λ r. position r c.args.time) o) shows.own ∙ (sym c.own.ensures ∙ c.in_default.is))
+pub returns-in_default-clause-ahead : goal.returns-in_default-clause-ahead
+returns-in_default-clause-ahead c fleet shows next = nowhere_place _ _ _ fleet shows Ahead c.args.past _ (rw next (sym c.own.ensures ∙ c.in_default.is))
+
+pub returns-in_default-clause-beside : goal.returns-in_default-clause-beside
+returns-in_default-clause-beside c fleet shows near = nowhere_place _ _ _ fleet shows Beside c.args.time _ (sym c.own.ensures ∙ c.in_default.is)
+
+pub returns-in_default-clause-behind : goal.returns-in_default-clause-behind
+returns-in_default-clause-behind c fleet shows near = nowhere_place _ _ _ fleet shows Behind c.args.time _ (sym c.own.ensures ∙ c.in_default.is)
+
+module _ (c : goal.After-gather_stop) (fleet : Fleet) (shows : Sees c.args.sight.now fleet) where
+  abbrev stop : Stop
+  stop = record { past = c.args.past; time = c.args.time; before = c.unwrap_or-before.result; here = c.in-Some.here; next = c.unwrap_or-next.result }
+
+  from_here : (o own : Option Point) → o ≡ own → unwrap_or o c.in-Some.here ≡ unwrap_or own c.in-Some.here
+  from_here o own e = ap (λ (o : Option Point). unwrap_or o c.in-Some.here) e
+
+  came : c.args.past + 1 ≡ c.args.time → IsWhere fleet c.args.sight.now.agent c.args.past c.unwrap_or-before.result c.in-Some.here
+  came next = came_own _ _ _ fleet shows c.args.past c.args.time _ _ next (sym c.own.ensures ∙ c.in-Some.is) (c.unwrap_or-before.ensures ∙ from_here _ _ c.own-2.ensures)
+
+  is_stop : c.args.time ≤ c.args.past + 1 → IsStop fleet c.args.sight.now.agent stop
+  is_stop near = stop_own _ _ _ fleet shows stop c.requires.0 near (sym c.own.ensures ∙ c.in-Some.is) (c.unwrap_or-before.ensures ∙ from_here _ _ c.own-2.ensures) (c.unwrap_or-next.ensures ∙ from_here _ _ c.own-3.ensures)
 
 pub returns-clause-gathers : goal.returns-clause-gathers
-returns-clause-gathers c = on_ok_weaker c.gather_step.result (λ gives fleet shows. gives fleet shows (where_own _ _ _ fleet shows c.args.time c.in-Some.here c.unwrap_or-next.result _ _ c.own.ensures c.in-Some.is c.own-2.ensures c.unwrap_or-next.ensures)) c.gather_step.ensures.gathers
+returns-clause-gathers c = on_ok_weaker c.gather_stop.result (λ gives fleet shows near. gives fleet shows (is_stop c fleet shows near)) c.gather_stop.ensures.gathers
 
-pub returns-clause-has : goal.returns-clause-has
-returns-clause-has c = on_ok_weaker c.gather_step.result (λ gives fleet shows. gives fleet shows (where_own _ _ _ fleet shows c.args.time c.in-Some.here c.unwrap_or-next.result _ _ c.own.ensures c.in-Some.is c.own-2.ensures c.unwrap_or-next.ensures)) c.gather_step.ensures.has
+pub returns-clause-ahead : goal.returns-clause-ahead
+returns-clause-ahead c = on_ok_weaker c.gather_stop.result (λ gives fleet shows next. stop_ahead _ _ _ fleet shows (stop c fleet shows) _ (gives fleet shows (is_stop c fleet shows (omega arith))) (came c fleet shows next)) c.gather_stop.ensures.has
+
+pub returns-clause-beside : goal.returns-clause-beside
+returns-clause-beside c = on_ok_weaker c.gather_stop.result (λ gives fleet shows near. stop_beside _ _ _ fleet shows (stop c fleet shows) _ (gives fleet shows (is_stop c fleet shows near)) (is_stop c fleet shows near)) c.gather_stop.ensures.has
+
+pub returns-clause-behind : goal.returns-clause-behind
+returns-clause-behind c = on_ok_weaker c.gather_stop.result (λ gives fleet shows near. stop_behind _ _ _ fleet shows (stop c fleet shows) _ (gives fleet shows (is_stop c fleet shows near)) (is_stop c fleet shows near)) c.gather_stop.ensures.has

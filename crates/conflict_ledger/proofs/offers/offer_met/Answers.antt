@@ -5,7 +5,7 @@ use Rattle.conflict_ledger.specs.Gathering.{IsMet, IsNear}
 use Rattle.conflict_ledger.specs.declared.places.Place.{Place}
 use Rattle.conflict_ledger.proofs.Gathers.{gathers_nothing, gathers_on, gathers_offer}
 use Rattle.conflict_ledger.proofs.Meetings.{one_of, goes_on, together, met_beside, met_ahead}
-use Rattle.conflict_ledger.proofs.gather.offer_met.Goals as goal
+use Rattle.conflict_ledger.proofs.offers.offer_met.Goals as goal
 
 pub returns-then-eq-clause-gathers : goal.returns-then-eq-clause-gathers
 returns-then-eq-clause-gathers c fleet shows place near = gathers_nothing fleet _ _ _
