@@ -1,8 +1,11 @@
-ghost use Rattle.std.specs.Prelude.{◌≡◌, ℕ, ◌+◌, ◌*◌, ◌<◌, ◌≤◌, Some, None, IfOk, IfSome, IfNone, is_some, slice_index, slice_set, replicate, vec_len, vec_capacity};
+//! A binary heap of cells that knows the place of each cell.
+ghost use Rattle.std.specs.Prelude.{◌≡◌, ◌<◌, ◌≤◌, Some, None, IfOk, IfSome, IfNone, is_some, slice_set, replicate, vec_len, vec_capacity};
 ghost use Rattle.grid_cells.specs.Size.{Holds};
 ghost use Rattle.grid_cells.specs.Grid.{flag_index};
 ghost use Rattle.cell_queue.specs.Queue.{area, key_at, IsLeastKey, IsEmpty};
-ghost use Rattle.cell_queue.specs.Heap.{IsSyncedHeap, IsHeap, IsLaid, HasRoom, IsShuffled, IsLoose, IsLooseUp, IsLooseDown, IsChild, keys_in, number_in, queue_of};
+ghost use Rattle.cell_queue.specs.Heap.{IsHeap, IsLaid, keys_in, number_in, queue_of};
+
+mod settling;
 
 use grid_cells::{Cell, OutOfMemory, Size};
 use std::alloc::Global;
@@ -19,105 +22,6 @@ pub struct Heap {
     pub keys: Vec<u32>,
     pub places: Vec<u32>,
     pub len: usize,
-}
-
-impl Heap {
-    // Exchanges what stands at two places.
-    fn swap(&mut self, i: usize, j: usize)
-        requires synced { IsSyncedHeap self.old }
-        requires first { i < self.old.len }
-        requires second { j < self.old.len }
-        ensures synced { IsSyncedHeap self.new }
-        ensures shuffled { IsShuffled self.old self.new }
-        ensures room { HasRoom self.old → HasRoom self.new }
-        ensures moved { number_in self.new.size self.new.cells.items j ≡
-            number_in self.old.size self.old.cells.items i }
-        ensures keys { self.new.keys.items ≡
-            slice_set (slice_set self.old.keys.items i (slice_index self.old.keys.items j)) j
-            (slice_index self.old.keys.items i) }
-    {
-        let (cell, other) = (self.cells[i], self.cells[j]);
-        let (key, other_key) = (self.keys[i], self.keys[j]);
-        self.cells[i] = other;
-        self.cells[j] = cell;
-        self.keys[i] = other_key;
-        self.keys[j] = key;
-        self.places[self.size.index(other)] = i as u32;
-        self.places[self.size.index(cell)] = j as u32;
-    }
-
-    // Moves a key that may be too small up to where it belongs.
-    fn rise(&mut self, at: usize)
-        requires synced { IsSyncedHeap self.old }
-        requires at { at < self.old.len }
-        requires loose { IsLooseUp self.old.keys.items self.old.len at }
-        requires room { HasRoom self.old }
-        ensures heap { IsHeap self.new }
-        ensures shuffled { IsShuffled self.old self.new }
-    {
-        let mut at = at;
-        while at > 0 {
-            let parent = (at - 1) / 2;
-            if self.keys[parent] <= self.keys[at] {
-                return;
-            }
-            self.swap(parent, at);
-            at = parent;
-        }
-    }
-
-    // The child with the lesser key.
-    fn lesser_child(&self, at: usize) -> usize
-        requires synced { IsSyncedHeap self.now }
-        requires parent { 2 * at + 1 < self.now.len }
-        ensures child { IsChild at result }
-        ensures inside { result < self.now.len }
-        ensures least { (c : ℕ) → IsChild at c → c < self.now.len →
-            slice_index self.now.keys.items result ≤ slice_index self.now.keys.items c }
-    {
-        let left = 2 * at + 1;
-        if left + 1 < self.len && self.keys[left + 1] < self.keys[left] {
-            left + 1
-        } else {
-            left
-        }
-    }
-
-    // Moves a key that may be too great down to where it belongs.
-    fn sink(&mut self, at: usize)
-        requires synced { IsSyncedHeap self.old }
-        requires at { at < self.old.len }
-        requires loose { IsLooseDown self.old.keys.items self.old.len at }
-        requires room { HasRoom self.old }
-        ensures heap { IsHeap self.new }
-        ensures shuffled { IsShuffled self.old self.new }
-    {
-        let mut at = at;
-        while 2 * at + 1 < self.len {
-            let child = self.lesser_child(at);
-            if self.keys[at] <= self.keys[child] {
-                return;
-            }
-            self.swap(at, child);
-            at = child;
-        }
-    }
-
-    // Moves the key at a place to where it belongs.
-    fn settle(&mut self, at: usize)
-        requires synced { IsSyncedHeap self.old }
-        requires at { at < self.old.len }
-        requires loose { IsLoose self.old.keys.items self.old.len at }
-        requires room { HasRoom self.old }
-        ensures heap { IsHeap self.new }
-        ensures shuffled { IsShuffled self.old self.new }
-    {
-        if at > 0 && self.keys[at] < self.keys[(at - 1) / 2] {
-            self.rise(at);
-        } else {
-            self.sink(at);
-        }
-    }
 }
 
 impl Heap {

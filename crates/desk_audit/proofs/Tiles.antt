@@ -19,15 +19,11 @@ use Rattle.mapf_rules.specs.declared.entries.Conflict.{Conflict}
 use Rattle.mapf_rules.specs.Visits.{visit_key}
 use Rattle.desk_report.specs.Report.{IsLine, AreLines}
 use Rattle.desk_audit.specs.Parts.{IsPart, IsVisitOf, AreEntriesOf, first_agent}
+use Rattle.desk_audit.specs.Pieces.{Tiles}
 use Rattle.desk_audit.specs.declared.parts.Part.{Part}
 use Rattle.desk_audit.specs.declared.threads.Piece.{Piece}
 use Rattle.desk_audit.proofs.Finding.{ranked_none}
 use Rattle.desk_audit.proofs.Merging.{joined, visits_joined, visits_none, EachOf-append, range_step, rank_in_all}
-
--- the pieces are of this scene, and go from one rank to another with no gap
-abbrev pub Tiles : SceneState → ℕ → List Piece → ℕ → Type 0
-Tiles scene from [] to = from ≡ to
-Tiles scene from (p ∷ ps) to = (p.scene.now ≡ scene) × (p.from ≡ from) × (from ≤ p.to) × Tiles scene p.to ps to
 
 pub tiles-more : (scene : SceneState) (a b : ℕ) (ps : List Piece) (p : Piece) → Tiles scene a ps b → p.scene.now ≡ scene → p.from ≡ b → b ≤ p.to → Tiles scene a (ps ++ (p ∷ [])) p.to
 tiles-more scene a b [] p t is from le = (is, from ∙ sym t, omega arith, refl)

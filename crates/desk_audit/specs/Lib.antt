@@ -1,4 +1,5 @@
 pub mod Filing
 pub mod Index
 pub mod Parts
+pub mod Pieces
 pub mod Seeking

@@ -1,6 +1,7 @@
 //! The report of a scene, made from scratch in pieces, each by a thread of its own.
 #![tactic(auto)]
 
+mod adding;
 mod audits;
 mod entries;
 mod faults;

@@ -1,9 +1,10 @@
 //! The threads of an audit: one for each piece, under a promise that says what its part is.
-ghost use Rattle.std.specs.Prelude.{◌≡◌, ◌≤◌, ◌<◌, ◌^◌, ◌+◌, ℕ, length, IfOk, IfSome};
+ghost use Rattle.std.specs.Prelude.{◌≡◌, ◌≤◌, ◌<◌, ◌^◌, ◌+◌, false, length, map, IfOk, IfSome};
 ghost use Rattle.plan_table.specs.Route.{tracks_of};
 ghost use Rattle.scene_edits.specs.Scene.{IsScene};
 ghost use Rattle.desk_audit.specs.Index.{IsIndexOf};
 ghost use Rattle.desk_audit.specs.Parts.{IsPart, edge};
+ghost use Rattle.desk_audit.specs.Pieces.{IsJoined};
 
 use crate::gates::Gate;
 use crate::parts::Part;
@@ -77,37 +78,47 @@ pub fn in_scope<'s, E: 's, G: Gate, R: Threads>(
     requires index { IsIndexOf (tracks_of scene.now.mode scene.now.rows) index.now }
     ensures { IfSome result (IsPart scene.now.grid scene.now.mode scene.now.rows 0 (length scene.now.rows)) }
 {
-    let agents = scene.plans().count();
     let mut children: Vec<PromisedHandle<Result<Part, OutOfMemory>, Piece<'s>>> = Vec::new(alloc);
     let mut lost = false;
     let mut from = 0;
     'pieces: for piece in 0..workers {
-        let to = edge_of(agents, workers, piece + 1);
-        let promise = Piece { scene, from, to };
-        let started = scope.spawn_with(
-            promise,
+        let to = edge_of(scene.plans().count(), workers, piece + 1);
+        let Ok(child) = scope.spawn_with(
+            Piece { scene, from, to },
             move || -> Result<Part, OutOfMemory>
                 requires order { from ≤ to }
                 requires within { to ≤ length scene.now.rows }
                 requires index { IsIndexOf (tracks_of scene.now.mode scene.now.rows) index.now }
                 ensures { IfOk result (IsPart scene.entry.now.grid scene.entry.now.mode scene.entry.now.rows from to) }
             { part_of(alloc, scene, index, from, to, piece, gate) },
-        );
-        match started {
-            Err(_) => {
-                lost = true;
-                break;
-            }
-            Ok(child) => {
-                if let Err(refused) = children.push(child) {
-                    let _ = refused.value.join(rt);
-                    lost = true;
-                    break;
-                }
-            }
+        ) else {
+            lost = true;
+            break;
+        };
+        if let Err(refused) = children.push(child) {
+            let _ = refused.value.join(rt);
+            lost = true;
+            break;
         }
         from = to;
     }
+    joined(rt, alloc, scene, children, lost)
+}
+
+// The parts that the threads answer, put together in turn; none where memory was refused, to one of
+// them or here, or where one is known to be lost. Each thread is joined.
+fn joined<'s, R: Threads>(
+    rt: &R,
+    alloc: Global,
+    scene: &'s Scene,
+    children: Vec<PromisedHandle<Result<Part, OutOfMemory>, Piece<'s>>>,
+    lost: bool,
+) -> Option<Part>
+    ensures all { IfSome result (λ whole. lost ≡ false) }
+    ensures part { IfSome result (IsJoined scene.now (map (λ child. child.promise) children.entry.items)) }
+{
+    let mut lost = lost;
+    let _agents = scene.plans();
     let mut whole = Part::new(alloc);
     'joins: for child in children {
         match child.join(rt) {

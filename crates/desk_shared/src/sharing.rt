@@ -1,19 +1,20 @@
+//! A desk that is shared: opened, used through a pass, and closed.
 ghost use Rattle.std.specs.Prelude.{◌≡◌, true, IfOk, IfErr};
-ghost use Rattle.desk_core.specs.Questions.{Shows, Judges, Tells, Copies};
 ghost use Rattle.desk_shared.specs.Passes.{Owns};
-ghost use Rattle.desk_shared.specs.declared.faults.SplitFault.TheVariants.{PassesFull};
-ghost use Rattle.desk_shared.specs.Calls.{MayShare, Unshared, IsFirst, CommitsBy, IsLastSeen, AsksBy, IsFront, KeepsNone, IsSplit, IsJoined, IsClosed};
+ghost use Rattle.desk_shared.specs.Calls.{MayShare, Unshared, IsFirst, CommitsBy, IsLastSeen, IsFront, IsClosed};
+
+mod asking;
+mod splitting;
 
 use crate::board::{About, Top};
-use crate::faults::{MOST_PLANNERS, PassLost, ShareFault, SplitFault};
-use crate::numbers::{least, merge, numbers_to};
+use crate::faults::{MOST_PLANNERS, PassLost, ShareFault};
+use crate::numbers::numbers_to;
 use crate::passes::Pass;
-use crate::plays::{Aside, Compare, Front, Give, Merge};
+use crate::plays::Front;
 use crate::steps::{free, grow, reach, win};
 use atomic_table::Table;
-use desk_core::{AskFault, Commit, Desk, Reading, Refusal, Snapshot};
-use desk_report::Kinds;
-use grid_cells::{Agent, Cell, OutOfMemory, Planner};
+use desk_core::{Commit, Desk, Refusal};
+use grid_cells::Planner;
 use std::alloc::{AllocError, Global};
 use std::marker::Model;
 use std::snapshot;
@@ -126,78 +127,6 @@ impl SharedDesk {
         }
     }
 
-    /// The report of the desk's scene, in the pass's turn. It may wait.
-    pub fn reading<R: Wait>(&self, rt: &R, pass: &mut Pass) -> Result<Reading, OutOfMemory>
-        requires owned { Owns self.now pass.old }
-        ensures owned { Owns self.now pass.new }
-        ensures answer { AsksBy pass.old.known (λ desk. IfOk result (Shows desk)) pass.new.known }
-    {
-        let top = &self.table.shared;
-        let mut desk = win(rt, top, &mut pass.place);
-        let reading = desk.reading();
-        free(top, &mut pass.place, desk);
-        reading
-    }
-
-    /// Whether the plans of the desk's scene solve by those kinds, in the pass's turn. It may wait.
-    ///
-    /// # Errors
-    ///
-    /// Want of memory.
-    pub fn solves<R: Wait>(
-        &self,
-        rt: &R,
-        pass: &mut Pass,
-        kinds: Kinds,
-    ) -> Result<bool, OutOfMemory>
-        requires owned { Owns self.now pass.old }
-        ensures owned { Owns self.now pass.new }
-        ensures answer { AsksBy pass.old.known (λ desk. IfOk result (Judges desk kinds)) pass.new.known }
-    {
-        let top = &self.table.shared;
-        let mut desk = win(rt, top, &mut pass.place);
-        let answer = desk.solves(kinds);
-        free(top, &mut pass.place, desk);
-        answer
-    }
-
-    /// The distance in steps of the cell to the agent's goal on the desk's map, if there is one, in
-    /// the pass's turn. It may wait.
-    ///
-    /// # Errors
-    ///
-    /// The first fault of the question, or want of memory.
-    pub fn distance<R: Wait>(
-        &self,
-        rt: &R,
-        pass: &mut Pass,
-        agent: Agent,
-        cell: Cell,
-    ) -> Result<Option<u32>, AskFault>
-        requires owned { Owns self.now pass.old }
-        ensures owned { Owns self.now pass.new }
-        ensures answer { AsksBy pass.old.known (λ desk. Tells desk.scene agent cell result) pass.new.known }
-    {
-        let top = &self.table.shared;
-        let mut desk = win(rt, top, &mut pass.place);
-        let distance = desk.distance(agent, cell);
-        free(top, &mut pass.place, desk);
-        distance
-    }
-
-    /// A copy of the desk's scene, in the pass's turn. It may wait.
-    pub fn snapshot<R: Wait>(&self, rt: &R, pass: &mut Pass) -> Result<Snapshot, OutOfMemory>
-        requires owned { Owns self.now pass.old }
-        ensures owned { Owns self.now pass.new }
-        ensures answer { AsksBy pass.old.known (λ desk. IfOk result (Copies desk)) pass.new.known }
-    {
-        let top = &self.table.shared;
-        let desk = win(rt, top, &mut pass.place);
-        let copy = desk.snapshot();
-        free(top, &mut pass.place, desk);
-        copy
-    }
-
     /// The version of the desk, without a turn. No later answer to the pass is of a lesser one.
     pub fn front(&self, pass: &mut Pass) -> u64
         requires owned { Owns self.now pass.old }
@@ -205,50 +134,6 @@ impl SharedDesk {
         ensures answer { IsFront pass.old.known result pass.new.known }
     {
         self.table.shared.load::<Front>(&mut pass.place, 0)
-    }
-
-    /// A new pass, with the least number that this pass keeps. It has seen what this one has.
-    ///
-    /// # Errors
-    ///
-    /// The pass keeps no number, and stays as it was.
-    pub fn split(&self, pass: &mut Pass) -> Result<Pass, SplitFault>
-        requires owned { Owns self.now pass.old }
-        ensures owned { Owns self.now pass.new }
-        ensures owns_other { IfOk result (λ other. Owns self.now other) }
-        ensures split { IfOk result (λ other. IsSplit pass.old.known pass.new.known other.known) }
-        ensures fault { IfErr result (λ fault. KeepsNone pass.old.known × (fault ≡ PassesFull self.now.planners)) }
-        ensures same { IfErr result (λ fault. pass.new ≡ pass.old) }
-    {
-        let Some(planner) = least(&pass.unused) else {
-            return Err(SplitFault::PassesFull {
-                planners: self.planners,
-            });
-        };
-        let top = &self.table.shared;
-        top.load::<Aside>(&mut pass.place, 0);
-        let place = top.split_seat::<Give>(&mut pass.place);
-        pass.unused[planner.number() as usize] = false;
-        Ok(Pass {
-            place,
-            planner,
-            unused: [false; 256],
-        })
-    }
-
-    /// Joins the other pass into this one, which has then seen what both have, and keeps the unused
-    /// numbers of both. The other's own number isn't given again.
-    pub fn join(&self, pass: &mut Pass, other: Pass)
-        requires owned { Owns self.now pass.old }
-        requires owns_other { Owns self.now other }
-        ensures owned { Owns self.now pass.new }
-        ensures joined { IsJoined pass.old.known other.known pass.new.known }
-    {
-        let Pass { place, unused, .. } = other;
-        let top = &self.table.shared;
-        top.join_seat::<Merge>(&mut pass.place, place);
-        top.load::<Compare>(&mut pass.place, 0);
-        merge(&mut pass.unused, &unused);
     }
 
     /// Ends the sharing, and gives the desk back.

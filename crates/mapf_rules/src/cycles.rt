@@ -4,8 +4,9 @@ ghost use Rattle.mapf_rules.specs.ConflictList.{Stands};
 ghost use Rattle.mapf_rules.specs.Finding.{AllStand, KeepsAll, HasRing, FindsRing};
 
 use crate::entries::Conflict;
+use crate::movers::{Table, agent_of, destination};
 use crate::offers::offer;
-use crate::rings::{Table, agent_of, destination, ring_from};
+use crate::rings::ring_from;
 use grid_cells::{Agent, OutOfMemory, Step};
 use plan_table::{MOST_LAST_INDEX, Mode, Plans};
 use std::alloc::Global;

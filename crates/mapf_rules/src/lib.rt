@@ -5,6 +5,7 @@
 mod cycles;
 mod entries;
 mod laws;
+mod movers;
 mod offers;
 mod pairs;
 mod plain;
@@ -19,10 +20,11 @@ pub use laws::{
     entries_compare_as_listed, meetings_are_told, named_agents_are_there, one_conflict_list,
     one_sum_and_makespan, one_visit_list, settles_at_last, swap_is_two_followings,
 };
+pub use movers::{Movers, destination, moves_out};
 pub use offers::offer;
 pub use pairs::{last, position};
 pub use plain::{conflicts, entries_of_pair, entries_of_two};
-pub use rings::{Movers, destination, moves_out, ring_from, ring_out_of, ring_through};
+pub use rings::{ring_from, ring_out_of, ring_through};
 pub use search::{add_visits, blocked_visits, is_closed, is_unblocked};
 pub use sorting::sorted;
 pub use totals::{costs, greatest_of, is_finished, makespan, settle_time, sum_of, sum_of_costs};

@@ -8,9 +8,9 @@ ghost use Rattle.mapf_rules.specs.Finding.{AllStand, KeepsAll, HasPair};
 
 use crate::cycles::add_cycles;
 use crate::entries::Conflict;
+use crate::movers::agent_of;
 use crate::offers::offer;
 use crate::pairs::{edge, following, last, parked, swapping, vertex};
-use crate::rings::agent_of;
 use crate::sorting::sorted;
 use grid_cells::{Agent, List, OutOfMemory};
 use plan_table::{MOST_LAST_INDEX, Mode, Plans};

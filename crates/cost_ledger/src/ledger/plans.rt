@@ -48,16 +48,7 @@ impl CostLedger {
                 Ok(self)
             }
             Err(refused) => {
-                let CostLedger {
-                    alloc: _,
-                    rows,
-                    spots,
-                    blocked,
-                    rests,
-                    total: _,
-                    elsewhere: _,
-                } = self;
-                drop((rows, spots, blocked, rests));
+                drop((self.rows, self.spots, self.blocked, self.rests));
                 Err(refused)
             }
         }
@@ -69,12 +60,7 @@ impl CostLedger {
     /// # Errors
     ///
     /// Want of memory. The ledger is gone then.
-    pub fn set_plan(
-        mut self,
-        agent: Agent,
-        plan: &Plan,
-        grid: &Grid,
-    ) -> Result<CostLedger, OutOfMemory>
+    pub fn set_plan(mut self, agent: Agent, plan: &Plan, grid: &Grid) -> Result<Self, OutOfMemory>
         ensures row { IfOk result (λ ledger. IfSome (row_of self.rows agent) (λ row. ChangesRow self.rows ledger.rows agent (Some (record row { plan = plan.now })))) }
         ensures by_agent { IfOk result (λ ledger. IsByAgent ledger.rows) }
         ensures stands { IfOk result (λ ledger. StandsFor self grid.now → StandsFor ledger grid.now) }
@@ -108,16 +94,7 @@ impl CostLedger {
             }
             Err(refused) => {
                 drop(old);
-                let CostLedger {
-                    alloc: _,
-                    rows,
-                    spots,
-                    blocked,
-                    rests,
-                    total: _,
-                    elsewhere: _,
-                } = self;
-                drop((rows, spots, blocked, rests));
+                drop((self.rows, self.spots, self.blocked, self.rests));
                 Err(refused)
             }
         }

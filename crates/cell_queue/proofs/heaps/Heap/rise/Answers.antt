@@ -1,7 +1,6 @@
 use Rattle.std.specs.Prelude.{slice_index}
 use Rattle.std.proofs.Common.{◌≡◌, ◌-◌, ◌/◌, ◌<◌, ◌≤◌, ◌∙◌, length, arith}
 use Rattle.std.proofs.lemmas.List.{get_or_read}
-use Rattle.cell_queue.specs.Heap.{IsLooseUp}
 use Rattle.cell_queue.proofs.HeapOrder.{IsLooseUp-rise}
 use Rattle.cell_queue.proofs.heaps.Heap.rise.Goals as goal
 

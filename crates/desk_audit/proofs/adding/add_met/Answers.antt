@@ -3,8 +3,8 @@ use Rattle.plan_table.specs.Route.{tracks_of}
 use Rattle.mapf_rules.specs.Naming.{IsOfPair}
 use Rattle.desk_audit.specs.Seeking.{IsOfMet}
 use Rattle.desk_audit.proofs.Finding.{finds_then, finds_as, met_split}
-use Rattle.desk_audit.proofs.entries.add_met.Goals as goal
-use Rattle.desk_audit.proofs.entries.add_met.Goals.{then-pass-time+in_ok-add_pair, else-pass-time}
+use Rattle.desk_audit.proofs.adding.add_met.Goals as goal
+use Rattle.desk_audit.proofs.adding.add_met.Goals.{then-pass-time+in_ok-add_pair, else-pass-time}
 
 pub loop-pass-preserved : goal.loop-pass-preserved
 loop-pass-preserved c =

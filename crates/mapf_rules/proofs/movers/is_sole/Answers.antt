@@ -2,7 +2,7 @@ use Rattle.std.proofs.Common.{◌≡◌, refl, arith}
 use Rattle.plan_table.specs.Route.{tracks_of}
 use Rattle.mapf_rules.specs.Cycles.{MovesOut}
 use Rattle.plan_table.proofs.Fleets.{all_agents, tracks_live, position_live}
-use Rattle.mapf_rules.proofs.rings.is_sole.Goals as goal
+use Rattle.mapf_rules.proofs.movers.is_sole.Goals as goal
 
 pub returns : goal.returns
 returns c = (

@@ -2,7 +2,7 @@ use Rattle.std.proofs.Common.{arith}
 use Rattle.plan_table.specs.Route.{tracks_of}
 use Rattle.mapf_rules.specs.Cycles.{MovesOut}
 use Rattle.plan_table.proofs.Fleets.{all_agents, tracks_live, position_live}
-use Rattle.mapf_rules.proofs.rings.mover.Goals as goal
+use Rattle.mapf_rules.proofs.movers.mover.Goals as goal
 
 pub returns-clause-none : goal.returns-clause-none
 returns-clause-none c agent out =

@@ -7,7 +7,7 @@ use Rattle.mapf_rules.specs.ConflictList.{Stands}
 use Rattle.mapf_rules.specs.declared.entries.Conflict.TheVariants.{Cycle}
 use Rattle.desk_audit.specs.Seeking.{IsRingFrom}
 use Rattle.desk_audit.proofs.Finding.{finds_none, finds_one}
-use Rattle.desk_audit.proofs.entries.add_ring.Goals as goal
+use Rattle.desk_audit.proofs.adding.add_ring.Goals as goal
 
 pub returns : goal.returns
 returns c =

@@ -3,8 +3,8 @@ use Rattle.plan_table.specs.Route.{tracks_of}
 use Rattle.mapf_rules.specs.Naming.{IsOfPair}
 use Rattle.desk_audit.specs.Seeking.{IsOfPassed}
 use Rattle.desk_audit.proofs.Finding.{finds_then, finds_as, passed_split}
-use Rattle.desk_audit.proofs.entries.add_passed.Goals as goal
-use Rattle.desk_audit.proofs.entries.add_passed.Goals.{then-after-pass+then-pass-last+in_ok-add_pair, else-after-pass, else-after-pass-via-then-after-pass+else-pass-last, else-after-pass-via-else-after-pass}
+use Rattle.desk_audit.proofs.adding.add_passed.Goals as goal
+use Rattle.desk_audit.proofs.adding.add_passed.Goals.{then-after-pass+then-pass-last+in_ok-add_pair, else-after-pass, else-after-pass-via-then-after-pass+else-pass-last, else-after-pass-via-else-after-pass}
 
 pub loop-pass-preserved : goal.loop-pass-preserved
 loop-pass-preserved c =

@@ -1,0 +1,87 @@
+//! What a pass asks the desk in its turn, which changes nothing.
+ghost use Rattle.std.specs.Prelude.{IfOk};
+ghost use Rattle.desk_core.specs.Questions.{Shows, Judges, Tells, Copies};
+ghost use Rattle.desk_shared.specs.Passes.{Owns};
+ghost use Rattle.desk_shared.specs.Calls.{AsksBy};
+
+use super::SharedDesk;
+use crate::passes::Pass;
+use crate::steps::{free, win};
+use desk_core::{AskFault, Reading, Snapshot};
+use desk_report::Kinds;
+use grid_cells::{Agent, Cell, OutOfMemory};
+use std::sync::Wait;
+
+impl SharedDesk {
+    /// The report of the desk's scene, in the pass's turn. It may wait.
+    pub fn reading<R: Wait>(&self, rt: &R, pass: &mut Pass) -> Result<Reading, OutOfMemory>
+        requires owned { Owns self.now pass.old }
+        ensures owned { Owns self.now pass.new }
+        ensures answer { AsksBy pass.old.known (λ desk. IfOk result (Shows desk)) pass.new.known }
+    {
+        let top = &self.table.shared;
+        let mut desk = win(rt, top, &mut pass.place);
+        let reading = desk.reading();
+        free(top, &mut pass.place, desk);
+        reading
+    }
+
+    /// Whether the plans of the desk's scene solve by those kinds, in the pass's turn. It may wait.
+    ///
+    /// # Errors
+    ///
+    /// Want of memory.
+    pub fn solves<R: Wait>(
+        &self,
+        rt: &R,
+        pass: &mut Pass,
+        kinds: Kinds,
+    ) -> Result<bool, OutOfMemory>
+        requires owned { Owns self.now pass.old }
+        ensures owned { Owns self.now pass.new }
+        ensures answer { AsksBy pass.old.known (λ desk. IfOk result (Judges desk kinds)) pass.new.known }
+    {
+        let top = &self.table.shared;
+        let mut desk = win(rt, top, &mut pass.place);
+        let answer = desk.solves(kinds);
+        free(top, &mut pass.place, desk);
+        answer
+    }
+
+    /// The distance in steps of the cell to the agent's goal on the desk's map, if there is one, in
+    /// the pass's turn. It may wait.
+    ///
+    /// # Errors
+    ///
+    /// The first fault of the question, or want of memory.
+    pub fn distance<R: Wait>(
+        &self,
+        rt: &R,
+        pass: &mut Pass,
+        agent: Agent,
+        cell: Cell,
+    ) -> Result<Option<u32>, AskFault>
+        requires owned { Owns self.now pass.old }
+        ensures owned { Owns self.now pass.new }
+        ensures answer { AsksBy pass.old.known (λ desk. Tells desk.scene agent cell result) pass.new.known }
+    {
+        let top = &self.table.shared;
+        let mut desk = win(rt, top, &mut pass.place);
+        let distance = desk.distance(agent, cell);
+        free(top, &mut pass.place, desk);
+        distance
+    }
+
+    /// A copy of the desk's scene, in the pass's turn. It may wait.
+    pub fn snapshot<R: Wait>(&self, rt: &R, pass: &mut Pass) -> Result<Snapshot, OutOfMemory>
+        requires owned { Owns self.now pass.old }
+        ensures owned { Owns self.now pass.new }
+        ensures answer { AsksBy pass.old.known (λ desk. IfOk result (Copies desk)) pass.new.known }
+    {
+        let top = &self.table.shared;
+        let desk = win(rt, top, &mut pass.place);
+        let copy = desk.snapshot();
+        free(top, &mut pass.place, desk);
+        copy
+    }
+}
