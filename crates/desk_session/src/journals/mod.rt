@@ -1,6 +1,7 @@
 //! The text of journals: written, read in both versions, and upgraded.
 mod entries;
 mod faults;
+mod headings;
 mod laws;
 mod lines;
 mod places;

@@ -1,51 +1,15 @@
 //! Where a line of a journal leads.
-ghost use Rattle.std.specs.Prelude.{◌≡◌, ◌<◌, ◌≤◌, [], length, IfOk};
+ghost use Rattle.std.specs.Prelude.{◌≡◌, ◌<◌, ◌≤◌, length, IfOk};
 ghost use Rattle.desk_session.specs.JournalText.Begun.{fresh, IsBegun};
 ghost use Rattle.desk_session.specs.JournalText.Places.{settled, IsPlace, LeadsTo};
 
+use crate::journals::headings::{start, versioned};
 use crate::journals::lines::{edit_of, head_of, thing_of};
 use crate::journals::places::{Begun, Head, Heading, Place};
 use crate::journals::spelling::is_end;
 use desk_core::{Commit, MOST_ENTRIES};
 use grid_cells::{List, OutOfMemory};
-use plan_table::Mode;
 use std::alloc::Global;
-
-// Behind a heading.
-fn headed(alloc: Global, heading: Heading) -> Place
-    ensures { result ≡ Place.Between heading [] }
-{
-    Place::Between {
-        heading,
-        entries: List::new(Vec::new(alloc)),
-    }
-}
-
-// From the start.
-fn start(alloc: Global, line: &[u8]) -> Option<Place>
-    ensures { LeadsTo Place.Start line.now result }
-{
-    if line == b"journal 1".as_slice() {
-        Some(headed(alloc, Heading::First))
-    } else if line == b"journal 2".as_slice() {
-        Some(Place::Versioned)
-    } else {
-        None
-    }
-}
-
-// From behind `journal 2`.
-fn versioned(alloc: Global, line: &[u8]) -> Option<Place>
-    ensures { LeadsTo Place.Versioned line.now result }
-{
-    if line == b"mode stay".as_slice() {
-        Some(headed(alloc, Heading::Second(Mode::Stay)))
-    } else if line == b"mode disappear".as_slice() {
-        Some(headed(alloc, Heading::Second(Mode::Disappear)))
-    } else {
-        None
-    }
-}
 
 // Inside the entry, or behind it where it lacks nothing.
 fn settled(heading: Heading, entries: List<Commit>, entry: Begun) -> Result<Place, OutOfMemory>

@@ -1,7 +1,7 @@
 use Rattle.std.proofs.Common.{◌≡◌, List, ℕ, ◌++◌, codes, refl, ap, sym, rules}
 use Rattle.plan_table.specs.declared.tracks.Mode.TheVariants.{Stay, Disappear}
 use Rattle.desk_session.specs.JournalText.Lines.{mode_words}
-use Rattle.desk_session.proofs.journals.steps.versioned.Goals as goal
+use Rattle.desk_session.proofs.journals.headings.versioned.Goals as goal
 
 pub returns-then-eq : goal.returns-then-eq
 returns-then-eq c =

@@ -1,6 +1,6 @@
 use Rattle.std.proofs.Common.{◌≡◌, List, ℕ, ◌++◌, codes, refl, ap, sym, inl, inr, rules}
 use Rattle.desk_session.specs.JournalText.Lines.{version_words}
-use Rattle.desk_session.proofs.journals.steps.start.Goals as goal
+use Rattle.desk_session.proofs.journals.headings.start.Goals as goal
 
 pub returns-then-eq : goal.returns-then-eq
 returns-then-eq c =
