@@ -3,13 +3,17 @@
 
 A name stands where a worked example (crates/*/data/*.txt, a line `== NAME` or `== NAME, remark`), a test
 function, an entry of a test's table (`(KIND, "NAME, NAME", ..`) or a wrong body (crates/*/must-fail/NAME.edit) has it, alone or as a whole part of a longer one that
-is joined by `_and_`, `_of_` and the like. A wrong body that tests refuse is named in a remark beside its test:
-`wrong body NAME`.
+is joined by `_and_`, `_of_` and the like; so does one of the tests with processes, as tests/program.py runs it. A wrong body that tests
+refuse is named in a remark beside its test: `wrong body NAME`.
 """
 
 import re
 import sys
 from pathlib import Path
+
+sys.dont_write_bytecode = True
+
+from program import TOPICS
 
 HERE = Path(__file__).resolve().parent
 CRATES = HERE.parent / "crates"
@@ -35,6 +39,7 @@ def standing():
     names = found("*/data/*.txt", EXAMPLE)
     for form in (TEST, ENTRY, REMARK):
         names |= {word for text in found("test_*/src/**/*.rt", form) for word in re.findall(r"\w+", text)}
+    names |= {name for topic in TOPICS for name, _ in topic.tests() if re.fullmatch(r"\w+", name)}
     return names | {path.stem for path in own_files("*/must-fail/*.edit")}
 
 

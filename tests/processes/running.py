@@ -1,5 +1,7 @@
 """How the program is started, and how what it did is compared with what docs/FORMATS.md says."""
+import contextlib
 import os
+import resource
 import select
 import subprocess
 
@@ -78,6 +80,17 @@ def remove(*files):
     for file in files:
         if os.path.exists(file):
             os.remove(file)
+
+
+@contextlib.contextmanager
+def room_for(size):
+    """What is started within writes no file of more bytes: a write of more takes a beginning, and the next one fails."""
+    soft, hard = resource.getrlimit(resource.RLIMIT_FSIZE)
+    resource.setrlimit(resource.RLIMIT_FSIZE, (size, hard))
+    try:
+        yield
+    finally:
+        resource.setrlimit(resource.RLIMIT_FSIZE, (soft, hard))
 
 
 class Planner:

@@ -12,8 +12,9 @@ import select
 import socket
 import struct
 
+from .journals import SECOND
 from .kills import is_whole
-from .running import PATIENCE, Wrong, bytes_of, is_run, put, remove, start, want
+from .running import PATIENCE, Wrong, bytes_of, is_run, put, remove, room_for, start, want
 from .texts import ONE_ENTRY
 
 # Calls of x86-64 Linux by their numbers.
@@ -63,10 +64,10 @@ def set_filter(sender):
 class Stepped:
     """A session that saves, whose calls wait."""
 
-    def __init__(self, lines):
+    def __init__(self, lines, words=WORDS):
         here, there = socket.socketpair()
         with here, there:
-            self.process = start(WORDS, preexec_fn=set_filter(there))
+            self.process = start(words, preexec_fn=set_filter(there), restore_signals=False)
             self.told = socket.recv_fds(here, 1, 1)[1][0]
         self.process.stdin.write(lines)
         self.process.stdin.close()
@@ -152,6 +153,23 @@ def refused_at_each_call():
     remove("kept")
 
 
+def a_writer_that_fails():
+    """A save with room for so many bytes alone has put these into the new file, and removes it."""
+    put("kept", SECOND), put("tasks", b"version 1\n" + b"0 m 3 1 0 0 2 0 2\n" * 4)
+    for room in range(len(SECOND)):
+        with room_for(room):
+            session = Stepped(b"", [*WORDS, "--scen", "tasks", "--agents", "4"])
+        taken = []
+        for number, call in session.calls():
+            if call == "remove":
+                taken.append(bytes_of("kept.new"))
+            session.answer(number)
+        want("the end", session.end(), (2, b"", b"mapf_desk: can't write kept\n  File too large (os error 27)\n"))
+        want(f"what is taken of {room} bytes", taken, [SECOND[:room]])
+        want("the file", bytes_of("kept"), SECOND)
+    remove("kept", "tasks")
+
+
 def tests():
-    for test in (calls_of_a_save, killed_before_each_call, refused_at_each_call):
+    for test in (calls_of_a_save, killed_before_each_call, refused_at_each_call, a_writer_that_fails):
         yield test.__name__, test

@@ -1,5 +1,5 @@
-//! Tests of the reader of solvers' files of paths: texts written by hand, cut off, edited or as long
-//! as they may be, the edited ones beside a plain reader of the grammar.
+//! Tests of the reader of solvers' files of paths: texts cut off or edited, list by list beside a plain
+//! reader of the grammar, and texts as long as they may be.
 #![tactic(auto)]
 
 #[cfg(test)]

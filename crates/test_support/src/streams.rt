@@ -1,8 +1,7 @@
-//! Sources and sinks that fail, or that count their calls.
-ghost use Rattle.std.specs.Prelude.{◌≡◌, None, Some, false, ⊤};
+//! Sources that fail, or that count their calls.
+ghost use Rattle.std.specs.Prelude.{None, false, ⊤};
 
-use desk_report::{ReadFailed, Sink, Source, WriteFailed};
-use std::alloc::Global;
+use desk_report::{ReadFailed, Source};
 
 /// Gives one byte so many times, and counts the calls.
 #[derive(Drop)]
@@ -89,45 +88,5 @@ impl<'a> Source for Torn<'a> {
         let byte = self.bytes.get(self.given).copied();
         self.given = self.given.saturating_add(1);
         Ok(byte)
-    }
-}
-
-/// Takes a few bytes, and then fails.
-#[derive(Drop)]
-pub struct Short {
-    room: usize,
-    taken: Vec<u8>,
-    broken: bool,
-}
-
-impl Short {
-    /// A sink for so many bytes.
-    pub fn new(alloc: Global, room: usize) -> Short {
-        Short {
-            room,
-            taken: Vec::new(alloc),
-            broken: false,
-        }
-    }
-
-    /// What it has taken.
-    pub fn taken(&self) -> &[u8] {
-        self.taken.as_slice()
-    }
-}
-
-impl Sink for Short {
-    ghost held = { λ s. Some s.taken.items };
-
-    ghost broken = { λ s. s.broken };
-
-    fn put(&mut self, bytes: &[u8]) -> Result<usize, WriteFailed> {
-        let n = bytes.len().min(self.room);
-        if n == 0 && !bytes.is_empty() || self.taken.extend_from_slice(&bytes[..n]).is_err() {
-            self.broken = true;
-            return Err(WriteFailed);
-        }
-        self.room -= n;
-        Ok(n)
     }
 }

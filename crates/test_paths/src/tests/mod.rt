@@ -1,11 +1,7 @@
 mod chance;
 mod edited_paths;
 mod many_agents;
-mod no_cells;
 mod path_fronts;
-mod paths_by_agent;
-mod paths_by_session;
-mod paths_by_time;
 mod plain;
 mod samples;
 mod told_paths;

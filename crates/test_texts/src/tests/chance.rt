@@ -1,5 +1,4 @@
 //! Edits that look like chance.
-use super::plain::words::pieces;
 use std::alloc::Global;
 use std::process::Abort;
 use test_support::Chain;
@@ -24,9 +23,18 @@ fn byte_at(chain: &mut Chain, byte: u8) -> u8 {
     }
 }
 
+// The lines of a text, each without its line feed.
+fn lines<'a>(rt: &impl Abort, alloc: Global, text: &'a [u8]) -> Vec<&'a [u8]> {
+    let mut lines = Vec::new(alloc);
+    for line in text.split(|byte| *byte == b'\n') {
+        lines.push(line).expect(rt, "memory");
+    }
+    lines
+}
+
 // The text with two of its lines exchanged.
 fn exchange(rt: &impl Abort, alloc: Global, chain: &mut Chain, text: &[u8]) -> Vec<u8> {
-    let mut lines = pieces(rt, alloc, text, b'\n');
+    let mut lines = lines(rt, alloc, text);
     let count = lines.len();
     if count > 0 {
         lines.swap(chain.roll(count), chain.roll(count));

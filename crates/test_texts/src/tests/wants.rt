@@ -74,4 +74,9 @@ fn journals_read_and_upgraded(rt: HostRuntime) {
         }
         assert!(rt; read && upgraded, "refused with 16,000 bytes");
     }
+    drop(drought);
+    let line = JournalFault::BadLine { line: 3 };
+    let memory = JournalFault::OutOfMemory;
+    let texts = format!(in alloc; "{line}; {memory}").expect(&rt, "memory");
+    assert!(rt; texts.as_str() == "bad line 3; out of memory");
 }

@@ -1,11 +1,11 @@
-//! Every front of a session, and sessions that are broken off at every place.
-use super::edited_sessions::{GOOD, compare};
-use super::serving::{over_map, served};
-use desk_report::{Spout, Tap};
-use desk_session::{ServeFault, StartFault};
+//! Sessions whose reader fails.
+use desk_core::Limit;
+use desk_report::Spout;
+use desk_session::{Bounds, ServeFault, StartFault, serve_with_map};
+use plan_table::Mode;
 use std::alloc::Global;
 use std::process::Abort;
-use test_support::{Short, Torn};
+use test_support::Torn;
 
 const MAP: &str = "type octile\nheight 1\nwidth 3\nmap\n...\n";
 
@@ -46,52 +46,23 @@ fn answers(rt: &impl Abort, alloc: Global, bytes: usize) -> Vec<u8> {
     text
 }
 
-#[test]
-fn fronts_of_a_session(rt: HostRuntime) {
-    let alloc = rt.alloc();
-    let text = session(&rt, alloc);
-    for end in 0..=text.len() {
-        let front = &text.as_slice()[..end];
-        let begun = compare(&rt, alloc, front);
-        assert_eq!(rt; begun, end >= 36, "{end} bytes");
-        let (_, written) = served(&rt, alloc, front);
-        let complete = answers(&rt, alloc, end);
-        assert!(rt; written.starts_with(complete.as_slice()), "{end} bytes");
-        let mut ended = Vec::from_slice(alloc, front).expect(&rt, "memory");
-        ended.push(b'\n').expect(&rt, "memory");
-        let (_, with_feed) = served(&rt, alloc, ended.as_slice());
-        if begun && front.last() != Some(&b'\n') {
-            assert!(rt; written == with_feed, "{end} bytes");
-        }
-    }
-}
-
+// Whoever runs the program doesn't see whether a reader that failed is asked once more.
 #[test]
 fn readers_that_fail(rt: HostRuntime) {
     let alloc = rt.alloc();
     let text = session(&rt, alloc);
+    let limit = Limit::new(8).expect(&rt, "a limit");
+    let bounds = Bounds {
+        lines: 10_000,
+        bytes: 1_000_000,
+    };
     for end in 0..=text.len() {
         let mut reader = Torn::new(text.as_slice(), end);
         let mut writer = Spout::new(Vec::new(alloc));
-        let ended = over_map(&rt, alloc, &mut reader, &mut writer);
+        let ended = serve_with_map(alloc, &mut reader, &mut writer, limit, Mode::Stay, bounds);
         assert!(rt; ended == Err(StartFault::Serve(ServeFault::ReadFailed)));
         assert!(rt; reader.calls() == end + 1, "no read after the failure");
         let written: Vec<u8> = writer.into_inner();
         assert!(rt; written == answers(&rt, alloc, end), "{end} bytes");
-    }
-}
-
-#[test]
-fn writers_that_fail(rt: HostRuntime) {
-    let alloc = rt.alloc();
-    for text in GOOD {
-        let (_, whole) = served(&rt, alloc, text.as_bytes());
-        for room in 0..whole.len() {
-            let mut reader = Tap::new(text.as_bytes());
-            let mut writer = Short::new(alloc, room);
-            let ended = over_map(&rt, alloc, &mut reader, &mut writer);
-            assert!(rt; ended == Err(StartFault::Serve(ServeFault::WriteFailed)));
-            assert!(rt; writer.taken() == &whole.as_slice()[..room]);
-        }
     }
 }

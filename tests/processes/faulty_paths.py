@@ -1,0 +1,107 @@
+"""Files of paths that are refused, and why; paths.py gives them to `check`."""
+
+# Texts that are refused, the form that is named, and why.
+FAULTS_BY_TIME = [
+    (b"", None, "no paths"),
+    (b"\n \r\n\t", None, "no paths"),
+    (b"x", None, "no form of paths in line 1"),
+    (b"\n\n0:(0,0)\nsolution=\n", None, "no form of paths in line 3"),
+    (b"=", None, "missing solution"),
+    (b"solution", None, "no form of paths in line 1"),
+    (b"a=b\nsolution", None, "bad header in line 2"),
+    (b"a=b\n\nagents 2\nsolution=\n", None, "bad header in line 3"),
+    (b"solution=0\n0:(0,0)\n", None, "bad header in line 2"),
+    (b"starts=(0,0)\ngoals=(0,0)\n", None, "missing solution"),
+    (b"solution=", None, "no paths"),
+    (b"starts=(0,0)\nsolution=\n\n", None, "no paths"),
+    (b"starts=\nsolution=\n", None, "no cells in line 1"),
+    (b"goals=\nx", None, "no cells in line 1"),
+    (b"goals=,\nx", None, "bad cell 0 in line 1"),
+    (b"starts=(0,0)\nstarts=(0,0)\n", None, "repeated list in line 2"),
+    (b"goals=(0,0)\na=b\ngoals=x\n", None, "repeated list in line 3"),
+    (b"starts=(0,0)\ngoals=(0,0),(1,1)\nx", None, "cell count in line 2"),
+    (b"goals=(0,0),(1,1)\nstarts=(0,0),\n", None, "cell count in line 2"),
+    (b"goals=(0,0)\nsolution=\n0:(0,0),(1,0)\n", None, "cell count in line 3"),
+    (b"solution=\n0:(0,0),(1,0)\n1:(0,0)\n2:x\n", None, "cell count in line 3"),
+    (b"solution=\n0:\n", None, "no cells in line 2"),
+    (b"solution=\n0\n", None, "bad time in line 2"),
+    (b"solution=\n:(0,0)\n", None, "bad time in line 2"),
+    (b"solution=\n1:(0,0)\n", None, "bad time in line 2"),
+    (b"solution=\n0:(0,0)\n0:(x\n", None, "bad time in line 3"),
+    (b"solution=\n0:(0,0)\n2:(0,0)\n", None, "bad time in line 3"),
+    (b"solution=\n+0:(0,0)\n", None, "bad time in line 2"),
+    (b"solution=\n0 :(0,0)\n", None, "bad time in line 2"),
+    (b"solution=\n0: (0,0)\n", None, "bad cell 0 in line 2"),
+    (b"solution=\n0:(0,0),(1,0),(2048,0),(x\n", None, "bad cell 2 in line 2"),
+    (b"solution=\n0:(0,0)->(1,0)\n", None, "bad cell 1 in line 2"),
+    (b"solution=\n0:(0,0),,\n", None, "bad cell 1 in line 2"),
+    (b"solution=\n0:,(0,0)\n", None, "bad cell 0 in line 2"),
+    (b"", "time", "missing solution"),
+    (b"Agent 0:(0,0)\n", "time", "bad header in line 1"),
+]
+FAULTS_BY_AGENT = [
+    (b"Agent", None, "no form of paths in line 1"),
+    (b"agent 0: (0,0)\n", None, "no form of paths in line 1"),
+    (b"Agent 0", None, "bad agent in line 1"),
+    (b"Agent 0 (0,0)", None, "bad agent in line 1"),
+    (b"Agent  0: (0,0)", None, "bad agent in line 1"),
+    (b"Agent :(0,0)", None, "bad agent in line 1"),
+    (b"Agent 1:(0,0)", None, "bad agent in line 1"),
+    (b"Agent 0:(0,0)\nAgent 0:(0,0)", None, "bad agent in line 2"),
+    (b"Agent 0:(0,0)\n\nAgent 2:x", None, "bad agent in line 3"),
+    (b"Agent 0:(0,0)\nsolution=", None, "bad agent in line 2"),
+    (b"Agent 0:", None, "no cells in line 1"),
+    (b"Agent 0: \nx", None, "no cells in line 1"),
+    (b"Agent 0:->", None, "bad cell 0 in line 1"),
+    (b"Agent 0:(0,0),(0,1)", None, "bad cell 1 in line 1"),
+    (b"Agent 0:(0,0)->->", None, "bad cell 1 in line 1"),
+    (b"Agent 0:(0,0)-", None, "bad cell 1 in line 1"),
+    (b"Agent 0:(0,0)->(0,1)->(0,2)>(x", None, "bad cell 3 in line 1"),
+    (b"", "agent", "no paths"),
+    (b"\n\nsolution=\n", "agent", "bad agent in line 3"),
+]
+FAULTS_BY_SESSION = [
+    (b"#", None, "no paths"),
+    (b"\n# solution=\n\n#\n", None, "no paths"),
+    (b"paths 0 0,0", None, "no form of paths in line 1"),
+    (b"\nPath 0 0,0", None, "no form of paths in line 2"),
+    (b"path=0 0,0", None, "missing solution"),
+    (b"path#=", None, "missing solution"),
+    (b"#=\nsolution=\n0:(0,0)\n", None, "bad path in line 2"),
+    (b"path 0 0,0\nAgent 1: (0,0)\n", None, "bad path in line 2"),
+    (b"#\npath 0 0,0\n\ntail 1 0 0,0\n", None, "bad path in line 4"),
+    (b"path 0 0,0\r\nversion\r\nx", None, "bad path in line 2"),
+    (b"path 0 0,0\nPath 1 0,0\n", None, "bad path in line 2"),
+    (b"path 0 0,0\npath 2 x", None, "bad path in line 2"),
+    (b"path 1 0,0", None, "bad agent in line 1"),
+    (b"path 0 0,0\n#\n\npath 0 1,1\n", None, "bad agent in line 4"),
+    (b"path 0 0,0\npath 65535 1,1", None, "bad agent in line 2"),
+    (b"path 1", None, "bad agent in line 1"),
+    (b"path 8192 0,0", None, "bad agent in line 1"),
+    (b"path 0", None, "no cells in line 1"),
+    (b"# 0\npath 0 0,0\npath 1 \nx", None, "no cells in line 3"),
+    (b"", "session", "no paths"),
+    (b"Agent 0:(0,0)", "session", "bad path in line 1"),
+    (b"\nsolution=\n", "session", "bad path in line 2"),
+    (b"path 0 0,0", "agent", "bad agent in line 1"),
+    (b"#", "agent", "bad agent in line 1"),
+    (b"path 0 0,0", "time", "bad header in line 1"),
+]
+
+# Lines that are no path of agent 0.
+NO_PATHS = [
+    b"path", b"path 0,0", b"path x 0,0", b"path -1 0,0", b"path 65536 0,0", b"path 0 0", b"path 0 0,", b"path 0 0,2048", b"path 0 2048,0",
+    b"path 0 (0,0)", b"path 0 0,0,0", b"path 0 0, 0", b"path 0 0,0->0,1", b"path 0 0,0 # home", b"path 7 0,0 x=0",
+]
+
+# Words that stand where a cell should, and the number of cells before what isn't one.
+NO_CELLS = [
+    (b"(", 0), (b")", 0), (b"()", 0), (b"(,)", 0), (b"(0)", 0), (b"(0,)", 0), (b"(,0)", 0), (b"(0,0", 0), (b"0,0)", 0), (b"[0,0]", 0),
+    (b"((0,0))", 0), (b"(0,0,0)", 0), (b"(0;0)", 0), (b"(-1,0)", 0), (b"(0,+1)", 0), (b"(0,2048)", 0), (b"(4294967296,0)", 0),
+    (b"( 0,0)", 0), (b"(0, 0)", 0), (b"(0,0).", 1),
+]
+# Lines before a cell, the number of the last one, and their form.
+FRONTS = [
+    (b"starts=", 1, "time"), (b"\ngoals=", 2, "time"), (b"solution=\n0:", 2, "time"), (b"solution=\n0:(5,5)\n1:", 3, "time"),
+    (b"Agent 0:", 1, "agent"), (b"\nAgent 0: (5,5)->\nAgent 1: ", 3, "agent"),
+]
