@@ -4,6 +4,7 @@ pub mod Sighted
 pub mod Gathers
 pub mod Meetings
 pub mod Late
+pub mod Stops
 pub mod Occupied
 pub mod Returns
 pub mod MoverIn

@@ -48,26 +48,31 @@ IsNear Beside fleet other time here next = position_of fleet other time ≡ Some
 IsNear Ahead fleet other time here next = (here ≢ next) × (position_of fleet other time ≡ Some next)
 IsNear Behind fleet other time here next = position_of fleet other (time + 1) ≡ Some here
 
--- the stop is one of the agent's: whence it came there, if from elsewhere, and where it goes on
+-- the stop is one of the agent's: it came from the cell before, if that is another one, and goes on to the next one
 pub record IsStop (fleet : Fleet) (agent : ℕ) (stop : Stop) : Type 0 where
   pub came : stop.before ≢ stop.here → IsWhere fleet agent stop.past stop.before stop.here
   pub goes : IsWhere fleet agent stop.time stop.here stop.next
 
--- a step that begins then leads to the stop, or on from it
+-- the step that begins at the time leads to the stop, or on from it
 abbrev pub IsAbout : Stop → ℕ → Type 0
 IsAbout stop time = (stop.past ≤ time) × (time ≤ stop.time)
 
--- one who meets others at the stop in that place does so in the step that begins at this time
+-- when the step begins in which others are met at the stop in that place: ahead as one comes, else as one goes on
 abbrev pub step_of : Stop → Place → ℕ
 step_of stop Ahead = stop.past
 step_of stop place = stop.time
 
--- another one is met in that place where it is in the cell at this time, in the step that begins at that one
+-- where two meet in that place, in the step that begins at the time, the other one is in the cell at this time
 abbrev pub seen_at : Place → ℕ → ℕ
 seen_at Behind time = time + 1
 seen_at place time = time
 
--- one may meet others at the stop in that place: ahead only if one came from elsewhere
+-- and the agent itself at this one
+abbrev pub own_at : Place → ℕ → ℕ
+own_at Ahead time = time + 1
+own_at place time = time
+
+-- the stop has that place: nobody is ahead of an agent that did not come from elsewhere
 abbrev pub IsPlaceOf : Stop → Place → Type 0
 IsPlaceOf stop Ahead = stop.before ≢ stop.here
 IsPlaceOf stop place = Unit {0}
@@ -77,11 +82,11 @@ abbrev pub IsShown : Bool → Spot → ℕ → Type 0
 IsShown true s time = s.time ≤ time
 IsShown false s time = s.time ≡ time
 
--- the agent of the spot, if another, is in the cell whenever the spot shows it
+-- the agent of the spot, if it is another one, is in the cell whenever the spot shows it
 abbrev pub IsShowing : Fleet → ℕ → Point → Bool → Spot → Type 0
 IsShowing fleet agent cell lasting s = s.agent ≢ agent → (time : ℕ) → IsShown lasting s time → position_of fleet s.agent time ≡ Some cell
 
--- so are those of the spots
+-- and so for each of the spots
 abbrev pub AreShowing : Fleet → ℕ → Point → Bool → List Spot → Type 0
 AreShowing fleet agent cell lasting spots = (s : Spot) → Contains spots s → IsShowing fleet agent cell lasting s
 
@@ -105,24 +110,25 @@ abbrev pub HasSeen : Fleet → ℕ → Stop → Bool → List Conflict → Spot 
 HasSeen fleet agent stop lasting entries s =
     (place : Place) → IsPlaceOf stop place → IsShown lasting s (seen_at place (step_of stop place)) → HasMet fleet agent (step_of stop place) place s.agent entries
 
--- with each whom the spots show
+-- each entry of the agent at the stop with those whom the spots show is there
 abbrev pub HasSpots : Fleet → ℕ → Stop → Bool → List Spot → List Conflict → Type 0
 HasSpots fleet agent stop lasting spots entries = (s : Spot) → Contains spots s → HasSeen fleet agent stop lasting entries s
 
--- and with each who is there
+-- each entry of the agent at the stop is there
 abbrev pub HasStop : Fleet → ℕ → Stop → List Conflict → Type 0
 HasStop fleet agent stop entries =
-    (place : Place) → IsPlaceOf stop place → (other : ℕ) → other ≢ agent → position_of fleet other (seen_at place (step_of stop place)) ≡ Some stop.here → HasMet fleet agent (step_of stop place) place other entries
-
--- the time at which the agent itself is in the cell where it meets others in that place
-abbrev pub own_at : Place → ℕ → ℕ
-own_at Ahead time = time + 1
-own_at place time = time
+    (place : Place) → IsPlaceOf stop place → (other : ℕ) → other ≢ agent → position_of fleet other (seen_at place (step_of stop place)) ≡ Some stop.here
+    → HasMet fleet agent (step_of stop place) place other entries
 
 -- each entry of the agent at that time with those whom it meets in that place is there
 abbrev pub HasPlace : Fleet → ℕ → ℕ → Place → List Conflict → Type 0
 HasPlace fleet agent time place entries =
-    (other : ℕ) (cell : Point) → other ≢ agent → position_of fleet agent (own_at place time) ≡ Some cell → position_of fleet other (seen_at place time) ≡ Some cell → HasMet fleet agent time place other entries
+    (other : ℕ) (cell : Point) → other ≢ agent → position_of fleet agent (own_at place time) ≡ Some cell → position_of fleet other (seen_at place time) ≡ Some cell
+    → HasMet fleet agent time place other entries
+
+-- so is each with those whom it meets in the cell where it is then: beside it, or behind it
+abbrev pub HasHere : Fleet → ℕ → ℕ → List Conflict → Type 0
+HasHere fleet agent time entries = (place : Place) → place ≢ Ahead → HasPlace fleet agent time place entries
 
 -- each entry of two agents that names the agent, at that time, is there
 abbrev pub HasTime : Fleet → ℕ → ℕ → List Conflict → Type 0

@@ -3,7 +3,7 @@ ghost use Rattle.plan_table.specs.Route.{Fleet, last_of};
 ghost use Rattle.mapf_rules.specs.declared.entries.Conflict.{Conflict};
 ghost use Rattle.conflict_ledger.specs.declared.places.Place.{Place};
 ghost use Rattle.conflict_ledger.specs.Sight.{Sees};
-ghost use Rattle.conflict_ledger.specs.Gathering.{Gathers, AreAgents, IsStop, IsAbout, AreShowing, HasSpots, HasStop, HasPlace, HasTime};
+ghost use Rattle.conflict_ledger.specs.Gathering.{Gathers, AreAgents, IsStop, IsAbout, AreShowing, HasSpots, HasStop, HasPlace, HasHere, HasTime};
 ghost use Rattle.conflict_ledger.specs.Spans.{Fits};
 
 use crate::offers::{offer_ahead, offer_here};
@@ -17,8 +17,8 @@ use mapf_rules::Conflict;
 use std::alloc::Global;
 use std::collections::btree_set::Range;
 
-// Adds the entries that the agent has at the stop with each whom the spots show, at all later times too
-// where they last.
+// Adds the entries that the agent has at the stop with each whom the spots show, once or, if they last,
+// from then on.
 fn offer_spots(
     sight: &Sight<'_>,
     entries: &mut Vec<Conflict>,
@@ -37,8 +37,8 @@ fn offer_spots(
     Ok(())
 }
 
-// Adds the entries of the agent with those whom it meets at the stop: who is in its cell one step
-// before it, with it, and one step after.
+// Adds the entries of the agent with those whom it meets at the stop: one search shows who is in that
+// cell one step before it, with it and one step after it.
 fn gather_stop(
     sight: &Sight<'_>,
     entries: &mut Vec<Conflict>,
@@ -67,8 +67,7 @@ fn gather_at(
     requires { (past ≤ time) × (time < u32.MAX) }
     ensures gathers { OnOk result ((fleet : Fleet) → Sees sight.now fleet → time ≤ past + 1 → Gathers fleet sight.now.agent (λ t. (past ≤ t) × (t ≤ time)) entries.old.items entries.new.items) }
     ensures ahead { OnOk result ((fleet : Fleet) → Sees sight.now fleet → past + 1 ≡ time → HasPlace fleet sight.now.agent past Place.Ahead entries.new.items) }
-    ensures beside { OnOk result ((fleet : Fleet) → Sees sight.now fleet → time ≤ past + 1 → HasPlace fleet sight.now.agent time Place.Beside entries.new.items) }
-    ensures behind { OnOk result ((fleet : Fleet) → Sees sight.now fleet → time ≤ past + 1 → HasPlace fleet sight.now.agent time Place.Behind entries.new.items) }
+    ensures here { OnOk result ((fleet : Fleet) → Sees sight.now fleet → time ≤ past + 1 → HasHere fleet sight.now.agent time entries.new.items) }
 {
     let Some(here) = sight.own(time) else {
         return Ok(());

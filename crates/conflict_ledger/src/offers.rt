@@ -50,7 +50,8 @@ fn offer_met(
     }
 }
 
-// Adds the entries that the agent has with the one whom the spot shows ahead, where it came to the cell.
+// Adds the entries that the agent has with the one of the spot in the step that leads to the stop, if
+// that one is ahead of it.
 pub(crate) fn offer_ahead(
     sight: &Sight<'_>,
     entries: &mut Vec<Conflict>,
@@ -77,7 +78,8 @@ pub(crate) fn offer_ahead(
     )
 }
 
-// Adds the entries that the agent has with the one whom the spot shows beside it, or else behind it.
+// Adds the entries that the agent has with the one of the spot in the step on from the stop, if that
+// one is beside it, or else behind it.
 pub(crate) fn offer_here(
     sight: &Sight<'_>,
     entries: &mut Vec<Conflict>,

@@ -22,9 +22,9 @@ pub enum Place {
     Behind,
 }
 
-// Where the agent is at the time, and where it is in the steps that lead there and on: it comes from
-// the cell before in the step that begins at `past`, and goes to the next one. Where the step before
-// is none of those asked about, both of `past` and `before` are those of the stop itself.
+// A position of the agent's path: it is here at the time, comes from the cell before in the step that
+// begins at `past`, and goes on to the next one. Where the step that leads here is not asked about,
+// `past` is the time, and `before` is here.
 #[derive(Clone, Copy)]
 pub struct Stop {
     pub past: u32,
@@ -45,8 +45,8 @@ pub(crate) fn is_shown(lasting: bool, spot: &Spot, time: u32) -> bool
     }
 }
 
-// In which place the spot shows its agent in the step that begins at the time, if it does, where one
-// is in its cell then: behind only if not beside.
+// In which place the spot shows its agent to one that is in its cell as the step begins, if it does:
+// behind only if not beside.
 pub(crate) fn place_of(lasting: bool, spot: &Spot, time: u32) -> Option<Place>
     requires { time < u32.MAX }
     ensures beside { IsShown lasting spot.now time → result ≡ Some Place.Beside }

@@ -6,18 +6,15 @@ use Rattle.plan_table.specs.Route.{Fleet}
 use Rattle.conflict_ledger.specs.Sight.{Sees}
 use Rattle.conflict_ledger.specs.Gathering.{IsWhere, IsStop}
 use Rattle.conflict_ledger.specs.declared.places.Stop.{Stop}
-use Rattle.conflict_ledger.specs.declared.places.Place.TheVariants.{Beside, Ahead, Behind}
-use Rattle.conflict_ledger.proofs.Late.{came_own, nowhere_place, stop_own, stop_ahead, stop_beside, stop_behind}
+use Rattle.conflict_ledger.specs.declared.places.Place.TheVariants.{Ahead}
+use Rattle.conflict_ledger.proofs.Stops.{came_own, nowhere_place, nowhere_here, stop_own, stop_ahead, stop_here}
 use Rattle.conflict_ledger.proofs.gather.gather_at.Goals as goal
 
 pub returns-in_default-clause-ahead : goal.returns-in_default-clause-ahead
 returns-in_default-clause-ahead c fleet shows next = nowhere_place _ _ _ fleet shows Ahead c.args.past _ (rw next (sym c.own.ensures ∙ c.in_default.is))
 
-pub returns-in_default-clause-beside : goal.returns-in_default-clause-beside
-returns-in_default-clause-beside c fleet shows near = nowhere_place _ _ _ fleet shows Beside c.args.time _ (sym c.own.ensures ∙ c.in_default.is)
-
-pub returns-in_default-clause-behind : goal.returns-in_default-clause-behind
-returns-in_default-clause-behind c fleet shows near = nowhere_place _ _ _ fleet shows Behind c.args.time _ (sym c.own.ensures ∙ c.in_default.is)
+pub returns-in_default-clause-here : goal.returns-in_default-clause-here
+returns-in_default-clause-here c fleet shows near = nowhere_here _ _ _ fleet shows c.args.time _ (sym c.own.ensures ∙ c.in_default.is)
 
 module _ (c : goal.After-gather_stop) (fleet : Fleet) (shows : Sees c.args.sight.now fleet) where
   abbrev stop : Stop
@@ -38,8 +35,5 @@ returns-clause-gathers c = on_ok_weaker c.gather_stop.result (λ gives fleet sho
 pub returns-clause-ahead : goal.returns-clause-ahead
 returns-clause-ahead c = on_ok_weaker c.gather_stop.result (λ gives fleet shows next. stop_ahead _ _ _ fleet shows (stop c fleet shows) _ (gives fleet shows (is_stop c fleet shows (omega arith))) (came c fleet shows next)) c.gather_stop.ensures.has
 
-pub returns-clause-beside : goal.returns-clause-beside
-returns-clause-beside c = on_ok_weaker c.gather_stop.result (λ gives fleet shows near. stop_beside _ _ _ fleet shows (stop c fleet shows) _ (gives fleet shows (is_stop c fleet shows near)) (is_stop c fleet shows near)) c.gather_stop.ensures.has
-
-pub returns-clause-behind : goal.returns-clause-behind
-returns-clause-behind c = on_ok_weaker c.gather_stop.result (λ gives fleet shows near. stop_behind _ _ _ fleet shows (stop c fleet shows) _ (gives fleet shows (is_stop c fleet shows near)) (is_stop c fleet shows near)) c.gather_stop.ensures.has
+pub returns-clause-here : goal.returns-clause-here
+returns-clause-here c = on_ok_weaker c.gather_stop.result (λ gives fleet shows near. stop_here _ _ _ fleet shows (stop c fleet shows) _ (gives fleet shows (is_stop c fleet shows near)) (is_stop c fleet shows near)) c.gather_stop.ensures.has

@@ -1,10 +1,11 @@
 use Rattle.std.proofs.Common.{◌≡◌, ◌+◌, ◌≤◌, ◌-◌, ℕ, inl, inr, sym, subst, arith}
 use Rattle.std.specs.Prelude.{max}
 use Rattle.std.proofs.lemmas.Bool.{cases_lt}
-use Rattle.conflict_ledger.specs.Gathering.{HasPlace}
-use Rattle.conflict_ledger.specs.declared.places.Place.TheVariants.{Beside, Ahead, Behind}
+use Rattle.conflict_ledger.specs.Gathering.{HasPlace, HasHere}
+use Rattle.conflict_ledger.specs.declared.places.Place.TheVariants.{Ahead}
 use Rattle.conflict_ledger.proofs.Gathers.{gathers_on, gathers_at, place_on}
-use Rattle.conflict_ledger.proofs.Late.{step_has, ahead_none}
+use Rattle.conflict_ledger.proofs.Late.{ahead_none}
+use Rattle.conflict_ledger.proofs.Stops.{step_has}
 use Rattle.conflict_ledger.proofs.gather.gather_path.Goals as goal
 
 pub loop-time-preserved : goal.loop-time-preserved
@@ -21,17 +22,11 @@ loop-time-preserved c =
             let same : t ≡ past = omega (arith, past_is) in
             subst (λ (t : ℕ). HasPlace fleet c.args.sight.now.agent t Ahead c.gather_at.new.entries.items) (sym same) (c.in_ok-gather_at.ensures.ahead fleet shows (omega (arith, same)))
       ];
-      beside = λ fleet shows t ge lt. elim (cases_lt t c.loop-time.time) [
-        | inl lower ↦ place_on fleet _ _ _ _ (c.in_ok-gather_at.ensures.gathers fleet shows near) t Beside (c.loop-time.invariant.beside fleet shows t ge lower)
+      here = λ fleet shows t ge lt. elim (cases_lt t c.loop-time.time) [
+        | inl lower ↦ λ place not. place_on fleet _ _ _ _ (c.in_ok-gather_at.ensures.gathers fleet shows near) t place (c.loop-time.invariant.here fleet shows t ge lower place not)
         | inr higher ↦
             let same : t ≡ c.loop-time.time = omega arith in
-            subst (λ (t : ℕ). HasPlace fleet c.args.sight.now.agent t Beside c.gather_at.new.entries.items) (sym same) (c.in_ok-gather_at.ensures.beside fleet shows near)
-      ];
-      behind = λ fleet shows t ge lt. elim (cases_lt t c.loop-time.time) [
-        | inl lower ↦ place_on fleet _ _ _ _ (c.in_ok-gather_at.ensures.gathers fleet shows near) t Behind (c.loop-time.invariant.behind fleet shows t ge lower)
-        | inr higher ↦
-            let same : t ≡ c.loop-time.time = omega arith in
-            subst (λ (t : ℕ). HasPlace fleet c.args.sight.now.agent t Behind c.gather_at.new.entries.items) (sym same) (c.in_ok-gather_at.ensures.behind fleet shows near)
+            subst (λ (t : ℕ). HasHere fleet c.args.sight.now.agent t c.gather_at.new.entries.items) (sym same) (c.in_ok-gather_at.ensures.here fleet shows near)
       ];
     }
 
@@ -44,4 +39,4 @@ returns-clause-has c fleet shows is_last time ge le = step_has _ _ _ fleet shows
   | inr at_end ↦
       let same : time ≡ c.args.last = omega arith in
       subst (λ (t : ℕ). HasPlace fleet c.args.sight.now.agent t Ahead c.loop-time.entries.items) (sym same) (ahead_none _ _ _ fleet shows c.args.last is_last _)
-]) (c.loop-time.invariant.beside fleet shows time ge (omega arith)) (c.loop-time.invariant.behind fleet shows time ge (omega arith))
+]) (c.loop-time.invariant.here fleet shows time ge (omega arith))

@@ -20,16 +20,15 @@ pub loop-spot-preserved : goal.loop-spot-preserved
 loop-spot-preserved c =
     let seen : Spot = c.in-Some.spot.now in
     let in_left : Contains c.args.spots seen = c.loop-spot.invariant.left seen (subst (λ (l : List Spot). Contains l seen) (sym c.in-Some.ensures.steps) (Contains-head seen c.next.new.self)) in
-    let ahead = λ (fleet : Fleet) (shows : Sees c.args.sight.now fleet) (is : IsStop fleet c.args.sight.now.agent c.args.stop.now) (showing : AreShowing fleet c.args.sight.now.agent c.args.stop.now.here c.args.lasting c.args.spots). c.in_ok-offer_ahead.ensures.gathers fleet shows is (showing seen in_left) in
-    let here = λ (fleet : Fleet) (shows : Sees c.args.sight.now fleet) (is : IsStop fleet c.args.sight.now.agent c.args.stop.now) (showing : AreShowing fleet c.args.sight.now.agent c.args.stop.now.here c.args.lasting c.args.spots). c.in_ok-offer_here.ensures.gathers fleet shows is (showing seen in_left) in record {
+    let both = λ (fleet : Fleet) (shows : Sees c.args.sight.now fleet) (is : IsStop fleet c.args.sight.now.agent c.args.stop.now) (showing : AreShowing fleet c.args.sight.now.agent c.args.stop.now.here c.args.lasting c.args.spots). gathers_on fleet _ _ _ _ _ (c.in_ok-offer_ahead.ensures.gathers fleet shows is (showing seen in_left)) (c.in_ok-offer_here.ensures.gathers fleet shows is (showing seen in_left)) in record {
       left = λ s h. c.loop-spot.invariant.left s (subst (λ (l : List Spot). Contains l s) (sym c.in-Some.ensures.steps) (Contains-tail seen c.next.new.self s h));
-      gathers = λ fleet shows is showing. gathers_on fleet _ _ _ _ _ (c.loop-spot.invariant.gathers fleet shows is showing) (gathers_on fleet _ _ _ _ _ (ahead fleet shows is showing) (here fleet shows is showing));
+      gathers = λ fleet shows is showing. gathers_on fleet _ _ _ _ _ (c.loop-spot.invariant.gathers fleet shows is showing) (both fleet shows is showing);
       has = λ fleet shows is showing s h. elim (c.loop-spot.invariant.has fleet shows is showing s h) [
-        | inr has ↦ inr (λ place of shown entry own at two apart met. (here fleet shows is showing).keeps entry ((ahead fleet shows is showing).keeps entry (has place of shown entry own at two apart met)))
+        | inr has ↦ inr (λ place of shown entry own at two apart met. (both fleet shows is showing).keeps entry (has place of shown entry own at two apart met))
         | inl before ↦ elim (Contains-cons_cases seen c.next.new.self s (subst (λ (l : List Spot). Contains l s) c.in-Some.ensures.steps before)) [
           | inr later ↦ inl later
           | inl this ↦ inr (subst (λ (v : Spot). HasSeen fleet c.args.sight.now.agent c.args.stop.now c.args.lasting c.offer_here.new.entries.items v) this
-              (seen_all fleet _ c.args.stop.now c.args.lasting seen _ _ (c.in_ok-offer_ahead.ensures.has fleet shows is) (here fleet shows is showing).keeps (c.in_ok-offer_here.ensures.beside fleet shows is) (c.in_ok-offer_here.ensures.behind fleet shows is (showing seen in_left))))
+              (seen_all fleet _ c.args.stop.now c.args.lasting seen _ _ (c.in_ok-offer_ahead.ensures.has fleet shows is) (c.in_ok-offer_here.ensures.gathers fleet shows is (showing seen in_left)).keeps (c.in_ok-offer_here.ensures.beside fleet shows is) (c.in_ok-offer_here.ensures.behind fleet shows is (showing seen in_left))))
         ]
       ];
     }
