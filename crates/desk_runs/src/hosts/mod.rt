@@ -3,6 +3,7 @@ mod comparing;
 mod hosting;
 mod seats;
 mod sittings;
+mod threads;
 mod whole_lines;
 
 pub use hosting::{HostEnd, HostFault, MOST_HOSTED, host_planners};

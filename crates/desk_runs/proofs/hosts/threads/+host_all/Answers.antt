@@ -3,8 +3,8 @@ use Rattle.desk_runs.specs.Hosts.{IsEnded}
 use Rattle.desk_runs.proofs.Joining.{none_hosted, one_more_hosted}
 use Rattle.desk_runs.proofs.Sitting.{as_promised}
 use Rattle.desk_runs.proofs.Numbering.{keeps_some, least_is_first}
-use Rattle.desk_runs.proofs.hosts.hosting.+host_all.Goals as goal
-use Rattle.desk_runs.proofs.hosts.hosting.+host_all.Goals.{in-Ok-sitting, in-Err}
+use Rattle.desk_runs.proofs.hosts.threads.+host_all.Goals as goal
+use Rattle.desk_runs.proofs.hosts.threads.+host_all.Goals.{in-Ok-sitting, in-Err}
 
 pub returns-in_default-clause-hosted : goal.returns-in_default-clause-hosted
 returns-in_default-clause-hosted g t c =
