@@ -11,7 +11,8 @@ use Rattle.std.proofs.lemmas.Option.{same_Some, slice_get-get_or}
 use Rattle.std.proofs.lemmas.List.{get_or_default}
 use Rattle.std.proofs.lemmas.List.Sums.{sum_by-le}
 use Rattle.std.proofs.lemmas.Map.Keys.{Less-from_sorted}
-use Rattle.std.proofs.lemmas.Cmp.{tied_itself}
+use Rattle.std.proofs.lemmas.Cmp.{tied_itself, nat_cmp_total}
+use Rattle.std.proofs.lemmas.Map.Lookups.{exact_unsigned}
 use Rattle.grid_cells.specs.Cell.{Point}
 use Rattle.grid_cells.specs.Grid.{Chart, IsClosed}
 use Rattle.grid_cells.specs.declared.numbers.TheConstants.{MOST_AGENT}
@@ -22,19 +23,14 @@ use Rattle.plan_table.specs.Order.{ComesBefore}
 use Rattle.plan_table.specs.declared.plans.Row.{Row}
 use Rattle.plan_table.proofs.Fleets.{row_here}
 use Rattle.plan_table.proofs.Rows.{rows_few}
-use Rattle.cost_ledger.specs.Kept.{Keeps, AreSpots, AreRests, SwapsRow, last_of_row, ends_elsewhere, sum_of_rows, rest, visit_cmp}
+use Rattle.cost_ledger.specs.Kept.{Keeps, AreRests, SwapsRow, last_of_row, ends_elsewhere, sum_of_rows, rest, visit_cmp}
 use Rattle.cost_ledger.specs.Ledger.{SameBut, SameAt}
-use Rattle.cell_spots.specs.Spot.{Gains, Loses}
-use Rattle.cell_spots.specs.Spot.{AreBetween}
-use Rattle.cost_ledger.specs.Spots.{spot_of, GainsAll, LosesAll, IsSpotIn}
+use Rattle.cost_ledger.specs.Sets.{Gains, Loses, GainsAll, LosesAll}
+use Rattle.cost_ledger.specs.Through.{IsThrough, AreThrough}
 use Rattle.mapf_rules.specs.Visits.{IsBlocked, visit_key, AreVisits}
 use Rattle.mapf_rules.specs.VisitSearch.{IsVisitIn}
 use Rattle.cost_ledger.specs.declared.rests.Rest.{Rest}
-use Rattle.cell_spots.specs.declared.spot_sets.Spot.{Spot}
 use Rattle.mapf_rules.specs.declared.visits.Visit.{Visit}
-use Rattle.cost_ledger.proofs.KeyOrders.{visit_total}
-use Rattle.cell_spots.proofs.SpotOrder.{from_lt, from_eq, cases3}
-use Rattle.mapf_rules.proofs.Visiting.{key_before}
 use Rattle.cost_ledger.proofs.RowSums.{sum_remove}
 
 pub same_or_apart : (a b : ℕ) → (a ≡ b) ⊎ (a ≢ b)
@@ -102,32 +98,15 @@ module _ {X : Type 0} (agent_of : X → ℕ) (P : Row → X → Type 0) where
       ]),
     )
 
--- ---- spots and rests
-abbrev pub SpotOf : Row → Spot → Type 0
-SpotOf row s = IsSpotIn s.agent row.plan 0 (last_of_row row + 1) s
-
+-- ---- rests
 abbrev RestOf : Row → Rest → Type 0
 RestOf row r = r.time ≡ last_of_row row
-
-spot_in : (agent : ℕ) (row : Row) (s : Spot) → IsSpotIn agent row.plan 0 (last_of_row row + 1) s ↔ ((s.agent ≡ agent) × SpotOf row s)
-spot_in agent row s = (
-  (λ is. (is.same_agent, record { same_agent = refl; late = is.late; early = is.early; there = is.there })),
-  (λ h. record { same_agent = h.0; late = h.1.late; early = h.1.early; there = h.1.there }),
-)
 
 rest_in : (agent : ℕ) (row : Row) (r : Rest) → (r ≡ rest (last_of_row row) agent) ↔ ((r.agent ≡ agent) × RestOf row r)
 rest_in agent row r = (
   (λ e. (ap (λ (q : Rest). q.agent) e, ap (λ (q : Rest). q.time) e)),
   (λ h. λ i. record { time = h.1 i; agent = h.0 i }),
 )
-
-pub spots_put : (rows new : List (ℕ × Row)) (agent : ℕ) (row : Row) (old spots : List Spot) → row_of rows agent ≡ None → ChangesRow rows new agent (Some row) → AreSpots rows old → GainsAll old spots (IsSpotIn agent row.plan 0 (last_of_row row + 1)) → AreSpots new spots
-spots_put rows new agent row old spots absent change before gains =
-    of_put (λ (s : Spot). s.agent) SpotOf rows new agent old spots row (IsSpotIn agent row.plan 0 (last_of_row row + 1)) absent change (spot_in agent row) before gains
-
-pub spots_take : (rows new : List (ℕ × Row)) (agent : ℕ) (row : Row) (old spots : List Spot) → row_of rows agent ≡ Some row → ChangesRow rows new agent None → AreSpots rows old → LosesAll old spots (IsSpotIn agent row.plan 0 (last_of_row row + 1)) → AreSpots new spots
-spots_take rows new agent row old spots live change before loses =
-    of_take (λ (s : Spot). s.agent) SpotOf rows new agent old spots row (IsSpotIn agent row.plan 0 (last_of_row row + 1)) live change (λ s is. is.same_agent) (λ s e is. (spot_in agent row s).1 (e, is)) before loses
 
 pub rests_put : (rows new : List (ℕ × Row)) (agent : ℕ) (row : Row) (old rests : List Rest) → row_of rows agent ≡ None → ChangesRow rows new agent (Some row) → AreRests rows old → Gains old rests (rest (last_of_row row) agent) → AreRests new rests
 rests_put rows new agent row old rests absent change before gains =
@@ -151,31 +130,17 @@ visits_of grid rows visits are v = (
 )
 
 -- of one agent at one time there is one visit, so visits in their whole order are in the order of agents and times
+front : (agents times cells : Ordering) → ordering_then agents (ordering_then times cells) ≡ Less → (agents ≡ Equal → times ≡ Equal → cells ≡ Equal) → ordering_then agents (ordering_then times Equal) ≡ Less
+front Less times cells less tie = refl
+front Greater times cells less tie = less
+front Equal Less cells less tie = refl
+front Equal Greater cells less tie = less
+front Equal Equal cells less tie = sym (tie refl refl) ∙ less
+
 before_key : (a b : Visit) → visit_cmp a b ≡ Less → (a.agent ≡ b.agent → a.time ≡ b.time → a.cell ≡ b.cell) → ComesBefore (visit_key a) (visit_key b)
-before_key a b less same =
-    let then_cells : Ordering → Ordering = λ o. ordering_then o (ordering_then (nat_cmp a.cell.y b.cell.y) (nat_cmp a.cell.x b.cell.x)) in
-    elim (cases3 (nat_cmp a.agent b.agent)) [
-      | inl lt ↦ key_before a b.agent b.time (inl (from_lt a.agent b.agent lt))
-      | inr rest ↦ elim rest [
-        | inl e ↦ elim (cases3 (nat_cmp a.time b.time)) [
-          | inl lt ↦ key_before a b.agent b.time (inr (from_eq a.agent b.agent e, from_lt a.time b.time lt))
-          | inr more ↦ elim more [
-            | inl t ↦
-                let agents = from_eq a.agent b.agent e in
-                let times = from_eq a.time b.time t in
-                let cells = same agents times in
-                let one : a ≡ b = λ i. record { agent = agents i; time = times i; cell = cells i } in
-                let tied : visit_cmp a b ≡ Equal = ap (λ (v : Visit). visit_cmp v b) one ∙ tied_itself visit_total b in
-                absurd (cc)
-            | inr gt ↦
-                let within : then_cells (nat_cmp a.time b.time) ≡ Less = subst (λ o. ordering_then o (then_cells (nat_cmp a.time b.time)) ≡ Less) e less in
-                let wrong : Greater ≡ Less = subst (λ o. then_cells o ≡ Less) gt within in
-                absurd (cc)
-          ]
-        ]
-        | inr gt ↦ let wrong : Greater ≡ Less = subst (λ o. ordering_then o (then_cells (nat_cmp a.time b.time)) ≡ Less) gt less in absurd (cc)
-      ]
-    ]
+before_key a b less same = front (nat_cmp a.agent b.agent) (nat_cmp a.time b.time) _ less (λ agents times.
+    let cells : a.cell ≡ b.cell = same (exact_unsigned _ _ agents) (exact_unsigned _ _ times) in
+    ap (λ (p : Point). ordering_then (nat_cmp p.y b.cell.y) (nat_cmp p.x b.cell.x)) cells ∙ ap (λ o. ordering_then o (nat_cmp b.cell.x b.cell.x)) (tied_itself nat_cmp_total b.cell.y) ∙ tied_itself nat_cmp_total b.cell.x)
 
 pub visits_listed : (grid : Chart) (rows : List (ℕ × Row)) (visits : List Visit) → IsStrictlySortedBy visit_cmp visits → VisitsOf grid rows visits → AreVisits grid rows visits
 visits_listed grid rows visits sorted are = record {
@@ -200,9 +165,9 @@ pub visits_put : (grid : Chart) (rows new : List (ℕ × Row)) (agent : ℕ) (ro
 visits_put grid rows new agent row old visits sorted absent change before gains =
     visits_listed grid new visits sorted (of_put (λ (v : Visit). v.agent) (VisitOf grid) rows new agent old visits row (IsVisitIn grid agent row.plan 0 (last_of_row row + 1)) absent change (visit_in grid agent row) (visits_of grid rows old before) gains)
 
-pub visits_take : (grid : Chart) (rows new : List (ℕ × Row)) (agent : ℕ) (row : Row) (old visits : List Visit) → IsStrictlySortedBy visit_cmp visits → row_of rows agent ≡ Some row → ChangesRow rows new agent None → AreVisits grid rows old → LosesAll old visits (λ v. IsSpotIn agent row.plan 0 (last_of_row row + 1) (spot_of v)) → AreVisits grid new visits
+pub visits_take : (grid : Chart) (rows new : List (ℕ × Row)) (agent : ℕ) (row : Row) (old visits : List Visit) → IsStrictlySortedBy visit_cmp visits → row_of rows agent ≡ Some row → ChangesRow rows new agent None → AreVisits grid rows old → LosesAll old visits (IsThrough agent row.plan 0 (last_of_row row + 1)) → AreVisits grid new visits
 visits_take grid rows new agent row old visits sorted live change before loses =
-    visits_listed grid new visits sorted (of_take (λ (v : Visit). v.agent) (VisitOf grid) rows new agent old visits row (λ v. IsSpotIn agent row.plan 0 (last_of_row row + 1) (spot_of v)) live change (λ v is. is.same_agent) (λ v e is. record { same_agent = e; late = omega arith; early = omega (arith, is.on_path); there = is.there }) (visits_of grid rows old before) loses)
+    visits_listed grid new visits sorted (of_take (λ (v : Visit). v.agent) (VisitOf grid) rows new agent old visits row (IsThrough agent row.plan 0 (last_of_row row + 1)) live change (λ v is. is.same_agent) (λ v e is. record { same_agent = e; late = omega arith; early = omega (arith, is.on_path); there = is.there }) (visits_of grid rows old before) loses)
 
 pub visits_swap : (grid : Chart) (rows new : List (ℕ × Row)) (agent : ℕ) (row after : Row) (visits : List Visit) → row.plan ≡ after.plan → row_of rows agent ≡ Some row → ChangesRow rows new agent (Some after) → AreVisits grid rows visits → AreVisits grid new visits
 visits_swap grid rows new agent row after visits plans live change before =
@@ -224,7 +189,7 @@ one_at_most row = zero_or_one _
 pub row_counts : (number : Row → ℕ) (rows : List (ℕ × Row)) (agent : ℕ) (row : Row) → row_of rows agent ≡ Some row → number row ≤ sum_of_rows number rows
 row_counts number rows agent row live = omega (arith, sum_remove number agent row rows live)
 
-module _ (rows : List (ℕ × Row)) (spots : List Spot) (rests : List Rest) (total elsewhere : ℕ) (keeps : Keeps rows spots rests total elsewhere) where
+module _ (rows : List (ℕ × Row)) (rests : List Rest) (total elsewhere : ℕ) (keeps : Keeps rows rests total elsewhere) where
   row_at : (k : ℕ) (d : ℕ × Row) → k < length rows → row_of rows (get_or rows k d).0 ≡ Some (get_or rows k d).1
   row_at k d within = (row_here rows keeps.by_agent k (get_or rows k d).0 (get_or rows k d).1 (slice_get-get_or rows k d within)).0
 
@@ -240,9 +205,9 @@ module _ (rows : List (ℕ × Row)) (spots : List Spot) (rests : List Rest) (tot
   pub elsewhere_small : elsewhere ≤ 65536
   elsewhere_small = omega (arith, few, keeps.elsewhere_is, sum_by-le (λ (entry : ℕ × Row). ends_elsewhere entry.1) 1 rows (λ k d within. one_at_most (get_or rows k d).1))
 
-module _ (rows new : List (ℕ × Row)) (spots new_spots : List Spot) (rests new_rests : List Rest) (total elsewhere new_total new_elsewhere : ℕ) (agent : ℕ) where
-  pub keeps_put : (row : Row) (time : ℕ) → Keeps rows spots rests total elsewhere → row_of rows agent ≡ None → agent ≤ MOST_AGENT → IsPath row.plan → ChangesRow rows new agent (Some row) → IsByAgent new → ((number : Row → ℕ) → sum_of_rows number new ≡ sum_of_rows number rows + number row) → GainsAll spots new_spots (IsSpotIn agent row.plan 0 (last_of_row row + 1)) → time ≡ last_of_row row → Gains rests new_rests (rest time agent) → new_total ≡ total + time → new_elsewhere ≡ elsewhere + ends_elsewhere row → Keeps new new_spots new_rests new_total new_elsewhere
-  keeps_put row time keeps absent number_small path change by_agent sums spots_gain last rests_gain totals elsewheres = record {
+module _ (rows new : List (ℕ × Row)) (rests new_rests : List Rest) (total elsewhere new_total new_elsewhere : ℕ) (agent : ℕ) where
+  pub keeps_put : (row : Row) (time : ℕ) → Keeps rows rests total elsewhere → row_of rows agent ≡ None → agent ≤ MOST_AGENT → IsPath row.plan → ChangesRow rows new agent (Some row) → IsByAgent new → ((number : Row → ℕ) → sum_of_rows number new ≡ sum_of_rows number rows + number row) → time ≡ last_of_row row → Gains rests new_rests (rest time agent) → new_total ≡ total + time → new_elsewhere ≡ elsewhere + ends_elsewhere row → Keeps new new_rests new_total new_elsewhere
+  keeps_put row time keeps absent number_small path change by_agent sums last rests_gain totals elsewheres = record {
     by_agent = by_agent;
     lawful = λ a r live. elim (same_or_apart a agent) [
       | inl e ↦
@@ -250,26 +215,24 @@ module _ (rows new : List (ℕ × Row)) (spots new_spots : List Spot) (rests new
           (omega (arith, e), subst (λ (q : Row). IsPath q.plan) one path)
       | inr apart ↦ keeps.lawful a r (sym (change.other_agents a apart) ∙ live)
     ];
-    spots_are = spots_put rows new agent row spots new_spots absent change keeps.spots_are spots_gain;
     rests_are = rests_put rows new agent row rests new_rests absent change keeps.rests_are (subst (λ t. Gains rests new_rests (rest t agent)) last rests_gain);
     total_is = omega (arith, keeps.total_is, sums last_of_row);
     elsewhere_is = omega (arith, keeps.elsewhere_is, sums ends_elsewhere);
   }
 
-  pub keeps_take : (row : Row) (time : ℕ) → Keeps rows spots rests total elsewhere → row_of rows agent ≡ Some row → ChangesRow rows new agent None → IsByAgent new → ((number : Row → ℕ) → sum_of_rows number new + number row ≡ sum_of_rows number rows) → LosesAll spots new_spots (IsSpotIn agent row.plan 0 (last_of_row row + 1)) → time ≡ last_of_row row → Loses rests new_rests (rest time agent) → new_total + time ≡ total → new_elsewhere + ends_elsewhere row ≡ elsewhere → Keeps new new_spots new_rests new_total new_elsewhere
-  keeps_take row time keeps live change by_agent sums spots_lose last rests_lose totals elsewheres = record {
+  pub keeps_take : (row : Row) (time : ℕ) → Keeps rows rests total elsewhere → row_of rows agent ≡ Some row → ChangesRow rows new agent None → IsByAgent new → ((number : Row → ℕ) → sum_of_rows number new + number row ≡ sum_of_rows number rows) → time ≡ last_of_row row → Loses rests new_rests (rest time agent) → new_total + time ≡ total → new_elsewhere + ends_elsewhere row ≡ elsewhere → Keeps new new_rests new_total new_elsewhere
+  keeps_take row time keeps live change by_agent sums last rests_lose totals elsewheres = record {
     by_agent = by_agent;
     lawful = λ a r now. elim (same_or_apart a agent) [
       | inl e ↦ none_some (row_of new agent) r change.this_agent (ap (row_of new) (sym e) ∙ now)
       | inr apart ↦ keeps.lawful a r (sym (change.other_agents a apart) ∙ now)
     ];
-    spots_are = spots_take rows new agent row spots new_spots live change keeps.spots_are spots_lose;
     rests_are = rests_take rows new agent row rests new_rests live change keeps.rests_are (subst (λ t. Loses rests new_rests (rest t agent)) last rests_lose);
     total_is = omega (arith, keeps.total_is, sums last_of_row);
     elsewhere_is = omega (arith, keeps.elsewhere_is, sums ends_elsewhere);
   }
 
-  pub keeps_aim : (row : Row) (goal : Point) → Keeps rows spots rests total elsewhere → SwapsRow rows new agent row (record row { goal = goal }) → IsByAgent new → new_elsewhere + ends_elsewhere row ≡ elsewhere + ends_elsewhere (record row { goal = goal }) → Keeps new spots rests total new_elsewhere
+  pub keeps_aim : (row : Row) (goal : Point) → Keeps rows rests total elsewhere → SwapsRow rows new agent row (record row { goal = goal }) → IsByAgent new → new_elsewhere + ends_elsewhere row ≡ elsewhere + ends_elsewhere (record row { goal = goal }) → Keeps new rests total new_elsewhere
   keeps_aim row goal keeps swap by_agent elsewheres =
       let after : Row = record row { goal = goal } in
       record {
@@ -282,7 +245,6 @@ module _ (rows new : List (ℕ × Row)) (spots new_spots : List Spot) (rests new
               (old.0, subst (λ (q : Row). IsPath q.plan) one old.1)
           | inr apart ↦ keeps.lawful a r (sym (swap.now.other_agents a apart) ∙ now)
         ];
-        spots_are = of_swap (λ (s : Spot). s.agent) SpotOf rows new agent spots row after swap.was swap.now (λ s. ((λ h. record { same_agent = h.same_agent; late = h.late; early = h.early; there = h.there }), (λ h. record { same_agent = h.same_agent; late = h.late; early = h.early; there = h.there }))) keeps.spots_are;
         rests_are = of_swap (λ (r : Rest). r.agent) RestOf rows new agent rests row after swap.was swap.now (λ r. ((λ h. h), (λ h. h))) keeps.rests_are;
         total_is = omega (arith, keeps.total_is, swap.sums last_of_row);
         elsewhere_is = omega (arith, keeps.elsewhere_is, swap.sums ends_elsewhere);
@@ -298,38 +260,30 @@ point_cases a b = elim (same_or_apart a.x b.x) [
   ]
 ]
 
-module _ (old new grid : Chart) (rows : List (ℕ × Row)) (spots found : List Spot) (cell : Point) (before visits : List Visit) (paths : (agent : ℕ) (row : Row) → row_of rows agent ≡ Some row → IsPath row.plan) (are : AreSpots rows spots) (through : AreBetween spots cell 0 MOST_LAST_INDEX found) (but : SameBut old new cell) (at : SameAt grid new cell) (sorted : IsStrictlySortedBy visit_cmp visits) (were : AreVisits old rows before) where
-  found_at : (v : Visit) → Contains found (spot_of v) → (v.cell ≡ cell) × ((row : Row) × (row_of rows v.agent ≡ Some row) × (v.time ≤ last_index row.plan) × (place row.plan v.time ≡ Some v.cell))
-  found_at v h =
-      let is = (through (spot_of v)).0 h in
-      let of = (are (spot_of v)).0 is.0 in
-      (is.1, (of.0, of.1, omega (arith, of.2.early), of.2.there))
+module _ (old new grid : Chart) (rows : List (ℕ × Row)) (found : List Visit) (cell : Point) (before visits : List Visit) (through : AreThrough rows cell found) (but : SameBut old new cell) (at : SameAt grid new cell) (sorted : IsStrictlySortedBy visit_cmp visits) (were : AreVisits old rows before) where
+  at_found : (v : Visit) (row : Row) → v.cell ≡ cell → row_of rows v.agent ≡ Some row → v.time ≤ last_index row.plan → place row.plan v.time ≡ Some v.cell → Contains found v
+  at_found v row e live on there = (through v).1 (record { here = e; row = row; live = live; on_path = on; there = there ∙ ap Some e })
 
-  at_found : (v : Visit) (row : Row) → v.cell ≡ cell → row_of rows v.agent ≡ Some row → v.time ≤ last_index row.plan → place row.plan v.time ≡ Some v.cell → Contains found (spot_of v)
-  at_found v row e live on there =
-      let short : last_index row.plan ≤ MOST_LAST_INDEX = (paths v.agent row live).walkable.short in
-      (through (spot_of v)).1 ((are (spot_of v)).1 (row, live, record { same_agent = refl; late = omega arith; early = omega arith; there = there }), e, omega arith, omega arith)
-
-  pub visits_closed : IsClosed grid cell → GainsAll before visits (λ v. Contains found (spot_of v)) → AreVisits new rows visits
+  pub visits_closed : IsClosed grid cell → GainsAll before visits (Contains found) → AreVisits new rows visits
   visits_closed closed gains = visits_listed new rows visits sorted (λ v. elim (point_cases v.cell cell) [
     | inl e ↦
         let now : IsClosed new v.cell = subst (IsClosed new) (sym e) (at.0 closed) in (
           (λ h. elim ((gains v).0 h) [
             | inl o ↦ let is = (were.exact v).0 o in (is.row, is.live, record { on_path = is.blocked.on_path; there = is.blocked.there; closed = now })
-            | inr f ↦ let is = found_at v f in (is.1.0, is.1.1, record { on_path = is.1.2; there = is.1.3; closed = now })
+            | inr f ↦ let is = (through v).0 f in (is.row, is.live, record { on_path = is.on_path; there = is.there ∙ ap Some (sym e); closed = now })
           ]),
           (λ h. (gains v).1 (inr (at_found v h.0 e h.1 h.2.on_path h.2.there))),
         )
     | inr apart ↦ (
       (λ h. elim ((gains v).0 h) [
         | inl o ↦ let is = (were.exact v).0 o in (is.row, is.live, record { on_path = is.blocked.on_path; there = is.blocked.there; closed = (but v.cell apart).0 is.blocked.closed })
-        | inr f ↦ absurd (apart (found_at v f).0)
+        | inr f ↦ absurd (apart ((through v).0 f).here)
       ]),
       (λ h. (gains v).1 (inl ((were.exact v).1 (record { row = h.0; live = h.1; blocked = record { on_path = h.2.on_path; there = h.2.there; closed = (but v.cell apart).1 h.2.closed } })))),
     )
   ])
 
-  pub visits_opened : (IsClosed grid cell → ⊥) → LosesAll before visits (λ v. Contains found (spot_of v)) → AreVisits new rows visits
+  pub visits_opened : (IsClosed grid cell → ⊥) → LosesAll before visits (Contains found) → AreVisits new rows visits
   visits_opened opened loses = visits_listed new rows visits sorted (λ v. elim (point_cases v.cell cell) [
     | inl e ↦ (
       (λ h.
@@ -342,10 +296,10 @@ module _ (old new grid : Chart) (rows : List (ℕ × Row)) (spots found : List S
       (λ h.
           let is = (were.exact v).0 ((loses v).0 h).0 in
           (is.row, is.live, record { on_path = is.blocked.on_path; there = is.blocked.there; closed = (but v.cell apart).0 is.blocked.closed })),
-      (λ h. (loses v).1 ((were.exact v).1 (record { row = h.0; live = h.1; blocked = record { on_path = h.2.on_path; there = h.2.there; closed = (but v.cell apart).1 h.2.closed } }), λ f. apart (found_at v f).0)),
+      (λ h. (loses v).1 ((were.exact v).1 (record { row = h.0; live = h.1; blocked = record { on_path = h.2.on_path; there = h.2.there; closed = (but v.cell apart).1 h.2.closed } }), λ f. apart ((through v).0 f).here)),
     )
   ])
 
-  pub visits_flipped : (closed : Bool) → (IsTrue closed ↔ IsClosed grid cell) → (closed ≡ true → GainsAll before visits (λ v. Contains found (spot_of v))) → (closed ≡ false → LosesAll before visits (λ v. Contains found (spot_of v))) → AreVisits new rows visits
+  pub visits_flipped : (closed : Bool) → (IsTrue closed ↔ IsClosed grid cell) → (closed ≡ true → GainsAll before visits (Contains found)) → (closed ≡ false → LosesAll before visits (Contains found)) → AreVisits new rows visits
   visits_flipped true is adds takes = visits_closed (is.0 refl) (adds refl)
   visits_flipped false is adds takes = visits_opened (λ shut. false≢true (is.1 shut)) (takes refl)

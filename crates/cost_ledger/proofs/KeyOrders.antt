@@ -1,12 +1,19 @@
 -- The orders of rests and of visits.
-use Rattle.std.proofs.Common.{◌≡◌}
+use Rattle.std.proofs.Common.{◌≡◌, refl}
 use Rattle.std.specs.Cmp.{IsTotalOrder}
+use Rattle.std.specs.Ordering.{ordering_then}
+use Rattle.std.specs.declared.cmp.Ordering.{Ordering}
+use Rattle.std.specs.declared.cmp.Ordering.TheVariants.{Less, Equal, Greater}
 use Rattle.std.proofs.lemmas.Map.Lookups.{CmpEqualImpliesEq, exact_unsigned}
 use Rattle.std.proofs.lemmas.Cmp.{nat_cmp_total, on_total, then_total}
 use Rattle.cost_ledger.specs.Kept.{rest_cmp, visit_cmp}
 use Rattle.cost_ledger.specs.declared.rests.Rest.{Rest}
 use Rattle.mapf_rules.specs.declared.visits.Visit.{Visit}
-use Rattle.cell_spots.proofs.SpotOrder.{then_equal}
+
+then_equal : (a b : Ordering) → ordering_then a b ≡ Equal → (a ≡ Equal) × (b ≡ Equal)
+then_equal Less b e = absurd (cc)
+then_equal Equal b e = (refl, e)
+then_equal Greater b e = absurd (cc)
 
 pub rest_total : IsTotalOrder rest_cmp
 rest_total = then_total (on_total (λ (r : Rest). r.time) nat_cmp_total) (on_total (λ (r : Rest). r.agent) nat_cmp_total)

@@ -3,7 +3,7 @@ use Rattle.std.proofs.Common.{◌≡◌, ◌≢◌, ◌⊎◌, inl, inr, ℕ, �
 use Rattle.std.specs.Prelude.{IfSome}
 use Rattle.std.specs.Ordering.{nat_cmp, is_eq, match_ordering}
 use Rattle.std.specs.declared.cmp.Ordering.{Ordering}
-use Rattle.std.specs.declared.cmp.Ordering.TheVariants.{Equal}
+use Rattle.std.specs.declared.cmp.Ordering.TheVariants.{Less, Equal, Greater}
 use Rattle.std.specs.List.Sorted.{IsStrictlySortedBy}
 use Rattle.std.specs.Map.{lookup, remove_entry, set_value, keys_of}
 use Rattle.std.specs.BTreeMap.{insert_entry, is_at}
@@ -15,7 +15,7 @@ use Rattle.std.proofs.lemmas.Map.Keys.{Less-from_sorted}
 use Rattle.plan_table.specs.Plans.{IsByAgent, row_of, ChangesRow}
 use Rattle.plan_table.specs.declared.plans.Row.{Row}
 use Rattle.cost_ledger.specs.Kept.{sum_of_rows}
-use Rattle.cell_spots.proofs.SpotOrder.{from_lt, cases3}
+use Rattle.std.proofs.lemmas.Cmp.{ranked}
 
 same_test : (agent a : ℕ) → is_eq (nat_cmp agent a) ≡ eqb a agent
 same_test agent a = grind (arith, nat_tests)
@@ -46,6 +46,11 @@ same_agent agent a e = sym (same_test agent a) ∙ ap is_eq e
 
 agent_cases : (agent a : ℕ) → ((is_eq (nat_cmp agent a) ≡ true) × (eqb a agent ≡ true)) ⊎ ((is_eq (nat_cmp agent a) ≡ false) × (eqb a agent ≡ false))
 agent_cases agent a = grind (arith, nat_tests)
+
+cases3 : (o : Ordering) → (o ≡ Less) ⊎ ((o ≡ Equal) ⊎ (o ≡ Greater))
+cases3 Less = inl refl
+cases3 Equal = inr (inl refl)
+cases3 Greater = inr (inr refl)
 
 module _ (number : Row → ℕ) (agent : ℕ) (row : Row) where
   pub sum_insert : (rows : List (ℕ × Row)) → row_of rows agent ≡ None → sum_of_rows number (insert_entry nat_cmp rows agent row) ≡ sum_of_rows number rows + number row
@@ -117,7 +122,7 @@ sums_removed old new agent (Some row) is left = λ number. ap (λ (rows : List (
 pub by_agent_sorted : (rows : List (ℕ × Row)) → IsStrictlySortedBy nat_cmp (keys_of rows) → IsByAgent rows
 by_agent_sorted rows sorted i j d lt within =
     let many : length (keys_of rows) ≡ length rows = length-map rows (λ (e : ℕ × Row). e.0) in
-    let less : get_or (keys_of rows) i 0 < get_or (keys_of rows) j 0 = from_lt _ _ (Less-from_sorted nat_cmp (keys_of rows) i j 0 sorted lt (omega arith)) in
+    let less : get_or (keys_of rows) i 0 < get_or (keys_of rows) j 0 = ranked _ _ Less (sym (Less-from_sorted nat_cmp (keys_of rows) i j 0 sorted lt (omega arith))) in
     let here : get_or (keys_of rows) i 0 ≡ (get_or rows i d).0 = get_or-map (λ (e : ℕ × Row). e.0) rows i d 0 (omega arith) in
     let there : get_or (keys_of rows) j 0 ≡ (get_or rows j d).0 = get_or-map (λ (e : ℕ × Row). e.0) rows j d 0 within in
     omega arith

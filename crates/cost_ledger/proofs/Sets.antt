@@ -1,8 +1,7 @@
 -- What lists gain and lose in several steps.
 use Rattle.std.proofs.Common.{◌≡◌, ◌⊎◌, inl, inr, List}
 use mathlib.Core.Logic.{◌↔◌}
-use Rattle.cell_spots.specs.Spot.{Gains, Loses}
-use Rattle.cost_ledger.specs.Spots.{GainsAll, LosesAll}
+use Rattle.cost_ledger.specs.Sets.{Gains, Loses, GainsAll, LosesAll}
 
 module _ {X : Type 0} (old mid new : List X) (P Q : X → Type 0) (x : X) (more : (y : X) → Q y ↔ (P y ⊎ (y ≡ x))) where
   pub gains_more : GainsAll old mid P → Gains mid new x → GainsAll old new Q

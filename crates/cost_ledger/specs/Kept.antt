@@ -7,9 +7,7 @@ use Rattle.grid_cells.specs.declared.numbers.TheConstants.{MOST_AGENT}
 use Rattle.plan_table.specs.Path.{last_index, IsPath}
 use Rattle.plan_table.specs.Plans.{IsByAgent, row_of, ChangesRow}
 use Rattle.plan_table.specs.declared.plans.Row.{Row}
-use Rattle.cost_ledger.specs.Spots.{IsSpotIn}
 use Rattle.cost_ledger.specs.declared.rests.Rest.{Rest}
-use Rattle.cell_spots.specs.declared.spot_sets.Spot.{Spot}
 use Rattle.mapf_rules.specs.declared.visits.Visit.{Visit}
 
 -- an agent and the time at which it comes to rest
@@ -35,10 +33,6 @@ ends_elsewhere row =
     let end = slice_index_or row.plan (last_index row.plan) d in
     if (end.y == row.goal.y && end.x == row.goal.x) then 0 else 1
 
--- the spots of the paths of the rows
-abbrev pub AreSpots : List (ℕ × Row) → List Spot → Type 0
-AreSpots rows spots = (s : Spot) → Contains spots s ↔ ((row : Row) × (row_of rows s.agent ≡ Some row) × IsSpotIn s.agent row.plan 0 (last_of_row row + 1) s)
-
 -- the last indices of the paths of the rows
 abbrev pub AreRests : List (ℕ × Row) → List Rest → Type 0
 AreRests rows rests = (r : Rest) → Contains rests r ↔ ((row : Row) × (row_of rows r.agent ≡ Some row) × (r.time ≡ last_of_row row))
@@ -54,10 +48,9 @@ pub record SwapsRow (old new : List (ℕ × Row)) (agent : ℕ) (before after : 
   pub sums : (number : Row → ℕ) → sum_of_rows number new + number before ≡ sum_of_rows number old + number after
 
 -- what is kept beside the rows is theirs
-pub record Keeps (rows : List (ℕ × Row)) (spots : List Spot) (rests : List Rest) (total elsewhere : ℕ) : Type 0 where
+pub record Keeps (rows : List (ℕ × Row)) (rests : List Rest) (total elsewhere : ℕ) : Type 0 where
   pub by_agent : IsByAgent rows
   pub lawful : (agent : ℕ) (row : Row) → row_of rows agent ≡ Some row → (agent ≤ MOST_AGENT) × IsPath row.plan
-  pub spots_are : AreSpots rows spots
   pub rests_are : AreRests rows rests
   pub total_is : total ≡ sum_of_rows last_of_row rows
   pub elsewhere_is : elsewhere ≡ sum_of_rows ends_elsewhere rows

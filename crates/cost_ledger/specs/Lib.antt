@@ -1,5 +1,6 @@
 pub mod Laws
-pub mod Spots
+pub mod Sets
+pub mod Through
 pub mod Replans
 pub mod Kept
 pub mod Ledger

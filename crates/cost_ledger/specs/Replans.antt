@@ -3,7 +3,7 @@ use Rattle.std.specs.Prelude.{◌≡◌, ℕ, ◌+◌, ◌<◌, ◌≤◌, List}
 use Rattle.grid_cells.specs.Cell.{Point}
 use Rattle.plan_table.specs.Path.{last_index, place}
 use Rattle.plan_table.specs.declared.plans.Row.{Row}
-use Rattle.cost_ledger.specs.Spots.{GainsAll, LosesAll}
+use Rattle.cost_ledger.specs.Sets.{GainsAll, LosesAll}
 use Rattle.cost_ledger.specs.declared.replans.Planned.{Planned}
 
 -- the two paths are in the same cells before the time, which is at most one after the end of either

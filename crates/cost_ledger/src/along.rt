@@ -1,34 +1,13 @@
 ghost use Rattle.std.specs.Prelude.{◌≡◌, ◌+◌, ◌≤◌, true, false, OnOk, Contains};
 ghost use Rattle.plan_table.specs.Path.{last_index};
-ghost use Rattle.cost_ledger.specs.Spots.{spot_of, GainsAll, LosesAll, IsSpotIn};
+ghost use Rattle.cost_ledger.specs.Sets.{GainsAll, LosesAll};
+ghost use Rattle.cost_ledger.specs.Through.{IsThrough};
 ghost use Rattle.mapf_rules.specs.VisitSearch.{IsVisitIn};
 
 use crate::blocked::Blocked;
-use cell_spots::{Spot, Spots};
-use grid_cells::{Agent, Grid, OutOfMemory, Step};
+use grid_cells::{Agent, Cell, Grid, OutOfMemory, Step};
 use mapf_rules::{Visit, is_closed};
 use plan_table::Plan;
-
-/// Adds the spots of the agent's path from one time on.
-pub fn add_spots(spots: &mut Spots, agent: Agent, plan: &Plan, from: u32) -> Result<(), OutOfMemory>
-    requires { from ≤ last_index plan.now + 1 }
-    ensures { OnOk result (GainsAll spots.old spots.new (IsSpotIn agent plan.now from (last_index plan.now + 1))) }
-{
-    for time in from..plan.last() + 1 {
-        spots.add(plan.at(Step::new(time)), time, agent)?;
-    }
-    Ok(())
-}
-
-/// Takes the spots of the agent's path from one time on out.
-pub fn lose_spots(spots: &mut Spots, agent: Agent, plan: &Plan, from: u32)
-    requires { from ≤ last_index plan.now + 1 }
-    ensures { LosesAll spots.old spots.new (IsSpotIn agent plan.now from (last_index plan.now + 1)) }
-{
-    for time in from..plan.last() + 1 {
-        spots.lose(plan.at(Step::new(time)), time, agent);
-    }
-}
 
 /// Adds the agent's visits to closed cells from one time on.
 pub fn block(
@@ -72,7 +51,7 @@ fn block_at(
 /// Takes the agent's visits from one time on out, wherever on its path they are.
 pub fn unblock(blocked: &mut Blocked, agent: Agent, plan: &Plan, from: u32)
     requires { from ≤ last_index plan.now + 1 }
-    ensures { LosesAll blocked.old blocked.new (λ visit. IsSpotIn agent plan.now from (last_index plan.now + 1) (spot_of visit)) }
+    ensures { LosesAll blocked.old blocked.new (IsThrough agent plan.now from (last_index plan.now + 1)) }
 {
     for time in from..plan.last() + 1 {
         blocked.lose(Visit {
@@ -83,45 +62,70 @@ pub fn unblock(blocked: &mut Blocked, agent: Agent, plan: &Plan, from: u32)
     }
 }
 
-/// Adds the visits at the spots where their cell is closed, and takes them out otherwise.
-pub fn set_blocked(blocked: &mut Blocked, spots: &[Spot], closed: bool) -> Result<(), OutOfMemory>
-    ensures adds { OnOk result (closed ≡ true → GainsAll blocked.old blocked.new (λ visit. Contains spots.now (spot_of visit))) }
-    ensures takes { OnOk result (closed ≡ false → LosesAll blocked.old blocked.new (λ visit. Contains spots.now (spot_of visit))) }
+/// Adds the agent's visits to the cell.
+pub fn add_through(
+    found: &mut Vec<Visit>,
+    agent: Agent,
+    plan: &Plan,
+    cell: Cell,
+) -> Result<(), OutOfMemory>
+    ensures { OnOk result (GainsAll found.old.items found.new.items (λ visit. (visit.cell ≡ cell) × IsThrough agent plan.now 0 (last_index plan.now + 1) visit)) }
 {
-    if closed {
-        block_all(blocked, spots)
-    } else {
-        unblock_all(blocked, spots);
-        Ok(())
-    }
-}
-
-// Adds the visits at the spots.
-fn block_all(blocked: &mut Blocked, spots: &[Spot]) -> Result<(), OutOfMemory>
-    ensures { OnOk result (GainsAll blocked.old blocked.new (λ visit. Contains spots.now (spot_of visit))) }
-{
-    for spot in spots {
-        blocked.add(visit_at(spot))?;
+    for time in 0..plan.last() + 1 {
+        add_if_there(found, agent, plan, cell, time)?;
     }
     Ok(())
 }
 
-// Takes the visits at the spots out.
-fn unblock_all(blocked: &mut Blocked, spots: &[Spot])
-    ensures { LosesAll blocked.old blocked.new (λ visit. Contains spots.now (spot_of visit)) }
+// Adds the agent's visit at that time, if it is to the cell.
+fn add_if_there(
+    found: &mut Vec<Visit>,
+    agent: Agent,
+    plan: &Plan,
+    cell: Cell,
+    time: u32,
+) -> Result<(), OutOfMemory>
+    requires { time ≤ last_index plan.now }
+    ensures { OnOk result (GainsAll found.old.items found.new.items (λ visit. (visit.cell ≡ cell) × IsThrough agent plan.now time (time + 1) visit)) }
 {
-    for spot in spots {
-        blocked.lose(visit_at(spot));
+    if plan.at(Step::new(time)) == cell {
+        found.push(Visit {
+            agent,
+            time: Step::new(time),
+            cell,
+        })?;
+    }
+    Ok(())
+}
+
+/// Adds the visits where their cell is closed, and takes them out otherwise.
+pub fn set_blocked(blocked: &mut Blocked, visits: &[Visit], closed: bool) -> Result<(), OutOfMemory>
+    ensures adds { OnOk result (closed ≡ true → GainsAll blocked.old blocked.new (Contains visits.now)) }
+    ensures takes { OnOk result (closed ≡ false → LosesAll blocked.old blocked.new (Contains visits.now)) }
+{
+    if closed {
+        block_all(blocked, visits)
+    } else {
+        unblock_all(blocked, visits);
+        Ok(())
     }
 }
 
-// The visit at the spot.
-fn visit_at(spot: &Spot) -> Visit
-    ensures { spot_of result ≡ spot.now }
+// Adds the visits.
+fn block_all(blocked: &mut Blocked, visits: &[Visit]) -> Result<(), OutOfMemory>
+    ensures { OnOk result (GainsAll blocked.old blocked.new (Contains visits.now)) }
 {
-    Visit {
-        agent: spot.agent,
-        time: Step::new(spot.time),
-        cell: spot.cell,
+    for visit in visits {
+        blocked.add(*visit)?;
+    }
+    Ok(())
+}
+
+// Takes the visits out.
+fn unblock_all(blocked: &mut Blocked, visits: &[Visit])
+    ensures { LosesAll blocked.old blocked.new (Contains visits.now) }
+{
+    for visit in visits {
+        blocked.lose(*visit);
     }
 }

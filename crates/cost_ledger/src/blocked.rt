@@ -1,6 +1,6 @@
 ghost use Rattle.std.specs.Prelude.{◌≡◌, [], length, OnOk, IfOk};
 ghost use Rattle.cost_ledger.specs.Kept.{visit_cmp};
-ghost use Rattle.cell_spots.specs.Spot.{Gains, Loses};
+ghost use Rattle.cost_ledger.specs.Sets.{Gains, Loses};
 ghost use Rattle.std.specs.List.Sorted.{IsStrictlySortedBy};
 
 use grid_cells::{List, OutOfMemory};

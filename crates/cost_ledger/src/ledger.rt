@@ -3,19 +3,17 @@ ghost use Rattle.grid_cells.specs.Grid.{Chart};
 ghost use Rattle.plan_table.specs.Plans.{row_of, ChangesRow, IsByAgent};
 ghost use Rattle.mapf_rules.specs.Costs.{IsSumOfCosts, IsMakespan};
 ghost use Rattle.mapf_rules.specs.Visits.{AreVisits};
-ghost use Rattle.cost_ledger.specs.Ledger.{StandsFor, SameBut, SameAt, IsSettleOf, IsFinishedIn, IsUnfinishedCount};
+ghost use Rattle.cost_ledger.specs.Ledger.{StandsFor, IsSettleOf, IsFinishedIn, IsUnfinishedCount};
 
+mod flips;
 mod plans;
 
-use crate::along::{lose_spots, set_blocked, unblock};
+use crate::along::unblock;
 use crate::blocked::Blocked;
 use crate::rests::Rests;
 use crate::rows::{Rows, elsewhere};
-use crate::spots::through;
-use cell_spots::Spots;
-use grid_cells::{Agent, Cell, Grid, List, OutOfMemory};
-use mapf_rules::{Visit, is_closed, is_finished, settle_time};
-use plan_table::MOST_LAST_INDEX;
+use grid_cells::{Agent, Cell, List, OutOfMemory};
+use mapf_rules::{Visit, is_finished, settle_time};
 use std::alloc::Global;
 use std::marker::Model;
 
@@ -24,7 +22,6 @@ use std::marker::Model;
 pub struct CostLedger {
     alloc: Global,
     rows: Rows,
-    spots: Spots,
     blocked: Blocked,
     rests: Rests,
     total: u64,
@@ -39,7 +36,7 @@ impl Model for CostLedger {
 
     ghost view = { λ l. record { rows = l.rows; visits = l.blocked } };
 
-    ghost invariant = { λ l. Keeps l.rows l.spots l.rests l.total l.elsewhere };
+    ghost invariant = { λ l. Keeps l.rows l.rests l.total l.elsewhere };
 }
 
 impl CostLedger {
@@ -51,7 +48,6 @@ impl CostLedger {
         CostLedger {
             alloc,
             rows: Rows::new(alloc),
-            spots: Spots::new(alloc),
             blocked: Blocked::new(alloc),
             rests: Rests::new(alloc),
             total: 0,
@@ -70,7 +66,6 @@ impl CostLedger {
             return;
         };
         let last = row.plan.last();
-        lose_spots(&mut self.spots, agent, &row.plan, 0);
         unblock(&mut self.blocked, agent, &row.plan, 0);
         self.rests.lose(last, agent);
         self.total -= u64::from(last);
@@ -89,35 +84,6 @@ impl CostLedger {
             return;
         };
         self.elsewhere = self.elsewhere - before + after;
-    }
-
-    /// Gives the cell the state that it has in the grid.
-    ///
-    /// # Errors
-    ///
-    /// Want of memory. The ledger is gone then.
-    pub fn flip(mut self, cell: Cell, grid: &Grid) -> Result<CostLedger, OutOfMemory>
-        ensures rows { IfOk result (λ ledger. ledger.rows ≡ self.rows) }
-        ensures stands { IfOk result (λ ledger. (old new : Chart) → StandsFor self old → SameBut old new cell → SameAt grid.now new cell → StandsFor ledger new) }
-    {
-        match self.give_state(cell, grid) {
-            Ok(()) => Ok(self),
-            Err(refused) => {
-                drop(self);
-                Err(refused)
-            }
-        }
-    }
-
-    // Gives the cell the state that it has in the grid.
-    fn give_state(&mut self, cell: Cell, grid: &Grid) -> Result<(), OutOfMemory>
-        ensures rows { OnOk result (self.new.rows ≡ self.old.rows) }
-        ensures stands { OnOk result ((old new : Chart) → StandsFor self.old old → SameBut old new cell → SameAt grid.now new cell → StandsFor self.new new) }
-    {
-        let spots = through(&self.spots, self.alloc, cell, MOST_LAST_INDEX)?;
-        set_blocked(&mut self.blocked, &spots, is_closed(grid, cell))?;
-        let _count = self.blocked.count();
-        Ok(())
     }
 
     /// The agent's settle time in steps, if it is in it.

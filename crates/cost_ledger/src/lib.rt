@@ -8,7 +8,6 @@ mod ledger;
 mod replans;
 mod rests;
 mod rows;
-mod spots;
 
 pub use laws::{empty_stands_for_all, setting_changes_one};
 pub use ledger::CostLedger;

@@ -4,16 +4,15 @@ ghost use Rattle.plan_table.specs.Path.{last_index};
 ghost use Rattle.plan_table.specs.Plans.{row_of, ChangesRow, IsByAgent};
 ghost use Rattle.plan_table.specs.declared.plans.Row.{Row};
 ghost use Rattle.cost_ledger.specs.Kept.{ends_elsewhere, rest, sum_of_rows};
-ghost use Rattle.cell_spots.specs.Spot.{Gains};
-ghost use Rattle.cost_ledger.specs.Spots.{spot_of, GainsAll, IsSpotIn};
+ghost use Rattle.cost_ledger.specs.Sets.{Gains, GainsAll};
+ghost use Rattle.cost_ledger.specs.Through.{IsThrough};
 ghost use Rattle.mapf_rules.specs.VisitSearch.{IsVisitIn};
 ghost use Rattle.cost_ledger.specs.Replans.{Replaces, SameBelow, planned_row};
 
-use crate::along::{add_spots, block, lose_spots, unblock};
+use crate::along::{block, unblock};
 use crate::blocked::Blocked;
 use crate::rests::Rests;
 use crate::rows::{Rows, elsewhere};
-use cell_spots::Spots;
 use grid_cells::{Agent, Cell, Grid, OutOfMemory};
 use plan_table::{Plan, Row};
 
@@ -30,13 +29,11 @@ pub struct Planned<'a> {
 /// of the row end elsewhere than at its goal.
 pub fn add_row(
     rows: &mut Rows,
-    spots: &mut Spots,
     blocked: &mut Blocked,
     rests: &mut Rests,
     planned: &Planned<'_>,
 ) -> Result<u32, OutOfMemory>
     requires absent { row_of rows.old planned.now.agent ≡ None }
-    ensures spots { OnOk result (GainsAll spots.old spots.new (IsSpotIn planned.now.agent planned.now.plan.now 0 (last_index planned.now.plan.now + 1))) }
     ensures blocked { OnOk result (GainsAll blocked.old blocked.new (IsVisitIn planned.now.grid.now planned.now.agent planned.now.plan.now 0 (last_index planned.now.plan.now + 1))) }
     ensures rests { OnOk result (Gains rests.old rests.new (rest (last_index planned.now.plan.now) planned.now.agent)) }
     ensures row { OnOk result (ChangesRow rows.old rows.new planned.now.agent (Some (planned_row planned.now))) }
@@ -49,7 +46,6 @@ pub fn add_row(
         plan: planned.plan.copy()?,
     };
     let away = elsewhere(&row);
-    add_spots(spots, planned.agent, planned.plan, 0)?;
     block(blocked, planned.grid, planned.agent, planned.plan, 0)?;
     rests.add(planned.plan.last(), planned.agent)?;
     rows.insert(planned.agent, row)?;
@@ -61,7 +57,6 @@ pub fn add_row(
 /// are the same. Answers how many paths of the row end elsewhere than at its goal.
 pub fn follow_row(
     rows: &mut Rows,
-    spots: &mut Spots,
     blocked: &mut Blocked,
     rests: &mut Rests,
     old: &Plan,
@@ -70,8 +65,7 @@ pub fn follow_row(
 ) -> Result<u32, OutOfMemory>
     requires absent { row_of rows.old planned.now.agent ≡ None }
     requires same { SameBelow old.now planned.now.plan.now since }
-    ensures spots { OnOk result (Replaces spots.old spots.new (IsSpotIn planned.now.agent old.now since (last_index old.now + 1)) (IsSpotIn planned.now.agent planned.now.plan.now since (last_index planned.now.plan.now + 1))) }
-    ensures blocked { OnOk result (Replaces blocked.old blocked.new (λ visit. IsSpotIn planned.now.agent old.now since (last_index old.now + 1) (spot_of visit)) (IsVisitIn planned.now.grid.now planned.now.agent planned.now.plan.now since (last_index planned.now.plan.now + 1))) }
+    ensures blocked { OnOk result (Replaces blocked.old blocked.new (IsThrough planned.now.agent old.now since (last_index old.now + 1)) (IsVisitIn planned.now.grid.now planned.now.agent planned.now.plan.now since (last_index planned.now.plan.now + 1))) }
     ensures rests { OnOk result (Replaces rests.old rests.new (λ r. r ≡ rest (last_index old.now) planned.now.agent) (λ r. r ≡ rest (last_index planned.now.plan.now) planned.now.agent)) }
     ensures row { OnOk result (ChangesRow rows.old rows.new planned.now.agent (Some (planned_row planned.now))) }
     ensures sums { OnOk result ((number : Row → ℕ) → sum_of_rows number rows.new ≡ sum_of_rows number rows.old + number (planned_row planned.now)) }
@@ -83,7 +77,6 @@ pub fn follow_row(
         plan: planned.plan.copy()?,
     };
     let away = elsewhere(&row);
-    follow_spots(spots, planned.agent, old, planned.plan, since)?;
     follow_visits(
         blocked,
         planned.grid,
@@ -98,23 +91,6 @@ pub fn follow_row(
     Ok(away)
 }
 
-/// Puts the spots of the agent's new path in the place of those of its old one, from a time on below
-/// which the two are the same.
-pub fn follow_spots(
-    spots: &mut Spots,
-    agent: Agent,
-    old: &Plan,
-    new: &Plan,
-    since: u32,
-) -> Result<(), OutOfMemory>
-    requires { SameBelow old.now new.now since }
-    ensures { OnOk result (Replaces spots.old spots.new (IsSpotIn agent old.now since (last_index old.now + 1)) (IsSpotIn agent new.now since (last_index new.now + 1))) }
-{
-    lose_spots(spots, agent, old, since);
-    add_spots(spots, agent, new, since)?;
-    Ok(())
-}
-
 /// Puts the visits of the agent's new path in the place of those of its old one, from a time on
 /// below which the two are the same.
 pub fn follow_visits(
@@ -126,7 +102,7 @@ pub fn follow_visits(
     since: u32,
 ) -> Result<(), OutOfMemory>
     requires { SameBelow old.now new.now since }
-    ensures { OnOk result (Replaces blocked.old blocked.new (λ visit. IsSpotIn agent old.now since (last_index old.now + 1) (spot_of visit)) (IsVisitIn grid.now agent new.now since (last_index new.now + 1))) }
+    ensures { OnOk result (Replaces blocked.old blocked.new (IsThrough agent old.now since (last_index old.now + 1)) (IsVisitIn grid.now agent new.now since (last_index new.now + 1))) }
 {
     unblock(blocked, agent, old, since);
     block(blocked, grid, agent, new, since)?;

@@ -1,7 +1,7 @@
 ghost use Rattle.std.specs.Prelude.{◌≡◌, ◌≤◌, ◌⊎◌, [], OnOk, Contains};
 ghost use Rattle.cost_ledger.specs.declared.rests.Rest.{Rest};
 ghost use Rattle.cost_ledger.specs.Kept.{rest};
-ghost use Rattle.cell_spots.specs.Spot.{Gains, Loses};
+ghost use Rattle.cost_ledger.specs.Sets.{Gains, Loses};
 
 use grid_cells::{Agent, OutOfMemory};
 use std::alloc::Global;

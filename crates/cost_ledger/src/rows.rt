@@ -1,10 +1,13 @@
-ghost use Rattle.std.specs.Prelude.{◌≡◌, ◌+◌, ℕ, [], None, Some, OnOk, IfSome, IfNone};
+ghost use Rattle.std.specs.Prelude.{◌≡◌, ◌+◌, ℕ, [], None, Some, OnOk, IfOk, IfSome, IfNone};
 ghost use Rattle.std.specs.Option.{option_copied};
 ghost use Rattle.plan_table.specs.Plans.{row_of, ChangesRow, IsByAgent};
 ghost use Rattle.plan_table.specs.declared.plans.Row.{Row};
 ghost use Rattle.cost_ledger.specs.Kept.{ends_elsewhere, sum_of_rows, SwapsRow};
+ghost use Rattle.cost_ledger.specs.Through.{AreThrough};
 
+use crate::along::add_through;
 use grid_cells::{Agent, Cell, OutOfMemory, Step};
+use mapf_rules::Visit;
 use plan_table::Row;
 use std::alloc::Global;
 use std::collections::BTreeMap;
@@ -40,6 +43,17 @@ impl Rows {
         ensures { option_copied result ≡ row_of self.now agent }
     {
         self.rows.get(&agent)
+    }
+
+    /// The visits of the rows' paths to the cell. It goes along all of them.
+    pub fn through(&self, alloc: Global, cell: Cell) -> Result<Vec<Visit>, OutOfMemory>
+        ensures { IfOk result (λ visits. AreThrough self.now cell visits.items) }
+    {
+        let mut found = Vec::new(alloc);
+        for (agent, row) in &self.rows {
+            add_through(&mut found, *agent, &row.plan, cell)?;
+        }
+        Ok(found)
     }
 
     /// Adds an agent's row.

@@ -34,13 +34,7 @@ impl CostLedger {
             plan,
             grid,
         };
-        match add_row(
-            &mut self.rows,
-            &mut self.spots,
-            &mut self.blocked,
-            &mut self.rests,
-            &planned,
-        ) {
+        match add_row(&mut self.rows, &mut self.blocked, &mut self.rests, &planned) {
             Ok(away) => {
                 self.total += u64::from(plan.last());
                 self.elsewhere += away;
@@ -48,7 +42,7 @@ impl CostLedger {
                 Ok(self)
             }
             Err(refused) => {
-                drop((self.rows, self.spots, self.blocked, self.rests));
+                drop((self.rows, self.blocked, self.rests));
                 Err(refused)
             }
         }
@@ -78,7 +72,6 @@ impl CostLedger {
         let since = old.plan.same_front(plan);
         match follow_row(
             &mut self.rows,
-            &mut self.spots,
             &mut self.blocked,
             &mut self.rests,
             &old.plan,
@@ -94,7 +87,7 @@ impl CostLedger {
             }
             Err(refused) => {
                 drop(old);
-                drop((self.rows, self.spots, self.blocked, self.rests));
+                drop((self.rows, self.blocked, self.rests));
                 Err(refused)
             }
         }

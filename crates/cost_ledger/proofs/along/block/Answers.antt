@@ -1,6 +1,6 @@
 use Rattle.std.proofs.Common.{◌≡◌, ◌+◌, subst, arith}
 use Rattle.plan_table.specs.Path.{last_index}
-use Rattle.cost_ledger.specs.Spots.{GainsAll}
+use Rattle.cost_ledger.specs.Sets.{GainsAll}
 use Rattle.mapf_rules.specs.VisitSearch.{IsVisitIn}
 use Rattle.cost_ledger.proofs.Sets.{gains_then, gains_none}
 use Rattle.cost_ledger.proofs.PathSteps.{blocked_more, no_visit}

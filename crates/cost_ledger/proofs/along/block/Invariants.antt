@@ -1,4 +1,4 @@
-use Rattle.cost_ledger.specs.Spots.{GainsAll}
+use Rattle.cost_ledger.specs.Sets.{GainsAll}
 use Rattle.mapf_rules.specs.VisitSearch.{IsVisitIn}
 use Rattle.cost_ledger.proofs.along.block.Given as goal
 

@@ -1,6 +1,6 @@
 use Rattle.std.proofs.Common.{take, Contains}
-use Rattle.cost_ledger.specs.Spots.{GainsAll, spot_of}
+use Rattle.cost_ledger.specs.Sets.{GainsAll}
 use Rattle.cost_ledger.proofs.along.block_all.Given as goal
 
-abbrev pub invariant-loop-spot : goal.invariant-loop-spot
-invariant-loop-spot l = GainsAll l.fn.blocked l.blocked (λ visit. Contains (take l.spot-index l.spots) (spot_of visit))
+abbrev pub invariant-loop-visit : goal.invariant-loop-visit
+invariant-loop-visit l = GainsAll l.fn.blocked l.blocked (Contains (take l.visit-index l.visits))

@@ -1,6 +1,6 @@
 use Rattle.std.proofs.Common.{◌≡◌, Some, refl, subst}
 use Rattle.plan_table.specs.Path.{place}
-use Rattle.cell_spots.specs.Spot.{Gains}
+use Rattle.cost_ledger.specs.Sets.{Gains}
 use Rattle.mapf_rules.specs.declared.visits.Visit.{Visit}
 use Rattle.cost_ledger.proofs.Sets.{gains_one}
 use Rattle.cost_ledger.proofs.PathSteps.{blocked_here}

@@ -1,6 +1,6 @@
 use Rattle.std.proofs.Common.{take, Contains}
-use Rattle.cost_ledger.specs.Spots.{LosesAll, spot_of}
+use Rattle.cost_ledger.specs.Sets.{LosesAll}
 use Rattle.cost_ledger.proofs.along.unblock_all.Given as goal
 
-abbrev pub invariant-loop-spot : goal.invariant-loop-spot
-invariant-loop-spot l = LosesAll l.fn.blocked l.blocked (λ visit. Contains (take l.spot-index l.spots) (spot_of visit))
+abbrev pub invariant-loop-visit : goal.invariant-loop-visit
+invariant-loop-visit l = LosesAll l.fn.blocked l.blocked (Contains (take l.visit-index l.visits))

@@ -1,4 +1,4 @@
-use Rattle.cell_spots.proofs.Sets.{set_gains}
+use Rattle.mapf_rules.proofs.Sets.{set_gains}
 use Rattle.cost_ledger.proofs.KeyOrders.{visit_total, visit_exact}
 use Rattle.cost_ledger.proofs.blocked.Blocked.add.Goals as goal
 

@@ -2,9 +2,8 @@ use Rattle.std.proofs.Common.{◌≡◌, ◌-◌, Some, refl, sym, arith}
 use Rattle.plan_table.specs.Plans.{row_of}
 use Rattle.plan_table.specs.declared.plans.Row.{Row}
 use Rattle.cost_ledger.specs.Kept.{Keeps, ends_elsewhere, last_of_row}
-use Rattle.cell_spots.specs.declared.spot_sets.Spot.{Spot}
 use Rattle.cost_ledger.proofs.Keeping.{keeps_put, keeps_take, total_small, elsewhere_small, one_at_most}
-use Rattle.cost_ledger.proofs.Replanning.{same_below, others, spots_lost, spots_gained, visits_replanned}
+use Rattle.cost_ledger.proofs.Replanning.{same_below, visits_replanned}
 use Rattle.cost_ledger.proofs.ledger.CostLedger.set_plan.Goals as goal
 
 pub follow_row-requires-clause-same : goal.follow_row-requires-clause-same
@@ -12,12 +11,12 @@ follow_row-requires-clause-same c = same_below _ _ _ c.same_front-since.ensures
 
 pub overflow_add-self : goal.overflow_add-self
 overflow_add-self c =
-    let small = total_small c.self.inside.rows c.self.inside.spots c.self.inside.rests c.self.inside.total c.self.inside.elsewhere c.self.invariant in
+    let small = total_small c.self.inside.rows c.self.inside.rests c.self.inside.total c.self.inside.elsewhere c.self.invariant in
     omega (arith, c.last-in-Ok.ensures.bound, c.from-in-Ok.ensures)
 
 pub overflow_add-self-in-Ok : goal.overflow_add-self-in-Ok
 overflow_add-self-in-Ok c =
-    let small = elsewhere_small c.self.inside.rows c.self.inside.spots c.self.inside.rests c.self.inside.total c.self.inside.elsewhere c.self.invariant in
+    let small = elsewhere_small c.self.inside.rows c.self.inside.rests c.self.inside.total c.self.inside.elsewhere c.self.invariant in
     omega (arith, c.in-Ok.ensures.away, one_at_most (record { goal = c.in-Some.old.goal; plan = c.args.plan.now }))
 
 pub invariant_of-self-in-Ok : goal.invariant_of-self-in-Ok
@@ -25,21 +24,18 @@ invariant_of-self-in-Ok c =
     let row : Row = record { goal = c.in-Some.old.goal; plan = c.args.plan.now } in
     let live : row_of c.self.inside.rows c.args.agent ≡ Some c.in-Some.old = sym c.in-Some.ensures.value in
     let sums = c.in-Some.ensures.sums in
-    let below = same_below _ _ _ c.same_front-since.ensures in
-    let before : Keeps c.remove.new.self (others (λ (s : Spot). s.agent) c.args.agent c.self.inside.spots) c.in-Ok.ensures.rests.between (c.self.inside.total - c.from.result) (c.self.inside.elsewhere - c.elsewhere.result) =
-    keeps_take _ _ _ _ _ _ _ _ _ _ c.args.agent c.in-Some.old _ c.self.invariant live c.remove.ensures.gone c.remove.ensures.by_agent sums
-    (spots_lost c.self.inside.rows c.args.agent c.in-Some.old live c.args.plan.now c.same_front-since.result below c.self.inside.spots c.follow_row.new.spots c.self.invariant.spots_are)
+    let before : Keeps c.remove.new.self c.in-Ok.ensures.rests.between (c.self.inside.total - c.from.result) (c.self.inside.elsewhere - c.elsewhere.result) =
+    keeps_take _ _ _ _ _ _ _ _ c.args.agent c.in-Some.old _ c.self.invariant live c.remove.ensures.gone c.remove.ensures.by_agent sums
     refl c.in-Ok.ensures.rests.loses
     (omega (arith, c.from.ensures, c.last.ensures.is, c.self.invariant.total_is, sums last_of_row))
     (omega (arith, c.elsewhere.ensures, c.self.invariant.elsewhere_is, sums ends_elsewhere)) in
-    keeps_put _ _ _ _ _ _ _ _ _ _ c.args.agent row _ before c.remove.ensures.gone.this_agent (c.self.invariant.lawful c.args.agent c.in-Some.old live).0
+    keeps_put _ _ _ _ _ _ _ _ c.args.agent row _ before c.remove.ensures.gone.this_agent (c.self.invariant.lawful c.args.agent c.in-Some.old live).0
     c.last-in-Ok.ensures.path c.in-Ok.ensures.row c.in-Ok.ensures.by_agent c.in-Ok.ensures.sums
-    (spots_gained c.self.inside.rows c.args.agent c.in-Some.old live c.args.plan.now c.same_front-since.result below c.self.inside.spots c.follow_row.new.spots c.self.invariant.spots_are c.in-Ok.ensures.spots)
     refl c.in-Ok.ensures.rests.gains (omega (arith, c.from-in-Ok.ensures, c.last-in-Ok.ensures.is)) (omega (arith, c.in-Ok.ensures.away))
 
 pub returns-in-Ok-clause-stands : goal.returns-in-Ok-clause-stands
 returns-in-Ok-clause-stands c = λ stands.
     let row : Row = record { goal = c.in-Some.old.goal; plan = c.args.plan.now } in
     let live : row_of c.self.inside.rows c.args.agent ≡ Some c.in-Some.old = sym c.in-Some.ensures.value in
-    visits_replanned c.self.inside.rows c.args.agent c.in-Some.old live c.args.plan.now c.same_front-since.result (same_below _ _ _ c.same_front-since.ensures) c.args.grid.now c.self.inside.blocked c.follow_row.new.blocked (rw (← c.self.view_is) at stands)
-    c.remove.new.self c.follow_row.new.rows c.remove.ensures.gone row c.in-Ok.ensures.row refl c.count-count.ensures.ordered c.in-Ok.ensures.blocked
+    visits_replanned c.args.grid.now c.self.inside.rows c.remove.new.self c.follow_row.new.rows c.args.agent c.in-Some.old row live c.remove.ensures.gone c.in-Ok.ensures.row c.same_front-since.result (same_below _ _ _ c.same_front-since.ensures)
+    c.self.inside.blocked c.follow_row.new.blocked (rw (← c.self.view_is) at stands) c.in-Ok.ensures.blocked c.count-count.ensures.ordered

@@ -10,7 +10,7 @@ returns-then-self-eq0-clause-is c =
     let rows = c.self.inside.rows in
     rw (← c.self.view_is) (
       costs_of rows,
-      are_costs rows (all_paths rows _ _ _ _ k),
+      are_costs rows (all_paths rows _ _ _ k),
       subst (λ n. IsSumOf (costs_of rows) (Some n)) (sym k.total_is) (sum_given rows (sym k.elsewhere_is ∙ c.if-self-eq0.true)),
     )
 
@@ -18,4 +18,4 @@ pub returns-else-self-eq0-clause-is : goal.returns-else-self-eq0-clause-is
 returns-else-self-eq0-clause-is c =
     let k = c.self.invariant in
     let rows = c.self.inside.rows in
-    rw (← c.self.view_is) (costs_of rows, are_costs rows (all_paths rows _ _ _ _ k), λ all. c.if-self-eq0.false (k.elsewhere_is ∙ given_all rows all))
+    rw (← c.self.view_is) (costs_of rows, are_costs rows (all_paths rows _ _ _ k), λ all. c.if-self-eq0.false (k.elsewhere_is ∙ given_all rows all))

@@ -6,9 +6,9 @@ use Rattle.cost_ledger.proofs.ledger.CostLedger.take.Goals as goal
 pub invariant_of-self-2 : goal.invariant_of-self-2
 invariant_of-self-2 c =
     let sums = c.in-Some.ensures.sums in
-    keeps_take _ _ _ _ _ _ _ _ _ _ c.args.agent c.in-Some.row c.last-last.result c.self.invariant
+    keeps_take _ _ _ _ _ _ _ _ c.args.agent c.in-Some.row c.last-last.result c.self.invariant
     (sym c.in-Some.ensures.value) c.remove.ensures.gone c.remove.ensures.by_agent sums
-    c.lose_spots.ensures c.last-last.ensures.is c.lose.ensures
+    c.last-last.ensures.is c.lose.ensures
     (omega (arith, c.from.ensures, c.last-last.ensures.is, c.self.invariant.total_is, sums last_of_row))
     (omega (arith, c.elsewhere.ensures, c.self.invariant.elsewhere_is, sums ends_elsewhere))
 

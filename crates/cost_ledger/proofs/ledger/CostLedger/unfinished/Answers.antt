@@ -7,4 +7,4 @@ pub returns-clause-is : goal.returns-clause-is
 returns-clause-is c =
     let k = c.self.invariant in
     let rows = c.self.inside.rows in
-    rw (← c.self.view_is) (costs_of rows, are_costs rows (all_paths rows _ _ _ _ k), k.elsewhere_is ∙ missing_costs rows)
+    rw (← c.self.view_is) (costs_of rows, are_costs rows (all_paths rows _ _ _ k), k.elsewhere_is ∙ missing_costs rows)

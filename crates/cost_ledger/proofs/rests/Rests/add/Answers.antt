@@ -1,4 +1,4 @@
-use Rattle.cell_spots.proofs.Sets.{set_gains}
+use Rattle.mapf_rules.proofs.Sets.{set_gains}
 use Rattle.cost_ledger.proofs.KeyOrders.{rest_total, rest_exact}
 use Rattle.cost_ledger.proofs.rests.Rests.add.Goals as goal
 
