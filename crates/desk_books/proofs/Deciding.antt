@@ -1,5 +1,5 @@
 -- What holds or doesn't, and what is given where it holds.
-use Rattle.std.proofs.Common.{◌≡◌, ℕ, Bool, true, false, List, [], ◌∷◌, Option, None, Some, refl, sym, ap, ◌∙◌, ◌⊎◌, inl, inr, arith}
+use Rattle.std.proofs.Common.{◌≡◌, ℕ, Bool, true, false, List, [], ◌∷◌, Option, None, Some, refl, ap, ◌∙◌, ◌⊎◌, inl, inr}
 use mathlib.Core.Bool.{false≢true}
 use Rattle.std.specs.Prelude.{◌↔◌, IsTrue, IsSome, All, map, sum, fold, max, unwrap_or, Contains, not}
 use Rattle.std.specs.Option.{SomeIff}

@@ -18,6 +18,7 @@ pub mod Turning
 pub mod Standing
 pub mod RowAims
 pub mod Fleets
+pub mod Passings
 pub mod Parts
 pub mod Blocking
 pub mod Deciding

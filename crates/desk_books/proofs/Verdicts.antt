@@ -1,5 +1,5 @@
 -- There is a report of a map, a mode and a table, and whether it solves.
-use Rattle.std.proofs.Common.{◌≡◌, ℕ, ◌+◌, ◌-◌, ◌<◌, min, Bool, true, false, List, [], ◌∷◌, length, get_or, Option, None, Some, refl, sym, ap, subst, ◌∙◌, cond, arith}
+use Rattle.std.proofs.Common.{◌≡◌, ℕ, ◌+◌, ◌-◌, ◌<◌, min, Bool, List, [], ◌∷◌, length, get_or, Option, None, Some, refl, sym, ap, subst, ◌∙◌, cond, arith}
 use Rattle.std.specs.Prelude.{◌↔◌, IsTrue, All, map, unwrap_or, count_by, slice_get}
 use Rattle.std.specs.Option.{is_none}
 use Rattle.std.proofs.lemmas.List.{nil_from_length}
@@ -29,7 +29,7 @@ use Rattle.goal_fields.specs.Target.{Standing}
 use Rattle.goal_fields.specs.Held.{HasGoal, StandFor, HaveDistances}
 use Rattle.desk_report.specs.Laws.{IsPathOn}
 use Rattle.desk_report.specs.Report.{IsBound, IsLine, AreLines}
-use Rattle.desk_report.specs.Solves.{is_named, Solves, IsVerdict}
+use Rattle.desk_report.specs.Solves.{is_named, IsVerdict}
 use Rattle.desk_report.specs.declared.kinds.Kinds.{Kinds}
 use Rattle.desk_report.specs.declared.reports.AgentLine.{AgentLine}
 use Rattle.desk_report.specs.declared.reports.Report.{Report}

@@ -1,6 +1,5 @@
 -- Entries of the kinds that are asked about (this project's choice of words).
-use Rattle.std.specs.Prelude.{◌≡◌, List, IsTrue, Contains}
-use Rattle.mapf_rules.specs.ConflictList.{kind_of}
+use Rattle.std.specs.Prelude.{List, IsTrue}
 use Rattle.conflict_ledger.specs.Kept.{HasKind}
 use Rattle.mapf_rules.specs.declared.entries.Conflict.{Conflict}
 use Rattle.mapf_rules.specs.declared.entries.Kind.{Kind}

@@ -1,14 +1,18 @@
-ghost use Rattle.std.specs.Prelude.{◌≡◌, ◌+◌, min, Some, None, IfOk, IfNone};
-ghost use Rattle.plan_table.specs.Route.{Fleet, route_of};
+ghost use Rattle.std.specs.Prelude.{◌≡◌, ◌+◌, ℕ, List, min, Some, None, IfOk, IfNone};
+ghost use Rattle.plan_table.specs.Route.{Fleet, route_of, tracks_of};
+ghost use Rattle.plan_table.specs.declared.plans.Row.{Row};
+ghost use Rattle.plan_table.specs.declared.tracks.Mode.{Mode};
 ghost use Rattle.where_index.specs.Records.{nothing, records_apart};
 ghost use Rattle.where_index.specs.Index.{with_route};
 ghost use Rattle.mapf_rules.specs.ConflictList.{AreConflicts};
+ghost use Rattle.cost_ledger.specs.Through.{AreThrough};
 ghost use Rattle.scene_edits.specs.Since.{IsSince};
 ghost use Rattle.desk_books.specs.Fleet.{AreOf};
 
+use crate::visitors::visits_to;
 use conflict_ledger::ConflictLedger;
-use grid_cells::{Agent, List, OutOfMemory};
-use mapf_rules::Conflict;
+use grid_cells::{Agent, Cell, List, OutOfMemory, Step};
+use mapf_rules::{Conflict, Visit};
 use plan_table::Track;
 use scene_edits::first_difference;
 use std::alloc::Global;
@@ -130,6 +134,19 @@ impl FleetBooks {
         ensures { result.now ≡ self.now.conflicts }
     {
         &self.conflicts
+    }
+
+    /// When which agents come through the cell, up to the last indices of their paths. The cost follows
+    /// their number.
+    ///
+    /// # Errors
+    ///
+    /// Want of memory.
+    pub fn visits(&self, alloc: Global, cell: Cell) -> Result<Vec<Visit>, OutOfMemory>
+        ensures { IfOk result (λ visits. (mode : Mode) (rows : List (ℕ × Row)) → AreOf (tracks_of mode rows) self.now → AreThrough rows cell visits.items) }
+    {
+        let passings = self.index.coming_through(cell, Step::new(0))?;
+        visits_to(alloc, cell, passings.items())
     }
 
     /// How many records of tracks were put in or taken out since the books were made, held at the

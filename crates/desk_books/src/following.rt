@@ -23,7 +23,7 @@ impl Books {
             fleet,
             prices,
         } = self;
-        let Ok(prices) = prices.flip(cells, scene.grid()) else {
+        let Ok(prices) = prices.flip(alloc, cells, &fleet, scene.grid()) else {
             drop(fleet);
             return Err(OutOfMemory);
         };

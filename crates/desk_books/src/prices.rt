@@ -5,8 +5,11 @@ ghost use Rattle.plan_table.specs.Plans.{row_of};
 ghost use Rattle.plan_table.specs.declared.plans.Row.{Row};
 ghost use Rattle.goal_fields.specs.Target.{Covers};
 ghost use Rattle.goal_fields.specs.Held.{StandFor};
+ghost use Rattle.plan_table.specs.declared.tracks.Mode.{Mode};
 ghost use Rattle.desk_books.specs.Prices.{Rows, with_row, AimsAt, AreOf};
+ghost use Rattle.desk_books.specs.Books.{Keep};
 
+use crate::fleet::FleetBooks;
 use crate::goals::Goals;
 use crate::price_flips::flip_all;
 use cost_ledger::CostLedger;
@@ -152,19 +155,27 @@ impl PriceBooks {
     }
 
     /// Goes over to another grid of the same size, whose state differs at most at the cells from
-    /// that of the one that the books are for.
+    /// that of the one that the books are for. The fleet is that of the rows.
     ///
     /// # Errors
     ///
     /// Want of memory. The books are gone then.
-    pub fn flip(self, cells: &[Cell], grid: &Grid) -> Result<PriceBooks, OutOfMemory>
+    pub fn flip(
+        self,
+        alloc: Global,
+        cells: &[Cell],
+        fleet: &FleetBooks,
+        grid: &Grid,
+    ) -> Result<PriceBooks, OutOfMemory>
         requires same_size { All (λ field. grid.now.size ≡ field.grid.size) self.fields }
         requires covered { All (λ field. Covers cells.now field.grid grid.now) self.fields }
-        ensures kept { IfOk result (λ books. (old : Chart) (fleet : Rows) → AreOf old fleet self → old.size ≡ grid.now.size → Covers cells.now old grid.now → AreOf grid.now fleet books) }
+        ensures kept { IfOk result (λ books. (mode : Mode) (old : Chart) (rows : Rows)
+            → Keep mode old rows (record { fleet = fleet.now; prices = self })
+            → old.size ≡ grid.now.size → Covers cells.now old grid.now → AreOf grid.now rows books) }
         ensures stand { IfOk result (λ books. StandFor grid.now books.fields) }
     {
         let PriceBooks { costs, mut goals } = self;
-        let Ok(costs) = flip_all(costs, cells, grid) else {
+        let Ok(costs) = flip_all(alloc, costs, cells, fleet, grid) else {
             drop(goals);
             return Err(OutOfMemory);
         };
