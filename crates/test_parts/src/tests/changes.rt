@@ -8,7 +8,7 @@ use super::rows::{new_row, other_row};
 use super::walks::any_cell;
 use conflict_ledger::ConflictLedger;
 use cost_ledger::CostLedger;
-use grid_cells::{Agent, Grid};
+use grid_cells::{Agent, Cell, Grid};
 use plan_table::{Mode, Row, Track};
 use scene_edits::first_difference;
 use std::alloc::Global;
@@ -140,9 +140,33 @@ pub fn change(
     kept
 }
 
+// The cell gets the state that it has on the fleet's map: the ledger looks for the visits to it, or is
+// told them in every other cell.
+fn priced_anew(
+    rt: &impl Abort,
+    alloc: Global,
+    costs: CostLedger,
+    cell: Cell,
+    fleet: &Fleet,
+) -> CostLedger {
+    if cell.x() % 2 == cell.y() % 2 {
+        return costs.flip(cell, &fleet.grid).expect(rt, "memory");
+    }
+    let visits = fleet.visits(rt, alloc, cell);
+    costs
+        .flip_at(cell, &fleet.grid, &visits)
+        .expect(rt, "memory")
+}
+
 /// A cell by chance opens or closes, in every third draw. Answers how many agents come through it,
 /// where that changes it.
-pub fn flip(rt: &impl Abort, kept: Kept, fleet: &mut Fleet, chain: &mut Chain) -> (Kept, usize) {
+pub fn flip(
+    rt: &impl Abort,
+    alloc: Global,
+    kept: Kept,
+    fleet: &mut Fleet,
+    chain: &mut Chain,
+) -> (Kept, usize) {
     let cell = any_cell(rt, chain, fleet.grid.size());
     if chain.roll(3) > 0 || !fleet.grid.size().holds(cell) {
         return (kept, 0);
@@ -154,7 +178,7 @@ pub fn flip(rt: &impl Abort, kept: Kept, fleet: &mut Fleet, chain: &mut Chain) -
         ledger,
         costs,
     } = kept;
-    let costs = costs.flip(cell, &fleet.grid).expect(rt, "memory");
+    let costs = priced_anew(rt, alloc, costs, cell, fleet);
     let kept = Kept {
         index,
         ledger,

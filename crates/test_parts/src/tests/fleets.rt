@@ -1,5 +1,6 @@
 //! A fleet on a map.
-use grid_cells::{Agent, Cell, Grid};
+use grid_cells::{Agent, Cell, Grid, Step};
+use mapf_rules::Visit;
 use plan_table::{Mode, Plans, Row};
 use std::alloc::Global;
 use std::process::Abort;
@@ -55,6 +56,22 @@ impl Fleet {
             }
         }
         count
+    }
+
+    /// When which agents come through the cell.
+    pub fn visits(&self, rt: &impl Abort, alloc: Global, cell: Cell) -> Vec<Visit> {
+        let mut visits = Vec::new(alloc);
+        for rank in 0..self.plans.count() {
+            let (agent, row) = self.plans.entry_at(rank);
+            for number in 0..row.plan.last() + 1 {
+                let time = Step::new(number);
+                if row.plan.at(time) == cell {
+                    let visit = Visit { agent, time, cell };
+                    visits.push(visit).expect(rt, "memory");
+                }
+            }
+        }
+        visits
     }
 
     /// Gives the agent the row.

@@ -68,7 +68,7 @@ fn change_at_random(
     let mut kept = Kept::new(alloc);
     for turn in 0..changes {
         let agent = next_agent(rt, &fleet, turn, chain);
-        let (flipped, visitors) = flip(rt, kept, &mut fleet, chain);
+        let (flipped, visitors) = flip(rt, alloc, kept, &mut fleet, chain);
         kept = change(rt, alloc, flipped, &mut fleet, agent, chain);
         compare_index(rt, alloc, &kept.index, &fleet, chain);
         compare_costs(rt, alloc, &kept, &fleet);

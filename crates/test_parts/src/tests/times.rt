@@ -4,6 +4,7 @@ use super::changes::since;
 use conflict_ledger::ConflictLedger;
 use cost_ledger::CostLedger;
 use grid_cells::{Agent, Cell, Grid, Step};
+use mapf_rules::Visit;
 use plan_table::{Plan, Track};
 use std::alloc::Global;
 use std::fs;
@@ -150,16 +151,45 @@ fn put_often(rt: &impl Abort, mut ledger: CostLedger, plan: &Plan, grid: &Grid) 
     ledger
 }
 
-// Closes and opens a cell in turn.
-fn flip_often(rt: &impl Abort, mut ledger: CostLedger, grid: &mut Grid) -> CostLedger {
+// The visits to the cell (10,0), which two of the lanes have.
+fn visits(rt: &impl Abort, alloc: Global, cell: Cell) -> Vec<Visit> {
+    let mut visits = Vec::new(alloc);
+    for (number, time) in [(0, 10), (64, 3)] {
+        let visit = Visit {
+            agent: agent(rt, number),
+            time: Step::new(time),
+            cell,
+        };
+        visits.push(visit).expect(rt, "memory");
+    }
+    visits
+}
+
+// Closes and opens a cell in turn, where the visits to it are known.
+fn flip_often(
+    rt: &impl Abort,
+    alloc: Global,
+    mut ledger: CostLedger,
+    grid: &mut Grid,
+) -> CostLedger {
     let cell = Cell::new(10, 0).expect(rt, "a cell");
+    let visits = visits(rt, alloc, cell);
     for turn in 0..10_000u32 {
         if grid.size().holds(cell) {
             grid.set(cell, turn % 2 == 1);
         }
-        ledger = ledger.flip(cell, grid).expect(rt, "memory");
+        ledger = ledger.flip_at(cell, grid, &visits).expect(rt, "memory");
     }
     ledger
+}
+
+// Closes a cell, for which the ledger goes along all plans.
+fn flip_once(rt: &impl Abort, ledger: CostLedger, grid: &mut Grid) -> CostLedger {
+    let cell = Cell::new(10, 0).expect(rt, "a cell");
+    if grid.size().holds(cell) {
+        grid.set(cell, false);
+    }
+    ledger.flip(cell, grid).expect(rt, "memory")
 }
 
 #[test]
@@ -173,9 +203,13 @@ fn puts_and_flips_in_little_time(rt: HostRuntime) {
     let ledger = put_often(&rt, ledger, &plan, &grid);
     tell(&rt, "10,000 takes and puts of costs", began);
     let began = now(&rt);
-    let ledger = flip_often(&rt, ledger, &mut grid);
-    tell(&rt, "10,000 flips", began);
+    let ledger = flip_often(&rt, rt.alloc(), ledger, &mut grid);
+    tell(&rt, "10,000 flips where the visits are known", began);
     assert!(rt; ledger.sum() == Some(262_144) && ledger.unfinished() == 0);
+    let began = now(&rt);
+    let ledger = flip_once(&rt, ledger, &mut grid);
+    tell(&rt, "a flip along all plans", began);
+    assert!(rt; ledger.visits() == 2);
     drop(ledger);
     drop(grid);
     drop(plan);
