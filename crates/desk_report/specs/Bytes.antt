@@ -1,5 +1,5 @@
 -- What one call at a source gave, and what one call at a sink took (this project's choice).
-use Rattle.std.specs.Prelude.{◌≡◌, ℕ, List, [], ◌∷◌, ◌++◌, take, Option, Some, None, Result, Ok, Err}
+use Rattle.std.specs.Prelude.{◌≡◌, ℕ, List, [], ◌∷◌, ◌++◌, take, Option, Some, None, Result, Ok, Err, OnOk, OnErr, Bool, is_err, ◌||◌}
 use Rattle.std.specs.Io.KnownBytes.{Appends}
 use Rattle.desk_report.specs.declared.bytes.source.ReadFailed.{ReadFailed}
 
@@ -24,3 +24,9 @@ pub record AppendsFront (old new : Option (List ℕ)) (text : List ℕ) : Type 0
   pub unsent : List ℕ
   pub split : text ≡ sent ++ unsent
   pub appends : Appends old new sent
+
+-- the text went out, or where the call failed a prefix of it, and the sink is broken from then on
+pub record Puts {S T E : Type 0} (held : S → Option (List ℕ)) (is_broken : S → Bool) (old new : S) (result : Result T E) (text : List ℕ) : Type 0 where
+  pub ok : OnOk result (Appends (held old) (held new) text)
+  pub err : OnErr result (AppendsFront (held old) (held new) text)
+  pub broken : is_broken new ≡ (is_broken old || is_err result)

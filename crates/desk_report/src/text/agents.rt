@@ -1,8 +1,8 @@
-ghost use Rattle.std.specs.Prelude.{◌≡◌, ◌++◌, length, codes, OnOk, OnErr, is_err, ◌||◌};
+ghost use Rattle.std.specs.Prelude.{◌≡◌, OnOk, OnErr, is_err, ◌||◌};
 ghost use Rattle.std.specs.List.{flat_map};
 ghost use Rattle.std.specs.Io.KnownBytes.{Appends};
-ghost use Rattle.desk_report.specs.Bytes.{AppendsFront};
-ghost use Rattle.desk_report.specs.ReportText.{agent_line, count_line};
+ghost use Rattle.desk_report.specs.Bytes.{AppendsFront, Puts};
+ghost use Rattle.desk_report.specs.ReportText.{agent_line, agents_text};
 
 use crate::bytes::{Sink, WriteFailed};
 use crate::reports::AgentLine;
@@ -12,9 +12,7 @@ use grid_cells::List;
 
 // The line of an agent.
 fn put_agent<W: Sink>(sink: &mut W, line: &AgentLine) -> Result<(), WriteFailed>
-    ensures ok { OnOk result (Appends (W.held sink.old) (W.held sink.new) (agent_line line.now)) }
-    ensures err { OnErr result (AppendsFront (W.held sink.old) (W.held sink.new) (agent_line line.now)) }
-    ensures broken { W.broken sink.new ≡ (W.broken sink.old || is_err result) }
+    ensures { Puts W.held W.broken sink.old sink.new result (agent_line line.now) }
 {
     let words = [
         Word::agent(line.agent),
@@ -46,8 +44,8 @@ fn put_each<W: Sink>(sink: &mut W, lines: &[AgentLine]) -> Result<(), WriteFaile
 // How many agents there are, and their lines.
 #[tactic(auto, using(crate::proofs::Fronts::fronts))]
 pub fn put_agents<W: Sink>(sink: &mut W, lines: &List<AgentLine>) -> Result<(), WriteFailed>
-    ensures ok { OnOk result (Appends (W.held sink.old) (W.held sink.new) (count_line (codes "agents") (length lines.now) ++ flat_map agent_line lines.now)) }
-    ensures err { OnErr result (AppendsFront (W.held sink.old) (W.held sink.new) (count_line (codes "agents") (length lines.now) ++ flat_map agent_line lines.now)) }
+    ensures ok { OnOk result (Appends (W.held sink.old) (W.held sink.new) (agents_text lines.now)) }
+    ensures err { OnErr result (AppendsFront (W.held sink.old) (W.held sink.new) (agents_text lines.now)) }
     ensures broken { W.broken sink.new ≡ (W.broken sink.old || is_err result) }
 {
     let items = lines.items();

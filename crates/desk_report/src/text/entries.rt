@@ -1,10 +1,9 @@
-ghost use Rattle.std.specs.Prelude.{◌≡◌, ◌++◌, ◌∷◌, [], length, codes, decimal, OnOk, OnErr, is_err, ◌||◌};
+ghost use Rattle.std.specs.Prelude.{◌≡◌, OnOk, OnErr, is_err, ◌||◌};
 ghost use Rattle.std.specs.List.{flat_map};
 ghost use Rattle.std.specs.Io.KnownBytes.{Appends};
-ghost use Rattle.desk_report.specs.Bytes.{AppendsFront};
-ghost use Rattle.desk_report.specs.LineText.{line_text, cell_text};
-ghost use Rattle.desk_report.specs.EntryText.{entry_line};
-ghost use Rattle.desk_report.specs.ReportText.{count_line};
+ghost use Rattle.desk_report.specs.Bytes.{AppendsFront, Puts};
+ghost use Rattle.desk_report.specs.EntryText.{entry_line, pair_line, moves_line};
+ghost use Rattle.desk_report.specs.ReportText.{conflicts_text};
 
 use crate::bytes::{Sink, WriteFailed};
 use crate::text::cycles::put_cycle;
@@ -21,9 +20,7 @@ fn put_pair<W: Sink>(
     agents: (Agent, Agent),
     cell: Cell,
 ) -> Result<(), WriteFailed>
-    ensures ok { OnOk result (Appends (W.held sink.old) (W.held sink.new) (line_text (kind.now ∷ decimal time ∷ decimal agents.0 ∷ decimal agents.1 ∷ cell_text cell ∷ []))) }
-    ensures err { OnErr result (AppendsFront (W.held sink.old) (W.held sink.new) (line_text (kind.now ∷ decimal time ∷ decimal agents.0 ∷ decimal agents.1 ∷ cell_text cell ∷ []))) }
-    ensures broken { W.broken sink.new ≡ (W.broken sink.old || is_err result) }
+    ensures { Puts W.held W.broken sink.old sink.new result (pair_line kind.now time agents.0 agents.1 cell) }
 {
     let words = [
         Word::time(time),
@@ -42,9 +39,7 @@ fn put_moves<W: Sink>(
     agents: (Agent, Agent),
     cells: (Cell, Cell),
 ) -> Result<(), WriteFailed>
-    ensures ok { OnOk result (Appends (W.held sink.old) (W.held sink.new) (line_text (kind.now ∷ decimal time ∷ decimal agents.0 ∷ decimal agents.1 ∷ cell_text cells.0 ∷ cell_text cells.1 ∷ []))) }
-    ensures err { OnErr result (AppendsFront (W.held sink.old) (W.held sink.new) (line_text (kind.now ∷ decimal time ∷ decimal agents.0 ∷ decimal agents.1 ∷ cell_text cells.0 ∷ cell_text cells.1 ∷ []))) }
-    ensures broken { W.broken sink.new ≡ (W.broken sink.old || is_err result) }
+    ensures { Puts W.held W.broken sink.old sink.new result (moves_line kind.now time agents.0 agents.1 cells.0 cells.1) }
 {
     let words = [
         Word::time(time),
@@ -56,11 +51,9 @@ fn put_moves<W: Sink>(
     put_line(sink, kind, &words)
 }
 
-// The line of an entry.
-fn put_entry<W: Sink>(sink: &mut W, entry: &Conflict) -> Result<(), WriteFailed>
-    ensures ok { OnOk result (Appends (W.held sink.old) (W.held sink.new) (entry_line entry.now)) }
-    ensures err { OnErr result (AppendsFront (W.held sink.old) (W.held sink.new) (entry_line entry.now)) }
-    ensures broken { W.broken sink.new ≡ (W.broken sink.old || is_err result) }
+/// Puts the entry's line: its kind, its time in steps, its agents, and its cells as column and row.
+pub fn put_entry<W: Sink>(sink: &mut W, entry: &Conflict) -> Result<(), WriteFailed>
+    ensures { Puts W.held W.broken sink.old sink.new result (entry_line entry.now) }
 {
     match entry {
         Conflict::Vertex {
@@ -115,8 +108,8 @@ fn put_each<W: Sink>(sink: &mut W, entries: &[Conflict]) -> Result<(), WriteFail
 // How many conflicts there are, and their lines.
 #[tactic(auto, using(crate::proofs::Fronts::fronts))]
 pub fn put_conflicts<W: Sink>(sink: &mut W, entries: &List<Conflict>) -> Result<(), WriteFailed>
-    ensures ok { OnOk result (Appends (W.held sink.old) (W.held sink.new) (count_line (codes "conflicts") (length entries.now) ++ flat_map entry_line entries.now)) }
-    ensures err { OnErr result (AppendsFront (W.held sink.old) (W.held sink.new) (count_line (codes "conflicts") (length entries.now) ++ flat_map entry_line entries.now)) }
+    ensures ok { OnOk result (Appends (W.held sink.old) (W.held sink.new) (conflicts_text entries.now)) }
+    ensures err { OnErr result (AppendsFront (W.held sink.old) (W.held sink.new) (conflicts_text entries.now)) }
     ensures broken { W.broken sink.new ≡ (W.broken sink.old || is_err result) }
 {
     let items = entries.items();

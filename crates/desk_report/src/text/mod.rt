@@ -14,7 +14,9 @@ use crate::bytes::{Sink, WriteFailed};
 use crate::reports::Report;
 use agents::put_agents;
 use entries::put_conflicts;
+pub use entries::put_entry;
 use totals::put_totals;
+pub use visits::put_visit;
 use visits::put_visits;
 
 /// Writes the text of the report: a line for each agent, conflict and blocked visit, times in

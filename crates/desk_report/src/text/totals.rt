@@ -1,6 +1,6 @@
 ghost use Rattle.std.specs.Prelude.{◌≡◌, codes, OnOk, OnErr, is_err, ◌||◌};
 ghost use Rattle.std.specs.Io.KnownBytes.{Appends};
-ghost use Rattle.desk_report.specs.Bytes.{AppendsFront};
+ghost use Rattle.desk_report.specs.Bytes.{AppendsFront, Puts};
 ghost use Rattle.desk_report.specs.ReportText.{count_line, total_line, totals_text};
 
 use crate::bytes::{Sink, WriteFailed};
@@ -9,27 +9,21 @@ use crate::words::{Word, put_line};
 
 // How many there are.
 pub fn put_count<W: Sink>(sink: &mut W, name: &[u8], count: usize) -> Result<(), WriteFailed>
-    ensures ok { OnOk result (Appends (W.held sink.old) (W.held sink.new) (count_line name.now count)) }
-    ensures err { OnErr result (AppendsFront (W.held sink.old) (W.held sink.new) (count_line name.now count)) }
-    ensures broken { W.broken sink.new ≡ (W.broken sink.old || is_err result) }
+    ensures { Puts W.held W.broken sink.old sink.new result (count_line name.now count) }
 {
     put_line(sink, name, &[Word::Number(count as u64)])
 }
 
 // A total.
 fn put_total<W: Sink>(sink: &mut W, name: &[u8], total: Option<u64>) -> Result<(), WriteFailed>
-    ensures ok { OnOk result (Appends (W.held sink.old) (W.held sink.new) (total_line name.now total)) }
-    ensures err { OnErr result (AppendsFront (W.held sink.old) (W.held sink.new) (total_line name.now total)) }
-    ensures broken { W.broken sink.new ≡ (W.broken sink.old || is_err result) }
+    ensures { Puts W.held W.broken sink.old sink.new result (total_line name.now total) }
 {
     put_line(sink, name, &[Word::Given(total)])
 }
 
 // The makespan.
 fn put_makespan<W: Sink>(sink: &mut W, makespan: Option<u32>) -> Result<(), WriteFailed>
-    ensures ok { OnOk result (Appends (W.held sink.old) (W.held sink.new) (total_line (codes "makespan") makespan)) }
-    ensures err { OnErr result (AppendsFront (W.held sink.old) (W.held sink.new) (total_line (codes "makespan") makespan)) }
-    ensures broken { W.broken sink.new ≡ (W.broken sink.old || is_err result) }
+    ensures { Puts W.held W.broken sink.old sink.new result (total_line (codes "makespan") makespan) }
 {
     put_line(sink, b"makespan", &[Word::given(makespan)])
 }

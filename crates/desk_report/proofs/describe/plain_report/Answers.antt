@@ -1,11 +1,9 @@
-use Rattle.std.proofs.Common.{◌≡◌, List, Option, ℕ, sym, subst}
+use Rattle.std.proofs.Common.{◌≡◌, List, sym, subst}
 use Rattle.std.specs.Prelude.{map}
 use Rattle.plan_table.specs.Route.{tracks_of}
 use Rattle.mapf_rules.specs.Costs.{IsSumOf}
 use Rattle.mapf_rules.specs.Visits.{AreVisits}
-use Rattle.mapf_rules.specs.declared.visits.Visit.{Visit}
 use Rattle.mapf_rules.specs.ConflictList.{AreConflicts}
-use Rattle.mapf_rules.specs.declared.entries.Conflict.{Conflict}
 use Rattle.desk_report.specs.Report.{AreLines}
 use Rattle.desk_report.specs.declared.reports.AgentLine.{AgentLine}
 use Rattle.desk_report.proofs.describe.plain_report.Goals as goal
