@@ -4,12 +4,13 @@ use Rattle.std.specs.List.{flat_map}
 use Rattle.plan_table.specs.Route.{Fleet, tracks_of}
 use Rattle.scene_edits.specs.Scene.{SceneState}
 use Rattle.mapf_rules.specs.declared.entries.Conflict.{Conflict}
+use Rattle.mapf_rules.specs.Naming.{time_of}
 use Rattle.mapf_rules.specs.declared.visits.Visit.{Visit}
 use Rattle.desk_report.specs.EntryText.{entry_line}
 use Rattle.desk_report.specs.ReportText.{visit_line}
 use Rattle.desk_report.specs.declared.reports.Report.{Report}
 use Rattle.desk_pictures.specs.Pieces.{half_text, seconds_text, joined}
-use Rattle.desk_pictures.specs.Spots.{spot_of, symbol_of, time_of}
+use Rattle.desk_pictures.specs.Spots.{spot_of, symbol_of}
 use Rattle.desk_pictures.specs.declared.spots.Spot.{Spot}
 
 -- whether the picture is a still one of that time

@@ -16,26 +16,22 @@ between_given (Some first) (Some second) = between first second
 between_given (Some first) None = record { across = 0; down = 0 }
 between_given None second = record { across = 0; down = 0 }
 
-abbrev pub time_of : Conflict → ℕ
-time_of (Vertex time first second cell) = time
-time_of (Parked time first second cell) = time
-time_of (Edge time first second cell next) = time
-time_of (Following time follower leader cell) = time
-time_of (Swapping time first second cell other) = time
-time_of (Cycle time ring) = time
-
 -- where the ring's agent at that index is at the time
 abbrev pub cell_in : Fleet → ℕ → List ℕ → ℕ → Option Point
 cell_in fleet time ring index = option_and_then (λ agent. position_of fleet agent time) (slice_get ring index)
 
--- at the entry's cell, between its two cells, or between the cells of the ring's first agent and of the one across
+-- between the cells of the ring's first agent and of the one across
+abbrev pub spot_across : Fleet → ℕ → List ℕ → Spot
+spot_across fleet time ring = between_given (cell_in fleet time ring 0) (cell_in fleet time ring (length ring / 2))
+
+-- at the entry's cell, between its two cells, or across its ring
 abbrev pub spot_of : Fleet → Conflict → Spot
 spot_of fleet (Vertex time first second cell) = between cell cell
 spot_of fleet (Parked time first second cell) = between cell cell
 spot_of fleet (Edge time first second cell next) = between cell next
 spot_of fleet (Following time follower leader cell) = between cell cell
 spot_of fleet (Swapping time first second cell other) = between cell other
-spot_of fleet (Cycle time ring) = between_given (cell_in fleet time ring 0) (cell_in fleet time ring (length ring / 2))
+spot_of fleet (Cycle time ring) = spot_across fleet time ring
 
 -- the sign of a mark; one of two cells lies along them
 abbrev pub symbol_of : Conflict → List ℕ

@@ -6,8 +6,7 @@ ghost use Rattle.desk_pictures.specs.Marks.{cross_opening_text, cross_text, cros
 
 use crate::frames::{Frame, class_text};
 use crate::pieces::{Piece, put_pieces};
-use crate::titles::put_visit;
-use desk_report::{Sink, WriteFailed, put_all};
+use desk_report::{Sink, WriteFailed, put_all, put_visit};
 use mapf_rules::Visit;
 
 // The mark of a visit up to its title. In a still picture of the visit's time it is lit.

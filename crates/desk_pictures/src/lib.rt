@@ -19,7 +19,6 @@ mod sheet;
 mod signs;
 mod spots;
 mod styles;
-mod titles;
 mod ways;
 
 pub use frames::Frame;

@@ -7,9 +7,8 @@ ghost use Rattle.desk_pictures.specs.Marks.{opening_text, mark_text, group_text,
 use crate::crosses::put_crosses;
 use crate::frames::Frame;
 use crate::pieces::{Piece, put_pieces};
-use crate::spots::{Spot, spot_of, symbol_of, time_of};
-use crate::titles::put_entry;
-use desk_report::{Report, Sink, WriteFailed, put_all};
+use crate::spots::{Spot, spot_of, symbol_of};
+use desk_report::{Report, Sink, WriteFailed, put_all, put_entry};
 use grid_cells::Step;
 use mapf_rules::Conflict;
 use plan_table::{Mode, Plans};
@@ -116,7 +115,7 @@ fn put_each_mark<W: Sink>(
 {
     let mut before = None;
     for entry in entries {
-        let time = time_of(entry);
+        let time = entry.time();
         put_turn(sink, frame, before, time)?;
         put_mark(sink, plans, mode, entry)?;
         before = Some(time);

@@ -1,7 +1,7 @@
 //! Where the mark of an entry stands, and how it is drawn.
-ghost use Rattle.std.specs.Prelude.{◌≡◌, ◌/◌, ◌==◌, if◌then◌else◌, codes, length};
+ghost use Rattle.std.specs.Prelude.{◌≡◌, ◌==◌, if◌then◌else◌, codes};
 ghost use Rattle.plan_table.specs.Route.{tracks_of};
-ghost use Rattle.desk_pictures.specs.Spots.{between, between_given, time_of, cell_in, spot_of, symbol_of};
+ghost use Rattle.desk_pictures.specs.Spots.{between, cell_in, spot_across, spot_of, symbol_of};
 
 use grid_cells::{Agent, Cell, Step};
 use mapf_rules::{Conflict, position};
@@ -24,20 +24,6 @@ pub fn middle(first: Cell, second: Cell) -> Spot
     }
 }
 
-/// The time of the entry.
-pub fn time_of(entry: &Conflict) -> Step
-    ensures { result ≡ time_of entry.now }
-{
-    match entry {
-        Conflict::Vertex { time, .. } => *time,
-        Conflict::Parked { time, .. } => *time,
-        Conflict::Edge { time, .. } => *time,
-        Conflict::Following { time, .. } => *time,
-        Conflict::Swapping { time, .. } => *time,
-        Conflict::Cycle { time, .. } => *time,
-    }
-}
-
 /// Where the entry's mark stands: at its cell, between its two cells, and of a ring between the
 /// first agent's cell and the one across.
 pub fn spot_of(plans: &Plans, mode: Mode, entry: &Conflict) -> Spot
@@ -55,7 +41,7 @@ pub fn spot_of(plans: &Plans, mode: Mode, entry: &Conflict) -> Spot
 
 // Between the cells of the ring's first agent and of the one across.
 fn spot_across(plans: &Plans, mode: Mode, time: Step, ring: &[Agent]) -> Spot
-    ensures { result ≡ between_given (cell_in (tracks_of mode plans.now.rows) time ring.now 0) (cell_in (tracks_of mode plans.now.rows) time ring.now (length ring.now / 2)) }
+    ensures { result ≡ spot_across (tracks_of mode plans.now.rows) time ring.now }
 {
     let first = cell_in(plans, mode, time, ring, 0);
     let second = cell_in(plans, mode, time, ring, ring.len() / 2);

@@ -5,7 +5,7 @@ use Rattle.std.proofs.lemmas.List.{at_drop_more, drop_all}
 use Rattle.std.proofs.lemmas.Result.{on_ok_weaker}
 use Rattle.plan_table.specs.Route.{Fleet, tracks_of}
 use Rattle.mapf_rules.specs.declared.entries.Conflict.{Conflict}
-use Rattle.desk_pictures.specs.Spots.{time_of}
+use Rattle.mapf_rules.specs.Naming.{time_of}
 use Rattle.desk_pictures.specs.Marks.{end_text, mark_text, marks_behind, turn_text}
 use Rattle.desk_pictures.proofs.Growth.{sound-on}
 use Rattle.desk_pictures.proofs.marks.put_each_mark.Goals as goal
@@ -26,7 +26,7 @@ module _ (at : Option ℕ) (fleet : Fleet) (before : Option ℕ) (entries : List
 pub loop-entry-preserved : goal.loop-entry-preserved
 loop-entry-preserved g c = record {
   out = λ after h. c.loop-entry.invariant.out after (subst (λ text. Appends (g.W.Sink.held c.loop-entry.sink) after text)
-      (sym (one_more c.args.frame.now.at (tracks_of c.args.mode c.args.plans.now.rows) c.loop-entry.before c.args.entries.now c.loop-entry.entry-index c.entry-item.result c.time_of-time.result c.loop-entry-test.true c.entry-item.is c.time_of-time.ensures))
+      (sym (one_more c.args.frame.now.at (tracks_of c.args.mode c.args.plans.now.rows) c.loop-entry.before c.args.entries.now c.loop-entry.entry-index c.entry-item.result c.time-time.result c.loop-entry-test.true c.entry-item.is c.time-time.ensures))
       (Appends-trans _ _ _ _ _ (Appends-trans _ _ _ _ _ c.in_ok-put_turn.ensures.ok c.in_ok-put_mark.ensures.ok) h));
   sound = sound-on _ _ _ (sound-on _ _ _ c.loop-entry.invariant.sound c.in_ok-put_turn.ensures.broken) c.in_ok-put_mark.ensures.broken;
 }
