@@ -13,7 +13,8 @@ use Rattle.desk_shared.specs.declared.board.Known.{Known}
 use Rattle.desk_shared.specs.declared.board.Stage.TheVariants.{Idle, Holding}
 use Rattle.desk_shared.specs.Passes.{PassState, own_of, version_at, AreOfPlanners, HasJust, GoesOn}
 use Rattle.desk_shared.specs.Calls.{CommitsBy, IsLastSeen, IsClosed, IsLeast, IsSplit, IsJoined}
-use Rattle.desk_shared.specs.Turns.{shown, since, Ruled, posed, first_true, Unspent, giver, given, both}
+use Rattle.desk_shared.specs.Turns.{shown, since, Ruled, posed, Unspent, giver, given, both}
+use Rattle.desk_shared.specs.Numbers.{first_true}
 use Rattle.desk_shared.proofs.Journals.{version_after}
 use Rattle.desk_shared.proofs.Beginnings.{own_of-mine, longer_is}
 use Rattle.desk_shared.proofs.Unused.{at_or, blank}

@@ -4,7 +4,7 @@ use mathlib.Core.Logic.{dite}
 use mathlib.Core.Option.{some, some-injective, some-ne-none}
 use native.Mathlib.Decide.{ℕ_discrete}
 use lib.ListN.{get_elem?}
-use Rattle.desk_shared.specs.Turns.{first_true}
+use Rattle.desk_shared.specs.Numbers.{first_true}
 use Rattle.desk_shared.specs.Calls.{HasNumbers, either_of}
 
 pub at_or : {A : Type 0} (l : List A) (i : ℕ) (a d : A) → get_elem? l i ≡ some a → get_or l i d ≡ a

@@ -13,13 +13,13 @@ use Rattle.atomic_table.proofs.Lists.{set_else, at_longer}
 use Rattle.desk_core.specs.Entries.{Entry}
 use Rattle.desk_core.specs.State.{DeskState}
 use Rattle.desk_shared.specs.declared.board.Known.{Known}
-use Rattle.desk_shared.specs.declared.board.Stage.{Stage}
-use Rattle.desk_shared.specs.declared.board.Stage.TheVariants.{Making, Idle, Holding, Joined}
+use Rattle.desk_shared.specs.declared.board.Stage.TheVariants.{Idle}
 use Rattle.desk_shared.specs.Passes.{own_of, version_at, MayGive, AreOfPlanners, HasJust}
-use Rattle.desk_shared.specs.Turns.{shown, Stands, IsPast, Live, IsBusy, IsWithin, Ruled, posed, floored, fronted, asided, joined, first_true, giver, given, both, nobody}
+use Rattle.desk_shared.specs.Turns.{shown, Stands, IsPast, Live, IsBusy, IsWithin, Ruled, posed, floored, fronted, asided, joined, giver, given, both, nobody}
+use Rattle.desk_shared.specs.Numbers.{first_true}
 use Rattle.desk_shared.proofs.Beginnings.{prefix_longer, own_none, own_between, All-prefix}
 use Rattle.desk_shared.proofs.Unused.{either_at, blank}
-use Rattle.desk_shared.proofs.Kept.{Homes, Carried, Stays, turn_of, each_stays, set_at, held_on, unmoved, found}
+use Rattle.desk_shared.proofs.Kept.{Carried, Stays, turn_of, each_stays, held_on, unmoved, found}
 
 abbrev put : (ℕ → ℕ) → ℕ → ℕ → ℕ → ℕ
 put f q x u = either (eqb u q) x (f u)

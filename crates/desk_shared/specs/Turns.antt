@@ -1,6 +1,6 @@
 -- The rule of the table that passes share, and what each step on it tells (this project's choice).
 -- Word 0 is the length of the journal, word 1 is 1 while a pass has the turn, and slot 0 is the desk's place.
-use Rattle.std.specs.Prelude.{◌≡◌, ◌≢◌, ℕ, suc, max, replicate, slice_set, ◌^◌, ◌<◌, ◌≤◌, Bool, true, false, List, [], ◌∷◌, ◌++◌, length, drop, slice_index, Option, Some, None, All}
+use Rattle.std.specs.Prelude.{◌≡◌, ◌≢◌, ℕ, max, replicate, slice_set, ◌^◌, ◌<◌, ◌≤◌, Bool, true, false, List, [], ◌∷◌, ◌++◌, length, drop, slice_index, Option, Some, None, All}
 use mathlib.Core.Option.{some}
 use mathlib.Core.Option as maybe
 use mathlib.Core.List.{IsPrefix}
@@ -18,6 +18,7 @@ use Rattle.desk_shared.specs.declared.board.Stage.{Stage}
 use Rattle.desk_shared.specs.declared.board.Stage.TheVariants.{Making, Idle, Holding, Joined}
 use Rattle.desk_shared.specs.Passes.{PassState, own_of, version_at, MayGive, AreOfPlanners, HasJust, GoesOn}
 use Rattle.desk_shared.specs.Calls.{either_of}
+use Rattle.desk_shared.specs.Numbers.{first_true}
 
 -- what callers see of what a pass knows
 abbrev pub shown : Known → PassState
@@ -91,6 +92,11 @@ pub record Ruled (table : State (Option DeskState) Known) : Type 0 where
 abbrev Hand : Type 0
 Hand = Me (Option DeskState) Known
 
+-- an idle pass of that planner, with those numbers to give away
+abbrev pub IsIdle : Hand → ℕ → List Bool → Type 0
+IsIdle hand planner unused =
+    (hand.1 ≡ []) × (hand.0.stage ≡ Idle) × (hand.0.live ≡ true) × (hand.0.planner ≡ planner) × (hand.0.unused ≡ unused)
+
 abbrev OneStep : Type 0
 OneStep = Step (Option DeskState)
 
@@ -117,12 +123,6 @@ Unspent pass = (number : ℕ) → MayGive (shown pass) number → (number ≢ pa
 -- the pass has set a number aside
 abbrev pub asided : OneStep → Hand → ℕ → Hand → Type 0
 asided step old count new = Unspent old.0 × (new ≡ old)
-
--- the least number in the list
-abbrev pub first_true : List Bool → ℕ
-first_true [] = 0
-first_true (true ∷ later) = 0
-first_true (false ∷ later) = suc (first_true later)
 
 -- the pass without its least number
 abbrev pub giver : Known → Known

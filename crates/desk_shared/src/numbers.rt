@@ -1,7 +1,7 @@
 //! The planner numbers that a pass may give away: at each number whether it may.
-ghost use Rattle.std.specs.Prelude.{◌≡◌, ℕ, ◌<◌, true, false, slice_index_or, IfSome, IfNone};
+ghost use Rattle.std.specs.Prelude.{◌≡◌, ℕ, false, slice_index_or, IfSome, IfNone};
 ghost use Rattle.desk_shared.specs.Calls.{MayShare, HasNumbers, either_of};
-ghost use Rattle.desk_shared.specs.Turns.{first_true};
+ghost use Rattle.desk_shared.specs.Numbers.{IsLeastTrue};
 
 use grid_cells::Planner;
 
@@ -19,7 +19,7 @@ pub(crate) fn numbers_to(planners: u32) -> [bool; 256]
 
 // The least number, if there is one.
 pub(crate) fn least(unused: &[bool; 256]) -> Option<Planner>
-    ensures some { IfSome result (λ i. (i < 256) × (i ≡ first_true unused.now) × (slice_index_or unused.now i false ≡ true) × ((u : ℕ) → u < i → slice_index_or unused.now u false ≡ false)) }
+    ensures some { IfSome result (IsLeastTrue unused.now) }
     ensures none { IfNone result ((u : ℕ) → slice_index_or unused.now u false ≡ false) }
 {
     for number in 0..256u32 {

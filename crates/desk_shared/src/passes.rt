@@ -17,13 +17,11 @@ impl Model for Pass {
 
     ghost Value = { Held };
 
-    ghost use Rattle.std.specs.Prelude.{◌≡◌, [], true};
-    ghost use Rattle.desk_shared.specs.Turns.{shown};
-    ghost use Rattle.desk_shared.specs.declared.board.Stage.TheVariants.{Idle};
+    ghost use Rattle.desk_shared.specs.Turns.{IsIdle, shown};
 
     ghost view = { λ p. record { table_id = p.place.table_id; known = shown p.place.me.0 } };
 
-    ghost invariant = { λ p. (p.place.me.1 ≡ []) × (p.place.me.0.stage ≡ Idle) × (p.place.me.0.live ≡ true) × (p.place.me.0.planner ≡ p.planner) × (p.place.me.0.unused ≡ p.unused) };
+    ghost invariant = { λ p. IsIdle p.place.me p.planner p.unused };
 }
 
 impl Pass {
