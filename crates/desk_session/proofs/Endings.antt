@@ -7,9 +7,10 @@ use Rattle.desk_report.specs.Bytes.{AppendsFront}
 use Rattle.bench_reader.specs.Lines.{lines_of}
 use Rattle.desk_session.specs.LinesOf.{complete_lines, last_piece}
 use Rattle.desk_session.specs.Replies.{reply_text, session_text}
-use Rattle.desk_session.specs.Session.{Answering, Run, Serves, SendsUpToLast}
+use Rattle.desk_session.specs.Session.{Answering, IsNext, Run, Serves, SendsUpToLast}
 use Rattle.desk_session.specs.declared.replies.Reply.{Reply}
 use Rattle.desk_session.specs.declared.bounds.Bounds.{Bounds}
+use Rattle.desk_session.specs.declared.bounds.ServeFault.{ServeFault}
 use Rattle.desk_session.specs.declared.bounds.ServeFault.TheVariants.{ReadFailed, WriteFailed, TooManyLines, TooManyBytes, OutOfMemory}
 use Rattle.desk_session.proofs.Pieces.{complete-byte, piece-feed, lines-fed, lines-ended, no-piece, nothing, lines-few, lines-within, not-begun}
 use Rattle.desk_session.proofs.Progress.{Progress, run-more, text-more}
@@ -36,7 +37,7 @@ module _ {S : Type 0} (answers : Answering S) (bounds : Bounds) (left0 left1 lef
   }
 
   -- The source failed.
-  pub ends-unread : Consumes left1 left2 [] → lines ≤ bounds.lines → bytes ≤ bounds.bytes → (0 < length line → lines < bounds.lines)
+  ends-unread : Consumes left1 left2 [] → lines ≤ bounds.lines → bytes ≤ bounds.bytes → (0 < length line → lines < bounds.lines)
       → Serves answers bounds left0 left2 held0 held1 s t (Err ReadFailed)
   ends-unread c ls bs room = record {
     heard = p.heard;
@@ -131,7 +132,7 @@ module _ {S : Type 0} (answers : Answering S) (bounds : Bounds) (left0 left1 lef
       }
 
   -- A byte after as many lines as are heard.
-  pub ends-many_lines : Consumes left1 left2 (byte ∷ []) → bounds.lines ≤ lines → lines ≤ bounds.lines → bytes ≤ bounds.bytes → (0 < length line → lines < bounds.lines)
+  ends-many_lines : Consumes left1 left2 (byte ∷ []) → bounds.lines ≤ lines → lines ≤ bounds.lines → bytes ≤ bounds.bytes → (0 < length line → lines < bounds.lines)
       → Serves answers bounds left0 left2 held0 held1 s t (Err TooManyLines)
   ends-many_lines c full ls bs room =
       let none : length line ≡ 0 = not-begun line lines bounds.lines full room in (
@@ -147,7 +148,7 @@ module _ {S : Type 0} (answers : Answering S) (bounds : Bounds) (left0 left1 lef
       )
 
   -- A byte after as many bytes as are heard.
-  pub ends-many_bytes : Consumes left1 left2 (byte ∷ []) → bounds.bytes ≤ bytes → lines < bounds.lines → bytes ≤ bounds.bytes
+  ends-many_bytes : Consumes left1 left2 (byte ∷ []) → bounds.bytes ≤ bytes → lines < bounds.lines → bytes ≤ bounds.bytes
       → Serves answers bounds left0 left2 held0 held1 s t (Err TooManyBytes)
   ends-many_bytes c full ls bs = (
     byte,
@@ -160,3 +161,13 @@ module _ {S : Type 0} (answers : Answering S) (bounds : Bounds) (left0 left1 lef
       ends = (omega (arith, p.lines), omega (arith, p.bytes));
     },
   )
+
+module _ {S : Type 0} (answers : Answering S) (bounds : Bounds) (left0 left1 left2 held0 held1 : Option (List ℕ)) (s t : S) (line : List ℕ) (lines bytes : ℕ) (p : Progress answers left0 left1 held0 held1 s t line lines bytes) where
+  -- There was no next byte for that fault.
+  pub ends-next : (fault : ServeFault) → IsNext left1 left2 bounds lines bytes (Err fault) → lines ≤ bounds.lines → bytes ≤ bounds.bytes → (0 < length line → lines < bounds.lines)
+      → Serves answers bounds left0 left2 held0 held1 s t (Err fault)
+  ends-next ReadFailed c ls bs room = ends-unread answers bounds left0 left1 left2 held0 held1 s t line lines bytes 0 p c ls bs room
+  ends-next WriteFailed c ls bs room = absurd c
+  ends-next TooManyLines (byte, c, full) ls bs room = ends-many_lines answers bounds left0 left1 left2 held0 held1 s t line lines bytes byte p c full ls bs room
+  ends-next TooManyBytes (byte, c, few, full) ls bs room = ends-many_bytes answers bounds left0 left1 left2 held0 held1 s t line lines bytes byte p c full few bs
+  ends-next OutOfMemory c ls bs room = absurd c

@@ -19,8 +19,11 @@ module _ {S : Type 0} (gives : Giving S) where
     reads = reads-on old mid new first.given later.given first.reads later.reads;
   }
 
+  pub reads-once : (old new : S) (byte : Option ℕ) → gives old (Ok byte) new → NoneFailed gives old new
+  reads-once old new byte given = record { given = byte ∷ []; reads = (new, given, refl) }
+
   pub one-more : (old mid new : S) (byte : Option ℕ) → NoneFailed gives old mid → gives mid (Ok byte) new → NoneFailed gives old new
-  one-more old mid new byte well given = and-then old mid new well (record { given = byte ∷ []; reads = (new, given, refl) })
+  one-more old mid new byte well given = and-then old mid new well (reads-once mid new byte given)
 
   pub then-failed : (old mid new : S) (why : ReadFailed) → NoneFailed gives old mid → gives mid (Err why) new → LastFailed gives old new
   then-failed old mid new why well failed = record { before = mid; well = well; why = why; failed = failed }
@@ -85,3 +88,9 @@ module _ {S : Type 0} (gives : Giving S) where
   takes-fewer many most old new first within =
       let few = first.few in
       record { given = first.given; calls = first.calls; few = omega arith }
+
+  -- one call gives a byte at most
+  pub takes-once : (old new : S) (got : Result (Option ℕ) ReadFailed) → gives old got new → TakesAtMost gives 1 old new
+  takes-once old new (Ok (Some byte)) given = takes-one old new (Ok (Some byte)) given
+  takes-once old new (Ok None) given = takes-fewer 0 1 old new (takes-one old new (Ok None) given) (omega arith)
+  takes-once old new (Err why) given = takes-fewer 0 1 old new (takes-one old new (Err why) given) (omega arith)

@@ -1,5 +1,5 @@
 -- Whole sessions: what their lines are answered, and what they leave behind.
-use Rattle.std.specs.Prelude.{◌≡◌, ℕ, ◌+◌, ◌<◌, ◌≤◌, ◌⊎◌, List, [], ◌∷◌, ◌++◌, length, Option, Result, Ok, Err, Bool, true, false, nat_eq, OnOk, OnErr}
+use Rattle.std.specs.Prelude.{◌≡◌, ℕ, ◌+◌, ◌<◌, ◌≤◌, ◌⊎◌, List, [], ◌∷◌, ◌++◌, length, Option, Some, None, Result, Ok, Err, Bool, true, false, nat_eq, OnOk, OnErr}
 use Rattle.std.specs.Io.KnownBytes.{Consumes, IsAtEnd, Appends}
 use Rattle.bench_reader.specs.Lines.{lines_of}
 use Rattle.desk_report.specs.Bytes.{AppendsFront}
@@ -31,6 +31,16 @@ pub record IsAnswered {S T E : Type 0} (answers : Answering S) (old : S) (number
 -- what was heard has no more lines and bytes than the bounds allow; a line not yet complete counts
 abbrev pub IsWithin : Bounds → List ℕ → Type 0
 IsWithin bounds heard = (length (lines_of heard) ≤ bounds.lines) × (length heard ≤ bounds.bytes)
+
+-- the next byte after so many whole lines and bytes: one that the bounds allow, none at the end, or a fault
+abbrev pub IsNext : (left0 left1 : Option (List ℕ)) → Bounds → ℕ → ℕ → Result (Option ℕ) ServeFault → Type 0
+IsNext left0 left1 bounds lines bytes (Ok (Some byte)) = Consumes left0 left1 (byte ∷ []) × (lines < bounds.lines) × (bytes < bounds.bytes)
+IsNext left0 left1 bounds lines bytes (Ok None) = Consumes left0 left1 [] × IsAtEnd left1
+IsNext left0 left1 bounds lines bytes (Err ReadFailed) = Consumes left0 left1 []
+IsNext left0 left1 bounds lines bytes (Err WriteFailed) = ⊥
+IsNext left0 left1 bounds lines bytes (Err TooManyLines) = (byte : ℕ) × Consumes left0 left1 (byte ∷ []) × (bounds.lines ≤ lines)
+IsNext left0 left1 bounds lines bytes (Err TooManyBytes) = (byte : ℕ) × Consumes left0 left1 (byte ∷ []) × (lines < bounds.lines) × (bounds.bytes ≤ bytes)
+IsNext left0 left1 bounds lines bytes (Err OutOfMemory) = ⊥
 
 -- the text of all replies went out
 abbrev pub SendsAll : (held0 held1 : Option (List ℕ)) → List Reply → Type 0
@@ -75,6 +85,6 @@ abbrev pub is_read_failed : {T : Type 0} → Result T ServeFault → Bool
 is_read_failed (Err ReadFailed) = true
 is_read_failed other = false
 
-abbrev pub is_write_failed : Result ℕ ServeFault → Bool
+abbrev pub is_write_failed : {T : Type 0} → Result T ServeFault → Bool
 is_write_failed (Err WriteFailed) = true
 is_write_failed other = false

@@ -84,4 +84,4 @@ is_read_fault (Err (Serve why)) = is_read_failed {T = ℕ} (Err why)
 abbrev pub is_write_fault : Result ℕ StartFault → Bool
 is_write_fault (Ok n) = false
 is_write_fault (Err (Map why)) = false
-is_write_fault (Err (Serve why)) = is_write_failed (Err why)
+is_write_fault (Err (Serve why)) = is_write_failed {T = ℕ} (Err why)

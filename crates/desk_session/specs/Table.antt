@@ -86,3 +86,7 @@ Obeys c number old at (ask.Solves kinds) given new then = TellsSolves c at kinds
 -- no memory was found, and nothing changed
 abbrev pub FindsNoMemory : {S : Type 0} → Session → S → Reply → Session → S → Type 0
 FindsNoMemory old at given new then = (given ≡ reply.NoMemory) × (new ≡ old) × (then ≡ at)
+
+-- a request is obeyed, or it finds no memory and changes nothing
+abbrev pub MayObey : {S : Type 0} → Counting S → ℕ → Session → S → Request → Reply → Session → S → Type 0
+MayObey c number old at request given new then = Obeys c number old at request given new then ⊎ FindsNoMemory old at given new then

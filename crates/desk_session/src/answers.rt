@@ -1,7 +1,7 @@
 //! The answer to a line.
-ghost use Rattle.std.specs.Prelude.{◌≡◌, ◌⊎◌};
+ghost use Rattle.std.specs.Prelude.{◌≡◌};
 ghost use Rattle.desk_session.specs.Answer.{answering};
-ghost use Rattle.desk_session.specs.Table.{Obeys, FindsNoMemory, TellsReport, TellsSolves, TellsDistance};
+ghost use Rattle.desk_session.specs.Table.{MayObey, TellsReport, TellsSolves, TellsDistance};
 
 use crate::counters::Counter;
 use crate::drafts::{Gathered, Session};
@@ -55,7 +55,7 @@ fn obey_idle<C: Counter>(
     number: u32,
     request: Request,
 ) -> (Reply, Session)
-    ensures { Obeys C.counting number Session.Idle counter.old request result.0 result.1 counter.new ⊎ FindsNoMemory Session.Idle counter.old result.0 result.1 counter.new }
+    ensures { MayObey C.counting number Session.Idle counter.old request result.0 result.1 counter.new }
 {
     match request {
         Request::Silent => (Reply::Silent, Session::Idle),
@@ -85,7 +85,7 @@ fn obey_gathering<C: Counter>(
     gathered: Gathered,
     request: Request,
 ) -> (Reply, Session)
-    ensures { Obeys C.counting number (Session.Gathering gathered) counter.old request result.0 result.1 counter.new ⊎ FindsNoMemory (Session.Gathering gathered) counter.old result.0 result.1 counter.new }
+    ensures { MayObey C.counting number (Session.Gathering gathered) counter.old request result.0 result.1 counter.new }
 {
     match request {
         Request::Silent => (Reply::Silent, Session::Gathering(gathered)),
@@ -120,7 +120,7 @@ pub(crate) fn obey<C: Counter>(
     number: u32,
     request: Request,
 ) -> (Reply, Session)
-    ensures { Obeys C.counting number session counter.old request result.0 result.1 counter.new ⊎ FindsNoMemory session counter.old result.0 result.1 counter.new }
+    ensures { MayObey C.counting number session counter.old request result.0 result.1 counter.new }
 {
     match session {
         Session::Idle => obey_idle(alloc, counter, number, request),

@@ -1,7 +1,6 @@
 //! The lines of refusals.
-ghost use Rattle.std.specs.Prelude.{◌≡◌, ◌∷◌, ◌++◌, [], codes, decimal, OnOk, OnErr, is_err, ◌||◌};
-ghost use Rattle.std.specs.Io.KnownBytes.{Appends};
-ghost use Rattle.desk_report.specs.Bytes.{AppendsFront};
+ghost use Rattle.std.specs.Prelude.{◌∷◌, ◌++◌, [], codes, decimal};
+ghost use Rattle.desk_report.specs.Bytes.{Puts};
 ghost use Rattle.desk_session.specs.RefusalText.{refused_line, thing_words, fault_words, refusal_words, asked_words};
 
 use desk_core::{AskFault, EditFault, Refusal, Thing};
@@ -9,27 +8,21 @@ use desk_report::{Sink, Word, WriteFailed, put_line};
 
 // A refusal of one word.
 fn put_plain<W: Sink>(sink: &mut W, name: &[u8]) -> Result<(), WriteFailed>
-    ensures ok { OnOk result (Appends (W.held sink.old) (W.held sink.new) (refused_line (name.now ∷ []))) }
-    ensures err { OnErr result (AppendsFront (W.held sink.old) (W.held sink.new) (refused_line (name.now ∷ []))) }
-    ensures broken { W.broken sink.new ≡ (W.broken sink.old || is_err result) }
+    ensures { Puts W.held W.broken sink.old sink.new result (refused_line (name.now ∷ [])) }
 {
     put_line(sink, b"refused", &[Word::Text(name)])
 }
 
 // A refusal of a word and a number.
 fn put_numbered<W: Sink>(sink: &mut W, name: &[u8], number: u64) -> Result<(), WriteFailed>
-    ensures ok { OnOk result (Appends (W.held sink.old) (W.held sink.new) (refused_line (name.now ∷ decimal number ∷ []))) }
-    ensures err { OnErr result (AppendsFront (W.held sink.old) (W.held sink.new) (refused_line (name.now ∷ decimal number ∷ []))) }
-    ensures broken { W.broken sink.new ≡ (W.broken sink.old || is_err result) }
+    ensures { Puts W.held W.broken sink.old sink.new result (refused_line (name.now ∷ decimal number ∷ [])) }
 {
     put_line(sink, b"refused", &[Word::Text(name), Word::Number(number)])
 }
 
 // A stale commit: the version, the thing that was named since, and the entry that names it.
 fn put_stale<W: Sink>(sink: &mut W, now: u64, thing: Thing, at: u64) -> Result<(), WriteFailed>
-    ensures ok { OnOk result (Appends (W.held sink.old) (W.held sink.new) (refused_line (codes "stale" ∷ decimal now ∷ (thing_words thing ++ decimal at ∷ [])))) }
-    ensures err { OnErr result (AppendsFront (W.held sink.old) (W.held sink.new) (refused_line (codes "stale" ∷ decimal now ∷ (thing_words thing ++ decimal at ∷ [])))) }
-    ensures broken { W.broken sink.new ≡ (W.broken sink.old || is_err result) }
+    ensures { Puts W.held W.broken sink.old sink.new result (refused_line (codes "stale" ∷ decimal now ∷ (thing_words thing ++ decimal at ∷ []))) }
 {
     let stale = Word::Text(b"stale");
     let (now, at) = (Word::Number(now), Word::Number(at));
@@ -51,9 +44,7 @@ fn put_stale<W: Sink>(sink: &mut W, now: u64, thing: Thing, at: u64) -> Result<(
 
 // A fault of one word in the edit of that index.
 fn put_fault<W: Sink>(sink: &mut W, index: u64, name: &[u8]) -> Result<(), WriteFailed>
-    ensures ok { OnOk result (Appends (W.held sink.old) (W.held sink.new) (refused_line (codes "faulty" ∷ decimal index ∷ name.now ∷ []))) }
-    ensures err { OnErr result (AppendsFront (W.held sink.old) (W.held sink.new) (refused_line (codes "faulty" ∷ decimal index ∷ name.now ∷ []))) }
-    ensures broken { W.broken sink.new ≡ (W.broken sink.old || is_err result) }
+    ensures { Puts W.held W.broken sink.old sink.new result (refused_line (codes "faulty" ∷ decimal index ∷ name.now ∷ [])) }
 {
     let words = [Word::Text(b"faulty"), Word::Number(index), Word::Text(name)];
     put_line(sink, b"refused", &words)
@@ -61,9 +52,7 @@ fn put_fault<W: Sink>(sink: &mut W, index: u64, name: &[u8]) -> Result<(), Write
 
 // A fault in the edit of that index.
 fn put_faulty<W: Sink>(sink: &mut W, index: u64, why: EditFault) -> Result<(), WriteFailed>
-    ensures ok { OnOk result (Appends (W.held sink.old) (W.held sink.new) (refused_line (codes "faulty" ∷ decimal index ∷ fault_words why))) }
-    ensures err { OnErr result (AppendsFront (W.held sink.old) (W.held sink.new) (refused_line (codes "faulty" ∷ decimal index ∷ fault_words why))) }
-    ensures broken { W.broken sink.new ≡ (W.broken sink.old || is_err result) }
+    ensures { Puts W.held W.broken sink.old sink.new result (refused_line (codes "faulty" ∷ decimal index ∷ fault_words why)) }
 {
     match why {
         EditFault::UnknownAgent => put_fault(sink, index, b"unknown-agent"),
@@ -88,9 +77,7 @@ fn put_faulty<W: Sink>(sink: &mut W, index: u64, why: EditFault) -> Result<(), W
 
 // Why a commit is refused.
 pub(crate) fn put_refusal<W: Sink>(sink: &mut W, refusal: Refusal) -> Result<(), WriteFailed>
-    ensures ok { OnOk result (Appends (W.held sink.old) (W.held sink.new) (refused_line (refusal_words refusal))) }
-    ensures err { OnErr result (AppendsFront (W.held sink.old) (W.held sink.new) (refused_line (refusal_words refusal))) }
-    ensures broken { W.broken sink.new ≡ (W.broken sink.old || is_err result) }
+    ensures { Puts W.held W.broken sink.old sink.new result (refused_line (refusal_words refusal)) }
 {
     match refusal {
         Refusal::JournalFull { limit } => put_numbered(sink, b"journal-full", u64::from(limit)),
@@ -104,9 +91,7 @@ pub(crate) fn put_refusal<W: Sink>(sink: &mut W, refusal: Refusal) -> Result<(),
 
 // Why a distance isn't told.
 pub(crate) fn put_not_asked<W: Sink>(sink: &mut W, fault: AskFault) -> Result<(), WriteFailed>
-    ensures ok { OnOk result (Appends (W.held sink.old) (W.held sink.new) (refused_line (asked_words fault))) }
-    ensures err { OnErr result (AppendsFront (W.held sink.old) (W.held sink.new) (refused_line (asked_words fault))) }
-    ensures broken { W.broken sink.new ≡ (W.broken sink.old || is_err result) }
+    ensures { Puts W.held W.broken sink.old sink.new result (refused_line (asked_words fault)) }
 {
     match fault {
         AskFault::UnknownAgent => put_plain(sink, b"unknown-agent"),

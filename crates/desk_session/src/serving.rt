@@ -1,7 +1,7 @@
-ghost use Rattle.std.specs.Prelude.{◌≡◌, ◌+◌, [], is_err, ◌||◌};
+ghost use Rattle.std.specs.Prelude.{◌≡◌, ◌+◌, [], IfErr, ◌||◌};
 ghost use Rattle.desk_session.specs.Answer.{answering};
 ghost use Rattle.desk_session.specs.Reads.{ReadsUntil, TakesAtMost};
-ghost use Rattle.desk_session.specs.Session.{IsAnswered, Serves, is_read_failed, is_write_failed};
+ghost use Rattle.desk_session.specs.Session.{IsAnswered, IsNext, Serves, is_read_failed, is_write_failed};
 
 use crate::answers::answer;
 use crate::bounds::{Bounds, ServeFault};
@@ -20,17 +20,48 @@ fn answer_line<C: Counter, W: Sink>(
     number: u32,
     line: &[u8],
     writer: &mut W,
-) -> Result<(), WriteFailed>
+) -> Result<(), ServeFault>
     ensures answered { IsAnswered (answering C.counting) (session.old, counter.old) number line.now
         (W.held writer.old) (W.held writer.new) result (session.new, counter.new) }
-    ensures broken { W.broken writer.new ≡ (W.broken writer.old || is_err result) }
+    ensures unwritten { IfErr result (λ fault. fault ≡ ServeFault.WriteFailed) }
+    ensures broken { W.broken writer.new ≡ (W.broken writer.old || is_write_failed result) }
 {
     let before = mem::replace(session, Session::Idle);
     let (reply, next) = answer(alloc, before, counter, number, line);
     *session = next;
     let put = put_reply(writer, &reply);
     drop(reply);
-    put
+    match put {
+        Ok(()) => Ok(()),
+        Err(WriteFailed) => Err(ServeFault::WriteFailed),
+    }
+}
+
+// The next byte, or none at the end of the input, after so many whole lines and bytes.
+fn next_within<R: Source>(
+    reader: &mut R,
+    bounds: Bounds,
+    lines: u32,
+    bytes: u64,
+) -> Result<Option<u8>, ServeFault>
+    ensures next { IsNext (R.left reader.old) (R.left reader.new) bounds lines bytes result }
+    ensures reads { ReadsUntil R.gives reader.old reader.new (is_read_failed result) }
+    ensures bounded { TakesAtMost R.gives 1 reader.old reader.new }
+    ensures failed { R.failed reader.new ≡ (R.failed reader.old || is_read_failed result) }
+{
+    let next = match reader.next_byte() {
+        Ok(next) => next,
+        Err(_) => return Err(ServeFault::ReadFailed),
+    };
+    if next.is_some() {
+        if lines >= bounds.lines {
+            return Err(ServeFault::TooManyLines);
+        }
+        if bytes >= bounds.bytes {
+            return Err(ServeFault::TooManyBytes);
+        }
+    }
+    Ok(next)
 }
 
 // Serves the session from where it is, before the first byte of a line.
@@ -54,38 +85,23 @@ fn serve_lines<C: Counter, R: Source, W: Sink>(
     let mut lines: u32 = 0;
     let mut bytes: u64 = 0;
     'session: loop {
-        match reader.next_byte() {
-            Err(_) => return Err(ServeFault::ReadFailed),
-            Ok(None) => {
-                if line.is_empty() {
-                    return Ok(lines);
-                }
-                match answer_line(alloc, session, counter, lines + 1, line.as_slice(), writer) {
-                    Ok(()) => return Ok(lines + 1),
-                    Err(_) => return Err(ServeFault::WriteFailed),
-                }
+        let Some(byte) = next_within(reader, bounds, lines, bytes)? else {
+            if line.is_empty() {
+                return Ok(lines);
             }
-            Ok(Some(byte)) => {
-                if lines >= bounds.lines {
-                    return Err(ServeFault::TooManyLines);
-                }
-                if bytes >= bounds.bytes {
-                    return Err(ServeFault::TooManyBytes);
-                }
-                bytes += 1;
-                if byte != b'\n' {
-                    match line.push(byte) {
-                        Ok(()) => {}
-                        Err(_) => return Err(ServeFault::OutOfMemory),
-                    }
-                } else {
-                    lines += 1;
-                    match answer_line(alloc, session, counter, lines, line.as_slice(), writer) {
-                        Ok(()) => line.clear(),
-                        Err(_) => return Err(ServeFault::WriteFailed),
-                    }
-                }
+            answer_line(alloc, session, counter, lines + 1, line.as_slice(), writer)?;
+            return Ok(lines + 1);
+        };
+        bytes += 1;
+        if byte != b'\n' {
+            match line.push(byte) {
+                Ok(()) => {}
+                Err(_) => return Err(ServeFault::OutOfMemory),
             }
+        } else {
+            lines += 1;
+            answer_line(alloc, session, counter, lines, line.as_slice(), writer)?;
+            line.clear();
         }
     }
 }

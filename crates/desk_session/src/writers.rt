@@ -1,7 +1,7 @@
 //! The texts of replies.
-ghost use Rattle.std.specs.Prelude.{◌≡◌, ◌∷◌, ◌++◌, [], codes, decimal, OnOk, OnErr, is_err, ◌||◌};
+ghost use Rattle.std.specs.Prelude.{◌≡◌, ◌++◌, OnOk, OnErr, is_err, ◌||◌};
 ghost use Rattle.std.specs.Io.KnownBytes.{Appends};
-ghost use Rattle.desk_report.specs.Bytes.{AppendsFront};
+ghost use Rattle.desk_report.specs.Bytes.{AppendsFront, Puts};
 ghost use Rattle.desk_report.specs.LineText.{line_text};
 ghost use Rattle.desk_report.specs.ReportText.{report_text};
 ghost use Rattle.desk_session.specs.Replies.{bad_word, version_line, reply_text};
@@ -13,9 +13,7 @@ use desk_report::{Sink, Word, WriteFailed, put_line, write_report};
 
 // What is wrong with a line.
 fn put_bad<W: Sink>(sink: &mut W, line: u32, why: BadLine) -> Result<(), WriteFailed>
-    ensures ok { OnOk result (Appends (W.held sink.old) (W.held sink.new) (reply_text (Reply.Bad line why))) }
-    ensures err { OnErr result (AppendsFront (W.held sink.old) (W.held sink.new) (reply_text (Reply.Bad line why))) }
-    ensures broken { W.broken sink.new ≡ (W.broken sink.old || is_err result) }
+    ensures { Puts W.held W.broken sink.old sink.new result (reply_text (Reply.Bad line why)) }
 {
     let line = Word::Number(u64::from(line));
     match why {
@@ -28,9 +26,7 @@ fn put_bad<W: Sink>(sink: &mut W, line: u32, why: BadLine) -> Result<(), WriteFa
 
 // A version.
 fn put_version<W: Sink>(sink: &mut W, version: u64) -> Result<(), WriteFailed>
-    ensures ok { OnOk result (Appends (W.held sink.old) (W.held sink.new) (version_line version)) }
-    ensures err { OnErr result (AppendsFront (W.held sink.old) (W.held sink.new) (version_line version)) }
-    ensures broken { W.broken sink.new ≡ (W.broken sink.old || is_err result) }
+    ensures { Puts W.held W.broken sink.old sink.new result (version_line version) }
 {
     put_line(sink, b"version", &[Word::Number(version)])
 }
@@ -48,9 +44,7 @@ fn put_reading<W: Sink>(sink: &mut W, reading: &Reading) -> Result<(), WriteFail
 
 // The reply.
 pub(crate) fn put_reply<W: Sink>(sink: &mut W, reply: &Reply) -> Result<(), WriteFailed>
-    ensures ok { OnOk result (Appends (W.held sink.old) (W.held sink.new) (reply_text reply.now)) }
-    ensures err { OnErr result (AppendsFront (W.held sink.old) (W.held sink.new) (reply_text reply.now)) }
-    ensures broken { W.broken sink.new ≡ (W.broken sink.old || is_err result) }
+    ensures { Puts W.held W.broken sink.old sink.new result (reply_text reply.now) }
 {
     match reply {
         Reply::Silent => Ok(()),

@@ -1,6 +1,7 @@
 -- The text of a journal (this project's choice of lines and of their order). A line is a list of words; its text has one space between each two, and a line feed.
 use Rattle.std.specs.Prelude.{ℕ, List, [], ◌∷◌, ◌++◌, length, map, codes, decimal}
 use Rattle.std.specs.List.{flat_map}
+use Rattle.grid_cells.specs.Cell.{Point}
 use Rattle.plan_table.specs.declared.tracks.Mode.{Mode}
 use Rattle.plan_table.specs.declared.tracks.Mode.TheVariants.{Stay, Disappear}
 use Rattle.scene_edits.specs.declared.changes.Thing.{Thing}
@@ -17,6 +18,10 @@ abbrev pub watch_words : Thing → List (List ℕ)
 watch_words (things.Agent agent) = codes "watch" ∷ codes "agent" ∷ decimal agent ∷ []
 watch_words (things.Cell cell) = codes "watch" ∷ codes "cell" ∷ cell_text cell ∷ []
 watch_words things.Map = codes "watch" ∷ codes "map" ∷ []
+
+-- a line of a name, some words and cells
+abbrev pub route_line : List ℕ → List (List ℕ) → List Point → List ℕ
+route_line name words cells = line_text (name ∷ (words ++ map cell_text cells))
 
 -- an edit line, as in a session
 abbrev pub edit_words : Edit → List (List ℕ)

@@ -8,7 +8,7 @@ ghost use Rattle.desk_report.specs.LineText.{line_text, cell_text};
 ghost use Rattle.desk_report.specs.Words.{word_text};
 ghost use Rattle.grid_cells.specs.declared.numbers.TheConstants.{MOST_AGENT};
 ghost use Rattle.desk_session.specs.JournalText.Ranges.{IsCell, IsThing, IsEdit, IsEntry};
-ghost use Rattle.desk_session.specs.JournalText.Lines.{watch_words, edit_words, entry_lines, text_of};
+ghost use Rattle.desk_session.specs.JournalText.Lines.{watch_words, edit_words, entry_lines, route_line, text_of};
 ghost use Rattle.desk_session.specs.JournalText.Begun.{IsHead, head_words};
 
 use crate::journals::places::Head;
@@ -63,8 +63,8 @@ fn put_route<W: Sink>(
     words: &[Word],
     cells: &[Cell],
 ) -> Result<(), WriteFailed>
-    ensures ok { OnOk result (Appends (W.held sink.old) (W.held sink.new) (line_text (name.now ∷ (map word_text words.now ++ map cell_text cells.now)))) }
-    ensures err { OnErr result (AppendsFront (W.held sink.old) (W.held sink.new) (line_text (name.now ∷ (map word_text words.now ++ map cell_text cells.now)))) }
+    ensures ok { OnOk result (Appends (W.held sink.old) (W.held sink.new) (route_line name.now (map word_text words.now) cells.now)) }
+    ensures err { OnErr result (AppendsFront (W.held sink.old) (W.held sink.new) (route_line name.now (map word_text words.now) cells.now)) }
     ensures broken { W.broken sink.new ≡ (W.broken sink.old || is_err result) }
     ensures lawful { OnOk result (All IsCell cells.now) }
 {

@@ -1,152 +1,134 @@
-use Rattle.std.proofs.Common.{rules, arith, ◌≡◌, ◌+◌, ◌<◌, false, nat_eq, length}
+use Rattle.std.proofs.Common.{rules, arith, ◌≡◌, ◌<◌, false, nat_eq, length}
+use Rattle.std.proofs.lemmas.Result.{err_from_is_err_and}
 use Rattle.desk_session.proofs.Progress.{progress-byte, progress-line}
-use Rattle.desk_session.proofs.Reading.{one-more, then-failed, takes-byte, takes-end, takes-failure, takes-fewer}
-use Rattle.desk_session.proofs.Endings.{ends-unread, ends-no_memory, ends-line_unwritten, ends-last_unwritten, ends-last, ends-empty, ends-many_lines, ends-many_bytes}
+use Rattle.desk_session.proofs.Reading.{and-then, until-then, takes-more}
+use Rattle.desk_session.proofs.Endings.{ends-next, ends-no_memory, ends-line_unwritten, ends-last_unwritten, ends-last, ends-empty}
 use Rattle.desk_session.proofs.serving.serve_lines.Goals as goal
 
-pub returns-in-Err-clause-session : goal.returns-in-Err-clause-session
-returns-in-Err-clause-session g c =
-    ends-unread _ c.args.bounds _ _ _ _ _ _ _ _ _ _ 0 c.session.invariant.so_far c.in-Err.ensures.bytes c.session.invariant.lines_within c.session.invariant.bytes_within c.session.invariant.room
+pub returns-in_err-byte-clause-session : goal.returns-in_err-byte-clause-session
+returns-in_err-byte-clause-session g c =
+    let p = err_from_is_err_and c.from_residual.result c.from_residual.ensures.1 in
+    rw (p.1, p.2) (ends-next _ c.args.bounds _ _ _ _ _ _ _ _ _ _ c.session.invariant.so_far c.in_err-byte.field-0.0 c.in_err-byte.ensures.next c.session.invariant.lines_within c.session.invariant.bytes_within c.session.invariant.room)
 
 pub returns-then-is_empty-clause-session : goal.returns-then-is_empty-clause-session
 returns-then-is_empty-clause-session g c =
-    let took = rw c.in-Ok-None.field-0-is at c.in-Ok-None.ensures.bytes in
+    let next = rw c.in_default.is at c.in_ok-byte.ensures.next in
     let none : length c.session.line.items ≡ 0 = search rules in
-    ends-empty _ c.args.bounds _ _ _ _ _ _ _ _ _ _ 0 c.session.invariant.so_far took (c.in-Ok-None.ensures.end c.in-Ok-None.field-0-is) none c.session.invariant.lines_within c.session.invariant.bytes_within
+    ends-empty _ c.args.bounds _ _ _ _ _ _ _ _ _ _ 0 c.session.invariant.so_far next.0 next.1 none c.session.invariant.lines_within c.session.invariant.bytes_within
 
-pub returns-then-lines-bounds-clause-session : goal.returns-then-lines-bounds-clause-session
-returns-then-lines-bounds-clause-session g c =
-    let took = rw c.in-Ok-Some.field-0-is at c.in-Ok-Some.ensures.bytes in
-    ends-many_lines _ c.args.bounds _ _ _ _ _ _ _ _ _ _ c.in-Ok-Some.byte c.session.invariant.so_far took (omega arith) c.session.invariant.lines_within c.session.invariant.bytes_within c.session.invariant.room
+pub returns-in_err-answer_line-clause-session : goal.returns-in_err-answer_line-clause-session
+returns-in_err-answer_line-clause-session g c =
+    let next = rw c.in_default.is at c.in_ok-byte.ensures.next in
+    let p = err_from_is_err_and c.from_residual-in_err-answer_line.result c.from_residual-in_err-answer_line.ensures.1 in
+    let put = c.in_err-answer_line.ensures.answered in
+    let asked = rw c.as_slice.ensures.value at put.answered in
+    let some : 0 < length c.session.line.items = search rules in
+    rw (p.1, p.2, c.in_err-answer_line.ensures.unwritten)
+    (ends-last_unwritten _ c.args.bounds _ _ _ _ _ _ _ _ _ _ 0 c.session.invariant.so_far _ _ put.reply next.0 next.1 some (search rules) (search rules) asked put.cut)
 
-pub returns-then-bytes-bounds-clause-session : goal.returns-then-bytes-bounds-clause-session
-returns-then-bytes-bounds-clause-session g c =
-    let took = rw c.in-Ok-Some.field-0-is at c.in-Ok-Some.ensures.bytes in
-    ends-many_bytes _ c.args.bounds _ _ _ _ _ _ _ _ _ _ c.in-Ok-Some.byte c.session.invariant.so_far took (omega arith) (omega arith) c.session.invariant.bytes_within
+pub returns-in_default-clause-session : goal.returns-in_default-clause-session
+returns-in_default-clause-session g c =
+    let next = rw c.in_default.is at c.in_ok-byte.ensures.next in
+    let put = c.in_ok-answer_line.ensures.answered in
+    let asked = rw c.as_slice.ensures.value at put.answered in
+    let some : 0 < length c.session.line.items = search rules in
+    ends-last _ c.args.bounds _ _ _ _ _ _ _ _ _ _ 0 c.session.invariant.so_far _ _ put.reply next.0 next.1 some (search rules) (search rules) asked put.sent
 
-pub session-preserved-in-Ok-push : goal.session-preserved-in-Ok-push
-session-preserved-in-Ok-push g c =
-    let gave = rw c.in-Ok-Some.field-0-is at c.in-Ok-Some.ensures.gives in
-    let took = rw c.in-Ok-Some.field-0-is at c.in-Ok-Some.ensures.bytes in
-    let other : nat_eq c.in-Ok-Some.byte 10 ≡ false = search rules in
+pub returns-in-Err-clause-session : goal.returns-in-Err-clause-session
+returns-in-Err-clause-session g c =
+    let next = rw c.in-Some.is at c.in_ok-byte.ensures.next in
+    let other : nat_eq c.in-Some.byte 10 ≡ false = search rules in
+    ends-no_memory _ c.args.bounds _ _ _ _ _ _ _ _ _ _ c.in-Some.byte c.session.invariant.so_far next.0 other (omega arith) (omega arith)
+
+pub returns-in_err-answer_line-2-clause-session : goal.returns-in_err-answer_line-2-clause-session
+returns-in_err-answer_line-2-clause-session g c =
+    let next = rw c.in-Some.is at c.in_ok-byte.ensures.next in
+    let p = err_from_is_err_and c.from_residual-in_err-answer_line-2.result c.from_residual-in_err-answer_line-2.ensures.1 in
+    let put = c.in_err-answer_line-2.ensures.answered in
+    let asked = rw c.as_slice-else-byte-ne10.ensures.value at put.answered in
+    rw (p.1, p.2, c.in_err-answer_line-2.ensures.unwritten)
+    (ends-line_unwritten _ c.args.bounds _ _ _ _ _ _ _ _ _ _ c.in-Some.byte c.session.invariant.so_far _ _ put.reply next.0 c.if-byte-ne10.false (omega arith) (omega arith) asked put.cut)
+
+pub session-preserved-in-Ok : goal.session-preserved-in-Ok
+session-preserved-in-Ok g c =
+    let next = rw c.in-Some.is at c.in_ok-byte.ensures.next in
+    let other : nat_eq c.in-Some.byte 10 ≡ false = search rules in
     record {
-      so_far = rw c.in-Ok-push.ensures.items (progress-byte _ _ _ _ _ _ _ _ _ _ _ c.in-Ok-Some.byte c.session.invariant.so_far took other);
+      so_far = rw c.in-Ok.ensures.items (progress-byte _ _ _ _ _ _ _ _ _ _ _ c.in-Some.byte c.session.invariant.so_far next.0 other);
       lines_within = search rules;
       bytes_within = omega arith;
       room = λ _. omega arith;
-      well = one-more _ _ _ _ _ c.session.invariant.well c.in-Ok-Some.ensures.gives;
-      took = takes-byte _ _ _ _ _ c.in-Ok-Some.byte c.session.invariant.took gave;
+      well = and-then _ _ _ _ c.session.invariant.well c.in_ok-byte.ensures.reads;
+      took = takes-more _ c.session.bytes 1 _ _ _ _ c.session.invariant.took c.in_ok-byte.ensures.bounded (omega arith);
       read_sound = search rules;
       write_sound = search rules;
     }
 
-pub returns-in-Err-push-clause-session : goal.returns-in-Err-push-clause-session
-returns-in-Err-push-clause-session g c =
-    let took = rw c.in-Ok-Some.field-0-is at c.in-Ok-Some.ensures.bytes in
-    let other : nat_eq c.in-Ok-Some.byte 10 ≡ false = search rules in
-    ends-no_memory _ c.args.bounds _ _ _ _ _ _ _ _ _ _ c.in-Ok-Some.byte c.session.invariant.so_far took other (omega arith) (omega arith)
-
-pub returns-in-Ok-clause-session : goal.returns-in-Ok-clause-session
-returns-in-Ok-clause-session g c =
-    let took = rw c.in-Ok-None.field-0-is at c.in-Ok-None.ensures.bytes in
-    let put = c.in-Ok.ensures.answered in
-    let asked = rw c.as_slice.ensures.value at put.answered in
-    let some : 0 < length c.session.line.items = search rules in
-    ends-last _ c.args.bounds _ _ _ _ _ _ _ _ _ _ 0 c.session.invariant.so_far _ _ put.reply took (c.in-Ok-None.ensures.end c.in-Ok-None.field-0-is) some (search rules) (search rules) asked put.sent
-
-pub returns-in-Err-answer_line-clause-session : goal.returns-in-Err-answer_line-clause-session
-returns-in-Err-answer_line-clause-session g c =
-    let took = rw c.in-Ok-None.field-0-is at c.in-Ok-None.ensures.bytes in
-    let put = c.in-Err-answer_line.ensures.answered in
-    let asked = rw c.as_slice.ensures.value at put.answered in
-    let some : 0 < length c.session.line.items = search rules in
-    ends-last_unwritten _ c.args.bounds _ _ _ _ _ _ _ _ _ _ 0 c.session.invariant.so_far _ _ put.reply took (c.in-Ok-None.ensures.end c.in-Ok-None.field-0-is) some (search rules) (search rules) asked put.cut
-
-pub returns-in-Err-answer_line-2-clause-session : goal.returns-in-Err-answer_line-2-clause-session
-returns-in-Err-answer_line-2-clause-session g c =
-    let took = rw c.in-Ok-Some.field-0-is at c.in-Ok-Some.ensures.bytes in
-    let put = c.in-Err-answer_line-2.ensures.answered in
-    let asked = rw c.as_slice-else-byte-ne10.ensures.value at put.answered in
-    ends-line_unwritten _ c.args.bounds _ _ _ _ _ _ _ _ _ _ c.in-Ok-Some.byte c.session.invariant.so_far _ _ put.reply took c.if-byte-ne10.false (omega arith) (omega arith) asked put.cut
-
 pub session-preserved : goal.session-preserved
 session-preserved g c =
-    let gave = rw c.in-Ok-Some.field-0-is at c.in-Ok-Some.ensures.gives in
-    let took = rw c.in-Ok-Some.field-0-is at c.in-Ok-Some.ensures.bytes in
-    let put = c.in-Ok-answer_line.ensures.answered in
+    let next = rw c.in-Some.is at c.in_ok-byte.ensures.next in
+    let put = c.in_ok-answer_line-2.ensures.answered in
     let asked = rw c.as_slice-else-byte-ne10.ensures.value at put.answered in
     record {
-      so_far = rw c.clear.ensures.items (progress-line _ _ _ _ _ _ _ _ _ _ _ c.in-Ok-Some.byte _ _ put.reply c.session.invariant.so_far took c.if-byte-ne10.false asked put.sent);
+      so_far = rw c.clear.ensures.items (progress-line _ _ _ _ _ _ _ _ _ _ _ c.in-Some.byte _ _ put.reply c.session.invariant.so_far next.0 c.if-byte-ne10.false asked put.sent);
       lines_within = omega arith;
       bytes_within = omega arith;
       room = search rules;
-      well = one-more _ _ _ _ _ c.session.invariant.well c.in-Ok-Some.ensures.gives;
-      took = takes-byte _ _ _ _ _ c.in-Ok-Some.byte c.session.invariant.took gave;
+      well = and-then _ _ _ _ c.session.invariant.well c.in_ok-byte.ensures.reads;
+      took = takes-more _ c.session.bytes 1 _ _ _ _ c.session.invariant.took c.in_ok-byte.ensures.bounded (omega arith);
       read_sound = search rules;
       write_sound = search rules;
     }
 
 -- No read is made after one that failed.
-pub returns-in-Err-clause-reads : goal.returns-in-Err-clause-reads
-returns-in-Err-clause-reads g c = then-failed _ _ _ _ _ c.session.invariant.well c.in-Err.ensures.gives
+pub returns-in_err-byte-clause-reads : goal.returns-in_err-byte-clause-reads
+returns-in_err-byte-clause-reads g c =
+    let p = err_from_is_err_and c.from_residual.result c.from_residual.ensures.1 in
+    rw (p.1, p.2) (until-then _ _ _ _ _ c.session.invariant.well c.in_err-byte.ensures.reads)
 
 pub returns-then-is_empty-clause-reads : goal.returns-then-is_empty-clause-reads
-returns-then-is_empty-clause-reads g c = one-more _ _ _ _ _ c.session.invariant.well c.in-Ok-None.ensures.gives
+returns-then-is_empty-clause-reads g c =
+    and-then _ _ _ _ c.session.invariant.well c.in_ok-byte.ensures.reads
 
-pub returns-in-Ok-clause-reads : goal.returns-in-Ok-clause-reads
-returns-in-Ok-clause-reads g c = one-more _ _ _ _ _ c.session.invariant.well c.in-Ok-None.ensures.gives
+pub returns-in_default-clause-reads : goal.returns-in_default-clause-reads
+returns-in_default-clause-reads g c =
+    and-then _ _ _ _ c.session.invariant.well c.in_ok-byte.ensures.reads
 
-pub returns-in-Err-answer_line-clause-reads : goal.returns-in-Err-answer_line-clause-reads
-returns-in-Err-answer_line-clause-reads g c = one-more _ _ _ _ _ c.session.invariant.well c.in-Ok-None.ensures.gives
+pub returns-in-Err-clause-reads : goal.returns-in-Err-clause-reads
+returns-in-Err-clause-reads g c =
+    and-then _ _ _ _ c.session.invariant.well c.in_ok-byte.ensures.reads
 
-pub returns-then-lines-bounds-clause-reads : goal.returns-then-lines-bounds-clause-reads
-returns-then-lines-bounds-clause-reads g c = one-more _ _ _ _ _ c.session.invariant.well c.in-Ok-Some.ensures.gives
+pub returns-in_err-answer_line-clause-reads : goal.returns-in_err-answer_line-clause-reads
+returns-in_err-answer_line-clause-reads g c =
+    let p = err_from_is_err_and c.from_residual-in_err-answer_line.result c.from_residual-in_err-answer_line.ensures.1 in
+    rw (p.1, p.2, c.in_err-answer_line.ensures.unwritten) (and-then _ _ _ _ c.session.invariant.well c.in_ok-byte.ensures.reads)
 
-pub returns-then-bytes-bounds-clause-reads : goal.returns-then-bytes-bounds-clause-reads
-returns-then-bytes-bounds-clause-reads g c = one-more _ _ _ _ _ c.session.invariant.well c.in-Ok-Some.ensures.gives
-
-pub returns-in-Err-push-clause-reads : goal.returns-in-Err-push-clause-reads
-returns-in-Err-push-clause-reads g c = one-more _ _ _ _ _ c.session.invariant.well c.in-Ok-Some.ensures.gives
-
-pub returns-in-Err-answer_line-2-clause-reads : goal.returns-in-Err-answer_line-2-clause-reads
-returns-in-Err-answer_line-2-clause-reads g c = one-more _ _ _ _ _ c.session.invariant.well c.in-Ok-Some.ensures.gives
+pub returns-in_err-answer_line-2-clause-reads : goal.returns-in_err-answer_line-2-clause-reads
+returns-in_err-answer_line-2-clause-reads g c =
+    let p = err_from_is_err_and c.from_residual-in_err-answer_line-2.result c.from_residual-in_err-answer_line-2.ensures.1 in
+    rw (p.1, p.2, c.in_err-answer_line-2.ensures.unwritten) (and-then _ _ _ _ c.session.invariant.well c.in_ok-byte.ensures.reads)
 
 -- No more bytes are taken than the bound and one.
-pub returns-in-Err-clause-bounded : goal.returns-in-Err-clause-bounded
-returns-in-Err-clause-bounded g c =
-    takes-fewer _ c.session.bytes _ _ _ (takes-failure _ _ _ _ _ _ c.session.invariant.took c.in-Err.ensures.gives) (omega arith)
+pub returns-in_err-byte-clause-bounded : goal.returns-in_err-byte-clause-bounded
+returns-in_err-byte-clause-bounded g c =
+    takes-more _ c.session.bytes 1 _ _ _ _ c.session.invariant.took c.in_err-byte.ensures.bounded (omega arith)
 
 pub returns-then-is_empty-clause-bounded : goal.returns-then-is_empty-clause-bounded
 returns-then-is_empty-clause-bounded g c =
-    let gave = rw c.in-Ok-None.field-0-is at c.in-Ok-None.ensures.gives in
-    takes-fewer _ c.session.bytes _ _ _ (takes-end _ _ _ _ _ c.session.invariant.took gave) (omega arith)
+    takes-more _ c.session.bytes 1 _ _ _ _ c.session.invariant.took c.in_ok-byte.ensures.bounded (omega arith)
 
-pub returns-in-Ok-clause-bounded : goal.returns-in-Ok-clause-bounded
-returns-in-Ok-clause-bounded g c =
-    let gave = rw c.in-Ok-None.field-0-is at c.in-Ok-None.ensures.gives in
-    takes-fewer _ c.session.bytes _ _ _ (takes-end _ _ _ _ _ c.session.invariant.took gave) (omega arith)
+pub returns-in_default-clause-bounded : goal.returns-in_default-clause-bounded
+returns-in_default-clause-bounded g c =
+    takes-more _ c.session.bytes 1 _ _ _ _ c.session.invariant.took c.in_ok-byte.ensures.bounded (omega arith)
 
-pub returns-in-Err-answer_line-clause-bounded : goal.returns-in-Err-answer_line-clause-bounded
-returns-in-Err-answer_line-clause-bounded g c =
-    let gave = rw c.in-Ok-None.field-0-is at c.in-Ok-None.ensures.gives in
-    takes-fewer _ c.session.bytes _ _ _ (takes-end _ _ _ _ _ c.session.invariant.took gave) (omega arith)
+pub returns-in_err-answer_line-clause-bounded : goal.returns-in_err-answer_line-clause-bounded
+returns-in_err-answer_line-clause-bounded g c =
+    takes-more _ c.session.bytes 1 _ _ _ _ c.session.invariant.took c.in_ok-byte.ensures.bounded (omega arith)
 
-pub returns-then-lines-bounds-clause-bounded : goal.returns-then-lines-bounds-clause-bounded
-returns-then-lines-bounds-clause-bounded g c =
-    let gave = rw c.in-Ok-Some.field-0-is at c.in-Ok-Some.ensures.gives in
-    takes-fewer _ (c.session.bytes + 1) _ _ _ (takes-byte _ _ _ _ _ c.in-Ok-Some.byte c.session.invariant.took gave) (omega arith)
+pub returns-in-Err-clause-bounded : goal.returns-in-Err-clause-bounded
+returns-in-Err-clause-bounded g c =
+    takes-more _ c.session.bytes 1 _ _ _ _ c.session.invariant.took c.in_ok-byte.ensures.bounded (omega arith)
 
-pub returns-then-bytes-bounds-clause-bounded : goal.returns-then-bytes-bounds-clause-bounded
-returns-then-bytes-bounds-clause-bounded g c =
-    let gave = rw c.in-Ok-Some.field-0-is at c.in-Ok-Some.ensures.gives in
-    takes-fewer _ (c.session.bytes + 1) _ _ _ (takes-byte _ _ _ _ _ c.in-Ok-Some.byte c.session.invariant.took gave) (omega arith)
-
-pub returns-in-Err-push-clause-bounded : goal.returns-in-Err-push-clause-bounded
-returns-in-Err-push-clause-bounded g c =
-    let gave = rw c.in-Ok-Some.field-0-is at c.in-Ok-Some.ensures.gives in
-    takes-fewer _ (c.session.bytes + 1) _ _ _ (takes-byte _ _ _ _ _ c.in-Ok-Some.byte c.session.invariant.took gave) (omega arith)
-
-pub returns-in-Err-answer_line-2-clause-bounded : goal.returns-in-Err-answer_line-2-clause-bounded
-returns-in-Err-answer_line-2-clause-bounded g c =
-    let gave = rw c.in-Ok-Some.field-0-is at c.in-Ok-Some.ensures.gives in
-    takes-fewer _ (c.session.bytes + 1) _ _ _ (takes-byte _ _ _ _ _ c.in-Ok-Some.byte c.session.invariant.took gave) (omega arith)
+pub returns-in_err-answer_line-2-clause-bounded : goal.returns-in_err-answer_line-2-clause-bounded
+returns-in_err-answer_line-2-clause-bounded g c =
+    takes-more _ c.session.bytes 1 _ _ _ _ c.session.invariant.took c.in_ok-byte.ensures.bounded (omega arith)

@@ -1,4 +1,4 @@
-use Rattle.std.proofs.Common.{rules, arith, inl, ◌≡◌, ◌+◌, ◌-◌, ◌≤◌, length}
+use Rattle.std.proofs.Common.{rules, arith, inl, ◌≡◌, ◌-◌, length}
 use Rattle.desk_session.specs.Start.{desk_of}
 use Rattle.desk_session.proofs.MapDesk.{started}
 use Rattle.desk_session.proofs.Reading.{and-then, until-then, takes-more, takes-fewer}
