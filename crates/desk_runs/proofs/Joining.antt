@@ -1,6 +1,6 @@
 -- The operator's pass, while the passes of the planners are joined into it, and what the desk has then.
 use Rattle.std.specs.Prelude.{IfOk}
-use Rattle.std.proofs.Common.{◌≡◌, ℕ, ◌+◌, ◌<◌, ◌≤◌, List, [], ◌∷◌, length, Option, Result, arith, refl, sym, ap, subst, ◌∙◌}
+use Rattle.std.proofs.Common.{◌≡◌, ℕ, ◌+◌, ◌<◌, ◌≤◌, List, [], ◌∷◌, length, Result, arith, refl, sym, ap, subst, ◌∙◌}
 use Rattle.std.proofs.lemmas.List.{append-nil}
 use Rattle.std.proofs.lemmas.List.Elements.{All-nil, All-same}
 use mathlib.Core.List.{IsPrefix}
@@ -10,7 +10,6 @@ use Rattle.desk_core.specs.State.{DeskState, after}
 use Rattle.desk_shared.specs.Calls.{IsClosed, IsFirst, IsJoined, IsSplit}
 use Rattle.desk_shared.specs.Passes.{PassState, Held, Sharing, AreOfPlanners, HasJust, own_of, version_at}
 use Rattle.desk_runs.proofs.Gathering.{own_at, own_kept, one_more_joined}
-use Rattle.desk_runs.specs.Drills.{AreJoined}
 use Rattle.desk_session.specs.Windows.{window_on}
 use Rattle.desk_runs.specs.Hosts.{AreSeated, HasHosted, Hosts, Inputs, IsCompared, IsEnded, IsSeated}
 use Rattle.desk_runs.specs.declared.hosts.hosting.HostEnd.{HostEnd}

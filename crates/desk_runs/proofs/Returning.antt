@@ -1,5 +1,5 @@
 -- What is saved of a desk gives the desk back where it was opened.
-use Rattle.std.proofs.Common.{◌≡◌, ◌≤◌, ◌⊎◌, ℕ, List, [], ◌∷◌, Option, Some, None, Result, Ok, Err, inl, inr, refl, sym, ap, subst, ◌∙◌}
+use Rattle.std.proofs.Common.{◌≡◌, ◌≤◌, ◌⊎◌, ℕ, List, [], ◌∷◌, Some, Result, Ok, Err, inl, inr, refl, sym, ap, subst, ◌∙◌}
 use Rattle.scene_edits.specs.Scene.{SceneState}
 use Rattle.scene_edits.proofs.Returning.{edits_keep_size_holds}
 use Rattle.scene_edits.specs.InOrder.{edited_all}

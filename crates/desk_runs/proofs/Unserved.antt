@@ -79,7 +79,7 @@ desk_unserved text scen agents mode limit (Some journal) fault (inr f) =
     ]
 
 -- the faults of a session are told as they are
-pub session_told : (why : ServeFault) → (is_of_source (of_session why) ≡ is_read_failed {T = ℕ} (Err why)) × (is_of_sink (of_session why) ≡ is_write_failed (Err why))
+pub session_told : (why : ServeFault) → (is_of_source (of_session why) ≡ is_read_failed {T = ℕ} (Err why)) × (is_of_sink (of_session why) ≡ is_write_failed {T = ℕ} (Err why))
 session_told session.ReadFailed = (refl, refl)
 session_told session.WriteFailed = (refl, refl)
 session_told session.TooManyLines = (refl, refl)

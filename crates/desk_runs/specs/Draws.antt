@@ -1,5 +1,5 @@
 -- A run of `draw`: the picture of the scene that a map, a scenario, and a journal or a solver's paths make (this project's choice).
-use Rattle.std.specs.Prelude.{◌≡◌, ◌⊎◌, ℕ, List, Option, None, option_map, unwrap_or}
+use Rattle.std.specs.Prelude.{◌≡◌, ◌⊎◌, ℕ, List, Option, None, unwrap_or}
 use Rattle.plan_table.specs.declared.tracks.Mode.{Mode}
 use Rattle.scene_edits.specs.Scene.{SceneState}
 use Rattle.desk_report.specs.Report.{IsReportOf}
@@ -8,6 +8,7 @@ use Rattle.desk_core.specs.State.{DeskState}
 use Rattle.desk_core.specs.declared.limits.TheConstants.{MOST_ENTRIES}
 use Rattle.desk_pictures.specs.Growth.{GrowsAround}
 use Rattle.desk_pictures.specs.Marks.{findings_text}
+use Rattle.desk_runs.specs.Opens.{bytes_of}
 use Rattle.desk_runs.specs.Opened.{OpensDesk, IsDeskFault}
 use Rattle.desk_runs.specs.declared.faults.RunFault.{RunFault}
 use Rattle.desk_runs.specs.Checks.{IsPlanned}
@@ -31,12 +32,12 @@ pub record HasDeskFault (map : List ℕ) (scen : Option (List ℕ)) (agents : �
 
 -- the scene that is drawn
 abbrev pub IsDrawn : List ℕ → Option (List ℕ) → Option ℕ → Mode → Courses → SceneState → Type 0
-IsDrawn map scen agents mode (Journal journal) scene = IsReplayed map scen (unwrap_or agents 0) mode (option_map (λ text. text.now) journal) scene
+IsDrawn map scen agents mode (Journal journal) scene = IsReplayed map scen (unwrap_or agents 0) mode (bytes_of journal) scene
 IsDrawn map scen agents mode (Solver paths) scene = IsPlanned map scen agents mode paths.now None scene
 
 -- the texts make no scene, and this is their first fault
 abbrev pub IsSceneFault : List ℕ → Option (List ℕ) → Option ℕ → Mode → Courses → CheckFault → Type 0
-IsSceneFault map scen agents mode (Journal journal) fault = HasDeskFault map scen (unwrap_or agents 0) mode (option_map (λ text. text.now) journal) fault
+IsSceneFault map scen agents mode (Journal journal) fault = HasDeskFault map scen (unwrap_or agents 0) mode (bytes_of journal) fault
 IsSceneFault map scen agents mode (Solver paths) fault = IsPlanFault map scen agents mode paths.now None fault
 
 -- what is written has a mark for each visit and entry of the scene's report, and no other

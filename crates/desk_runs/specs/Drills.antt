@@ -29,6 +29,14 @@ use Rattle.desk_runs.specs.Runs.{run_bounds}
 abbrev pub KeepsFrom : ℕ → ℕ → List Bool → Type 0
 KeepsFrom first planners unused = (number : ℕ) → (slice_index_or unused number false ≡ true → (first ≤ number) × (number < planners)) × (first ≤ number → number < planners → slice_index_or unused number false ≡ true)
 
+-- the pass has seen nothing, and may give the numbers behind that one to so many planners
+pub record MaySplit (desk : Sharing) (pass : Held) (number many : ℕ) : Type 0 where
+  pub owned : Owns desk pass
+  pub few : number + many < 256
+  pub kept : KeepsFrom (number + 1) (number + many + 1) pass.known.unused
+  pub nothing_seen : pass.known.made ≡ []
+  pub none_joined : pass.known.past ≡ []
+
 -- the bytes of each script
 abbrev pub texts_of : List (Vec ℕ Global) → List (List ℕ)
 texts_of [] = []

@@ -1,5 +1,6 @@
 -- The scene that a run opens: a map, a mode, and the agents of the first tasks of a scenario (this project's choice).
-use Rattle.std.specs.Prelude.{◌≡◌, ◌⊎◌, ℕ, List, [], Option, Some, None, Ok, Err}
+use Rattle.std.specs.Prelude.{◌≡◌, ◌⊎◌, ℕ, List, [], Option, Some, None, Ok, Err, option_map}
+use Rattle.std.specs.Borrow.{Bor}
 use Rattle.grid_cells.specs.Grid.{Chart}
 use Rattle.plan_table.specs.declared.tracks.Mode.{Mode}
 use Rattle.bench_reader.specs.Lines.{lines_of}
@@ -15,6 +16,10 @@ use Rattle.scene_edits.specs.Tasks.{TasksAnswered}
 use Rattle.scene_edits.specs.declared.tasks.TaskFault.{TaskFault}
 use Rattle.desk_runs.specs.Faults.{of_map, of_scen, of_tasks}
 use Rattle.desk_runs.specs.declared.faults.RunFault.{RunFault}
+
+-- the bytes of a text, where one is handed in
+abbrev pub bytes_of : Option (Bor (List ℕ)) → Option (List ℕ)
+bytes_of text = option_map (λ bytes. bytes.now) text
 
 -- the scene of a map with no scenario: no agent is on it
 pub record OpensBare (map : List ℕ) (mode : Mode) (scene : SceneState) : Type 0 where

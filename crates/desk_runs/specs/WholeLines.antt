@@ -1,5 +1,5 @@
 -- A source of whole lines: it hands on what another gives, and fails where that ends within a line (this project's choice).
-use Rattle.std.specs.Prelude.{◌≡◌, ℕ, List, Option, Some, None, Result, Ok, Bool, true, not, nat_eq, IsTrue, is_err}
+use Rattle.std.specs.Prelude.{◌≡◌, ℕ, Option, Some, None, Result, Ok, Bool, true, not, nat_eq, IsTrue, is_err}
 use Rattle.desk_report.specs.Bytes.{Giving}
 use Rattle.desk_report.specs.declared.bytes.source.ReadFailed.{ReadFailed}
 

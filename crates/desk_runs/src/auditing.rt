@@ -1,7 +1,8 @@
-ghost use Rattle.std.specs.Prelude.{◌≡◌, ◌≤◌, ◌||◌, IfErr, IfOk, OnOk, option_map};
+ghost use Rattle.std.specs.Prelude.{◌≡◌, ◌≤◌, ◌||◌, IfErr, IfOk, OnOk};
 ghost use Rattle.desk_report.specs.Report.{IsReportOf};
 ghost use Rattle.desk_runs.specs.Audits.{Audits, FailsAudit};
 ghost use Rattle.desk_runs.specs.Faults.{is_write_fault};
+ghost use Rattle.desk_runs.specs.Opens.{bytes_of};
 
 use crate::faults::RunFault;
 use crate::opening::open_desk;
@@ -36,10 +37,8 @@ pub fn run_audit<T: Threads + Wait, W: Sink>(
     writer: &mut W,
 ) -> Result<(), RunFault>
     requires workers { (1 ≤ workers) × (workers ≤ 64) }
-    ensures audited { OnOk result (Audits map.now (option_map (λ text. text.now) scen.entry) agents mode (option_map (λ text. text.now) journal.entry)
-        (W.held writer.old) (W.held writer.new)) }
-    ensures refused { IfErr result (FailsAudit map.now (option_map (λ text. text.now) scen.entry) agents mode (option_map (λ text. text.now) journal.entry)
-        (W.held writer.old) (W.held writer.new)) }
+    ensures audited { OnOk result (Audits map.now (bytes_of scen.entry) agents mode (bytes_of journal.entry) (W.held writer.old) (W.held writer.new)) }
+    ensures refused { IfErr result (FailsAudit map.now (bytes_of scen.entry) agents mode (bytes_of journal.entry) (W.held writer.old) (W.held writer.new)) }
     ensures broken { W.broken writer.new ≡ (W.broken writer.old || is_write_fault result) }
 {
     let Some(limit) = Limit::new(MOST_ENTRIES) else {

@@ -1,6 +1,7 @@
-ghost use Rattle.std.specs.Prelude.{◌≡◌, ◌≢◌, ◌⊎◌, ◌≤◌, ◌||◌, IfErr, OnOk, option_map};
+ghost use Rattle.std.specs.Prelude.{◌≡◌, ◌≢◌, ◌⊎◌, ◌≤◌, ◌||◌, IfErr, OnOk};
 ghost use Rattle.desk_runs.specs.CheckFaults.{has_write_failed};
 ghost use Rattle.desk_runs.specs.Draws.{Draws, FailsDraw, IsPictureOf};
+ghost use Rattle.desk_runs.specs.Opens.{bytes_of};
 
 use crate::auditing::report_of;
 use crate::checks::{CheckFault, planned_scene};
@@ -65,9 +66,8 @@ pub fn run_draw<T: Threads + Wait, W: Sink>(
     writer: &mut W,
 ) -> Result<(), CheckFault>
     requires workers { (1 ≤ workers) × (workers ≤ 64) }
-    ensures ok { OnOk result (Draws map.now (option_map (λ text. text.now) scen.entry) agents mode courses.entry frame.now.at
-        (W.held writer.old) (W.held writer.new)) }
-    ensures err { IfErr result (FailsDraw map.now (option_map (λ text. text.now) scen.entry) agents mode courses.entry) }
+    ensures ok { OnOk result (Draws map.now (bytes_of scen.entry) agents mode courses.entry frame.now.at (W.held writer.old) (W.held writer.new)) }
+    ensures err { IfErr result (FailsDraw map.now (bytes_of scen.entry) agents mode courses.entry) }
     ensures broken { W.broken writer.new ≡ (W.broken writer.old || has_write_failed result) }
     ensures silent { IfErr result (λ fault. fault ≢ CheckFault.WriteFailed → W.held writer.new ≡ W.held writer.old) }
 {
@@ -78,21 +78,13 @@ pub fn run_draw<T: Threads + Wait, W: Sink>(
         Courses::Journal(journal) => {
             let agents = agents.unwrap_or(0);
             match open_desk(alloc, map, scen, agents, limit, mode, journal) {
-                Ok(desk) => {
-                    let drawn = draw_scene(rt, alloc, desk.scene(), frame, workers, writer);
-                    drop(desk);
-                    drawn
-                }
+                Ok(desk) => draw_scene(rt, alloc, desk.scene(), frame, workers, writer),
                 Err(fault) => Err(CheckFault::from(fault)),
             }
         }
         Courses::Solver(paths) => {
             match planned_scene(alloc, map, scen, agents, mode, paths, None) {
-                Ok(scene) => {
-                    let drawn = draw_scene(rt, alloc, &scene, frame, workers, writer);
-                    drop(scene);
-                    drawn
-                }
+                Ok(scene) => draw_scene(rt, alloc, &scene, frame, workers, writer),
                 Err(fault) => Err(fault),
             }
         }

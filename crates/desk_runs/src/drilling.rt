@@ -1,7 +1,8 @@
-ghost use Rattle.std.specs.Prelude.{◌≡◌, ◌↔◌, ◌≤◌, ◌||◌, length, IfErr, IfOk, IsTrue, option_map};
+ghost use Rattle.std.specs.Prelude.{◌≡◌, ◌↔◌, ◌≤◌, ◌||◌, length, IfErr, IfOk, IsTrue};
 ghost use Rattle.desk_runs.specs.DrillFaults.{FailsDrill, FailsUnwritten};
 ghost use Rattle.desk_runs.specs.Drills.{ComesTo, Drills, texts_of};
 ghost use Rattle.desk_runs.specs.Faults.{is_write_fault};
+ghost use Rattle.desk_runs.specs.Opens.{bytes_of};
 
 use crate::faults::RunFault;
 use crate::hearing::{AtGate, Hearing};
@@ -12,7 +13,6 @@ use crate::sharing::{end_sharing, last_report, share};
 use desk_audit::Gate;
 use desk_core::Reading;
 use desk_report::{Report, Sink, WriteFailed};
-use grid_cells::OutOfMemory;
 use plan_table::Mode;
 use std::alloc::Global;
 use std::sync::Wait;
@@ -44,10 +44,8 @@ pub fn run_drill<R: Threads + Wait + Sync, G: Gate, W: Sink>(
     writer: &mut W,
 ) -> Result<bool, RunFault>
     requires workers { (1 ≤ workers) × (workers ≤ 64) }
-    ensures drilled { IfOk result (Drills map.now (option_map (λ text. text.now) scen.entry) agents mode (texts_of scripts.items)
-        (W.held writer.old) (W.held writer.new)) }
-    ensures refused { IfErr result (FailsDrill map.now (option_map (λ text. text.now) scen.entry) agents mode (texts_of scripts.items)
-        (W.held writer.old) (W.held writer.new)) }
+    ensures drilled { IfOk result (Drills map.now (bytes_of scen.entry) agents mode (texts_of scripts.items) (W.held writer.old) (W.held writer.new)) }
+    ensures refused { IfErr result (FailsDrill map.now (bytes_of scen.entry) agents mode (texts_of scripts.items) (W.held writer.old) (W.held writer.new)) }
     ensures broken { W.broken writer.new ≡ (W.broken writer.old || is_write_fault result) }
 {
     let along = AtGate { gate };
@@ -75,10 +73,8 @@ pub fn hear_drill<R: Threads + Wait + Sync, H: Hearing + Sync, W: Sink>(
     writer: &mut W,
 ) -> Result<bool, RunFault>
     requires workers { (1 ≤ workers) × (workers ≤ 64) }
-    ensures drilled { IfOk result (Drills map.now (option_map (λ text. text.now) scen.entry) agents mode (texts_of scripts.items)
-        (W.held writer.old) (W.held writer.new)) }
-    ensures refused { IfErr result (FailsDrill map.now (option_map (λ text. text.now) scen.entry) agents mode (texts_of scripts.items)
-        (W.held writer.old) (W.held writer.new)) }
+    ensures drilled { IfOk result (Drills map.now (bytes_of scen.entry) agents mode (texts_of scripts.items) (W.held writer.old) (W.held writer.new)) }
+    ensures refused { IfErr result (FailsDrill map.now (bytes_of scen.entry) agents mode (texts_of scripts.items) (W.held writer.old) (W.held writer.new)) }
     ensures broken { W.broken writer.new ≡ (W.broken writer.old || is_write_fault result) }
 {
     if scripts.len() > MOST_SCRIPTS {
@@ -114,17 +110,14 @@ fn drilled<R: Threads + Wait + Sync, H: Hearing + Sync>(
 ) -> Result<(Reading, bool), RunFault>
     requires workers { (1 ≤ workers) × (workers ≤ 64) }
     requires few { length scripts.now ≤ MOST_SCRIPTS }
-    ensures drilled { IfOk result (λ end. ComesTo map.now (option_map (λ text. text.now) scen.entry) agents mode (texts_of scripts.now) end.0 end.1) }
-    ensures refused { IfErr result (FailsUnwritten map.now (option_map (λ text. text.now) scen.entry) agents mode (texts_of scripts.now)) }
+    ensures drilled { IfOk result (λ end. ComesTo map.now (bytes_of scen.entry) agents mode (texts_of scripts.now) end.0 end.1) }
+    ensures refused { IfErr result (FailsUnwritten map.now (bytes_of scen.entry) agents mode (texts_of scripts.now)) }
 {
     let scene = match scene_of(alloc, map, scen, agents, mode) {
         Ok(scene) => scene,
         Err(fault) => return Err(fault),
     };
-    let (shared, first) = match share(alloc, scene, scripts.len() as u32 + 1) {
-        Ok(shared) => shared,
-        Err(fault) => return Err(fault),
-    };
+    let (shared, first) = share(alloc, scene, scripts.len() as u32 + 1)?;
     let (first, ended) = serve_scripts(rt, alloc, &shared, first, scripts, hearing);
     match ended {
         Ok(()) => {}
@@ -134,16 +127,10 @@ fn drilled<R: Threads + Wait + Sync, H: Hearing + Sync>(
             return Err(fault);
         }
     }
-    let (reading, desk) = match end_sharing(rt, shared, first) {
-        Ok(ended) => ended,
-        Err(fault) => return Err(fault),
-    };
-    let audited = match last_report(rt, alloc, desk, workers) {
-        Ok(report) => report,
-        Err(OutOfMemory) => {
-            drop(reading);
-            return Err(RunFault::OutOfMemory);
-        }
+    let (reading, desk) = end_sharing(rt, shared, first)?;
+    let Ok(audited) = last_report(rt, alloc, desk, workers) else {
+        drop(reading);
+        return Err(RunFault::OutOfMemory);
     };
     let same = is_same(&reading.report, &audited);
     drop(audited);

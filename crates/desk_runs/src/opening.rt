@@ -1,5 +1,6 @@
-ghost use Rattle.std.specs.Prelude.{IfOk, IfErr, option_map};
+ghost use Rattle.std.specs.Prelude.{IfOk, IfErr};
 ghost use Rattle.desk_runs.specs.Opened.{OpensDesk, IsDeskFault, ReplaysAs};
+ghost use Rattle.desk_runs.specs.Opens.{bytes_of};
 
 use crate::faults::RunFault;
 use crate::scenes::scene_of;
@@ -24,8 +25,8 @@ pub fn open_desk(
     mode: Mode,
     journal: Option<&[u8]>,
 ) -> Result<Desk, RunFault>
-    ensures opened { IfOk result (OpensDesk map.now (option_map (λ text. text.now) scen.entry) agents mode limit (option_map (λ text. text.now) journal.entry)) }
-    ensures refused { IfErr result (IsDeskFault map.now (option_map (λ text. text.now) scen.entry) agents mode limit (option_map (λ text. text.now) journal.entry)) }
+    ensures opened { IfOk result (OpensDesk map.now (bytes_of scen.entry) agents mode limit (bytes_of journal.entry)) }
+    ensures refused { IfErr result (IsDeskFault map.now (bytes_of scen.entry) agents mode limit (bytes_of journal.entry)) }
 {
     match scene_of(alloc, map, scen, agents, mode) {
         Ok(scene) => replayed(alloc, scene, limit, journal),
@@ -40,7 +41,7 @@ fn replayed(
     limit: Limit,
     journal: Option<&[u8]>,
 ) -> Result<Desk, RunFault>
-    ensures { ReplaysAs (option_map (λ text. text.now) journal.entry) scene limit result }
+    ensures { ReplaysAs (bytes_of journal.entry) scene limit result }
 {
     let Some(text) = journal else {
         return Ok(Desk::open(alloc, scene, limit));

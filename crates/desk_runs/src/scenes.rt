@@ -1,5 +1,5 @@
-ghost use Rattle.std.specs.Prelude.{IfOk, IfErr, option_map};
-ghost use Rattle.desk_runs.specs.Opens.{Opens, IsOpenFault};
+ghost use Rattle.std.specs.Prelude.{IfOk, IfErr};
+ghost use Rattle.desk_runs.specs.Opens.{Opens, IsOpenFault, bytes_of};
 
 use crate::faults::RunFault;
 use bench_reader::{read_map, read_scen};
@@ -19,8 +19,8 @@ pub(crate) fn scene_of(
     agents: u32,
     mode: Mode,
 ) -> Result<Scene, RunFault>
-    ensures opened { IfOk result (Opens map.now (option_map (λ text. text.now) scen.entry) agents mode) }
-    ensures refused { IfErr result (IsOpenFault map.now (option_map (λ text. text.now) scen.entry) agents) }
+    ensures opened { IfOk result (Opens map.now (bytes_of scen.entry) agents mode) }
+    ensures refused { IfErr result (IsOpenFault map.now (bytes_of scen.entry) agents) }
 {
     let grid = match read_map(alloc, map) {
         Ok(grid) => grid,

@@ -1,8 +1,8 @@
 //! The scripts of a drill, each served in a thread of its own over the shared desk.
-ghost use Rattle.std.specs.Prelude.{◌≡◌, ◌≤◌, ◌<◌, ◌+◌, [], length, IfErr, OnOk};
+ghost use Rattle.std.specs.Prelude.{◌≡◌, ◌+◌, length, IfErr, IfOk, OnOk};
 ghost use Rattle.desk_shared.specs.Passes.{Owns};
 ghost use Rattle.desk_runs.specs.DrillFaults.{IsScriptsFault};
-ghost use Rattle.desk_runs.specs.Drills.{HasGathered, HasServed, IsSession, KeepsFrom, texts_of};
+ghost use Rattle.desk_runs.specs.Drills.{HasGathered, HasServed, IsSession, MaySplit, texts_of};
 
 use crate::faults::RunFault;
 use crate::heard::Heard;
@@ -11,11 +11,12 @@ use crate::serving::BOUNDS;
 use desk_report::Tap;
 use desk_session::{ServeFault, Window, serve};
 use desk_shared::{Pass, SharedDesk};
+use grid_cells::OutOfMemory;
 use std::alloc::Global;
 use std::snapshot::Snapshot;
 use std::sync::Wait;
 use std::thread;
-use std::thread::{Promise, Scope, Threads};
+use std::thread::{Promise, PromisedHandle, Scope, Threads};
 
 // What the thread of a script gives back: the pass, and how the session ended.
 type Ended = (Pass, Result<u32, ServeFault>);
@@ -54,35 +55,22 @@ fn serve_script<R: Wait, H: Hearing>(
     (window.into_pass(), ended)
 }
 
-// Serves the scripts, the first of them as planner number + 1, each in a thread that is joined
-// before this returns, and joins their passes into the first one.
-fn serve_all<'s, E: 's, R: Threads + Wait + Sync, H: Hearing + Sync>(
+// Begins the script's session in a thread of its own, unless that is refused.
+fn begin<'s, E: 's, R: Threads + Wait + Sync, H: Hearing + Sync>(
     rt: &'s R,
     alloc: Global,
     scope: &'s Scope<'s, E>,
     desk: &'s SharedDesk,
-    first: &mut Pass,
-    scripts: &'s [Vec<u8>],
+    pass: Pass,
+    text: &'s [u8],
     number: u32,
     hearing: &'s H,
-) -> Result<(), RunFault>
-    requires owned { Owns desk.now first.old }
-    requires few { number + length scripts.now < 256 }
-    requires kept { KeepsFrom (number + 1) (number + length scripts.now + 1) first.old.known.unused }
-    requires nothing_seen { first.old.known.made ≡ [] }
-    requires none_joined { first.old.known.past ≡ [] }
-    ensures owned { Owns desk.now first.new }
-    ensures gathered { HasGathered first.old.known first.new.known }
-    ensures served { OnOk result (HasServed desk.now first.old.known.start first.new.known (number + 1) (texts_of scripts.now)) }
-    ensures refused { IfErr result (IsScriptsFault desk.now first.old.known.start (number + 1) (texts_of scripts.now)) }
+) -> Result<PromisedHandle<Ended, Script<'s>>, OutOfMemory>
+    requires { Owns desk.now pass }
+    ensures desk { IfOk result (λ child. child.promise.desk.now ≡ desk.now) }
+    ensures text { IfOk result (λ child. child.promise.text.now ≡ text.now) }
+    ensures before { IfOk result (λ child. child.promise.before.value ≡ pass) }
 {
-    let Some((script, later)) = scripts.split_first() else {
-        return Ok(());
-    };
-    let Ok(pass) = desk.split(first) else {
-        unreachable!()
-    };
-    let text = script.as_slice();
     let promise = Script {
         desk,
         text,
@@ -96,7 +84,38 @@ fn serve_all<'s, E: 's, R: Threads + Wait + Sync, H: Hearing + Sync>(
             ensures session { IsSession desk.entry.now pass.known text.entry.now result.0.known result.1 }
         { serve_script(rt, alloc, desk, pass, text, number, hearing) },
     );
-    let Ok(child) = started else {
+    match started {
+        Ok(child) => Ok(child),
+        Err(_) => Err(OutOfMemory),
+    }
+}
+
+// Serves the scripts, the first of them as planner number + 1, each in a thread that is joined
+// before this returns, and joins their passes into the first one.
+fn serve_all<'s, E: 's, R: Threads + Wait + Sync, H: Hearing + Sync>(
+    rt: &'s R,
+    alloc: Global,
+    scope: &'s Scope<'s, E>,
+    desk: &'s SharedDesk,
+    first: &mut Pass,
+    scripts: &'s [Vec<u8>],
+    number: u32,
+    hearing: &'s H,
+) -> Result<(), RunFault>
+    requires first { MaySplit desk.now first.old number (length scripts.now) }
+    ensures owned { Owns desk.now first.new }
+    ensures gathered { HasGathered first.old.known first.new.known }
+    ensures served { OnOk result (HasServed desk.now first.old.known.start first.new.known (number + 1) (texts_of scripts.now)) }
+    ensures refused { IfErr result (IsScriptsFault desk.now first.old.known.start (number + 1) (texts_of scripts.now)) }
+{
+    let Some((script, later)) = scripts.split_first() else {
+        return Ok(());
+    };
+    let Ok(pass) = desk.split(first) else {
+        unreachable!()
+    };
+    let text = script.as_slice();
+    let Ok(child) = begin(rt, alloc, scope, desk, pass, text, number, hearing) else {
         return Err(RunFault::OutOfMemory);
     };
     let others = serve_all(rt, alloc, scope, desk, first, later, number + 1, hearing);
@@ -122,11 +141,7 @@ pub fn serve_scripts<R: Threads + Wait + Sync, H: Hearing + Sync>(
     scripts: &[Vec<u8>],
     hearing: &H,
 ) -> (Pass, Result<(), RunFault>)
-    requires owned { Owns desk.now first }
-    requires few { length scripts.now < 256 }
-    requires kept { KeepsFrom 1 (length scripts.now + 1) first.known.unused }
-    requires nothing_seen { first.known.made ≡ [] }
-    requires none_joined { first.known.past ≡ [] }
+    requires first { MaySplit desk.now first 0 (length scripts.now) }
     ensures owned { Owns desk.now result.0 }
     ensures gathered { HasGathered first.known result.0.known }
     ensures served { OnOk result.1 (HasServed desk.now first.known.start result.0.known 1 (texts_of scripts.now)) }
@@ -136,11 +151,7 @@ pub fn serve_scripts<R: Threads + Wait + Sync, H: Hearing + Sync>(
         thread::scope_env(),
         rt,
         move |scope| -> (Pass, Result<(), RunFault>)
-            requires owned { Owns desk.now first }
-            requires few { length scripts.now < 256 }
-            requires kept { KeepsFrom 1 (length scripts.now + 1) first.known.unused }
-            requires nothing_seen { first.known.made ≡ [] }
-            requires none_joined { first.known.past ≡ [] }
+            requires first { MaySplit desk.now first 0 (length scripts.now) }
             ensures owned { Owns desk.entry.now result.0 }
             ensures gathered { HasGathered first.known result.0.known }
             ensures served { OnOk result.1 (HasServed desk.entry.now first.known.start result.0.known 1 (texts_of scripts.entry.now)) }

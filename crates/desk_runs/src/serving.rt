@@ -1,8 +1,9 @@
-ghost use Rattle.std.specs.Prelude.{◌≡◌, ◌||◌, option_map};
+ghost use Rattle.std.specs.Prelude.{◌≡◌, ◌||◌};
 ghost use Rattle.desk_session.specs.Reads.{ReadsUntil};
 ghost use Rattle.desk_runs.specs.Faults.{is_read_fault, is_write_fault};
 ghost use Rattle.desk_runs.specs.Runs.{Runs};
 ghost use Rattle.desk_runs.specs.Sittings.{Sits, SitsOver, sink_failed, source_failed};
+ghost use Rattle.desk_runs.specs.Opens.{bytes_of};
 
 use crate::faults::RunFault;
 use crate::opening::open_desk;
@@ -41,7 +42,7 @@ pub fn run_serve<R: Source, W: Sink>(
     reader: &mut R,
     writer: &mut W,
 ) -> Result<u32, RunFault>
-    ensures runs { Runs (option_map (λ text. text.now) map.entry) (option_map (λ text. text.now) scen.entry) agents mode limit
+    ensures runs { Runs (bytes_of map.entry) (bytes_of scen.entry) agents mode limit
         (R.left reader.old) (R.left reader.new) (W.held writer.old) (W.held writer.new) result }
     ensures reads { ReadsUntil R.gives reader.old reader.new (is_read_fault result) }
     ensures failed { R.failed reader.new ≡ (R.failed reader.old || is_read_fault result) }
@@ -77,7 +78,7 @@ pub fn serve_desk<R: Source, W: Sink>(
     reader: &mut R,
     writer: &mut W,
 ) -> Result<(Desk, Result<u32, ServeFault>), RunFault>
-    ensures sits { Sits (option_map (λ text. text.now) map.entry) (option_map (λ text. text.now) scen.entry) agents mode limit (option_map (λ text. text.now) journal.entry)
+    ensures sits { Sits (bytes_of map.entry) (bytes_of scen.entry) agents mode limit (bytes_of journal.entry)
         (R.left reader.old) (R.left reader.new) (W.held writer.old) (W.held writer.new) result }
     ensures reads { ReadsUntil R.gives reader.old reader.new (source_failed result) }
     ensures failed { R.failed reader.new ≡ (R.failed reader.old || source_failed result) }
@@ -115,7 +116,7 @@ fn serve_over<R: Source, W: Sink>(
     writer: &mut W,
     bounds: Bounds,
 ) -> Result<(Desk, Result<u32, ServeFault>), RunFault>
-    ensures sits { SitsOver map.now (option_map (λ text. text.now) scen.entry) agents mode limit (option_map (λ text. text.now) journal.entry) bounds
+    ensures sits { SitsOver map.now (bytes_of scen.entry) agents mode limit (bytes_of journal.entry) bounds
         (R.left reader.old) (R.left reader.new) (W.held writer.old) (W.held writer.new) result }
     ensures reads { ReadsUntil R.gives reader.old reader.new (source_failed result) }
     ensures failed { R.failed reader.new ≡ (R.failed reader.old || source_failed result) }

@@ -1,10 +1,11 @@
 //! The scene that a text of paths makes.
-ghost use Rattle.std.specs.Prelude.{◌≡◌, ◌≤◌, length, IfOk, IfErr, OnOk, option_map};
+ghost use Rattle.std.specs.Prelude.{◌≡◌, ◌≤◌, length, IfOk, IfErr, OnOk};
 ghost use Rattle.scene_edits.specs.InOrder.{edited_all, AreAllowed};
 ghost use Rattle.scene_edits.specs.declared.scenes.TheConstants.{MOST_AGENTS};
 ghost use Rattle.desk_runs.specs.CheckEdits.{edits_of, IsOfPaths};
 ghost use Rattle.desk_runs.specs.CheckFaults.{IsPlanFault, IsRefused, Tells};
 ghost use Rattle.desk_runs.specs.Checks.{IsPlanned};
+ghost use Rattle.desk_runs.specs.Opens.{bytes_of};
 
 use crate::checks::edits::edits_of;
 use crate::checks::faults::CheckFault;
@@ -86,8 +87,8 @@ pub(crate) fn planned_scene(
     paths: &[u8],
     form: Option<Form>,
 ) -> Result<Scene, CheckFault>
-    ensures ok { IfOk result (IsPlanned map.now (option_map (λ text. text.now) scen.entry) agents mode paths.now form) }
-    ensures err { IfErr result (IsPlanFault map.now (option_map (λ text. text.now) scen.entry) agents mode paths.now form) }
+    ensures ok { IfOk result (IsPlanned map.now (bytes_of scen.entry) agents mode paths.now form) }
+    ensures err { IfErr result (IsPlanFault map.now (bytes_of scen.entry) agents mode paths.now form) }
 {
     let spelled = match read_paths(alloc, paths, form) {
         Ok(spelled) => spelled,

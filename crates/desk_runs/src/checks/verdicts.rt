@@ -1,7 +1,8 @@
-ghost use Rattle.std.specs.Prelude.{◌≡◌, ◌≢◌, ◌≤◌, ◌↔◌, ◌||◌, IfOk, IfErr, IsTrue, option_map};
+ghost use Rattle.std.specs.Prelude.{◌≡◌, ◌≢◌, ◌≤◌, ◌↔◌, ◌||◌, IfOk, IfErr, IsTrue};
 ghost use Rattle.desk_report.specs.Solves.{Solves};
 ghost use Rattle.desk_runs.specs.Checks.{Checks, IsCheckFault};
 ghost use Rattle.desk_runs.specs.CheckFaults.{has_write_failed};
+ghost use Rattle.desk_runs.specs.Opens.{bytes_of};
 
 use crate::auditing::report_of;
 use crate::checks::faults::CheckFault;
@@ -47,9 +48,8 @@ pub fn run_check<T: Threads + Wait, W: Sink>(
     writer: &mut W,
 ) -> Result<bool, CheckFault>
     requires workers { (1 ≤ workers) × (workers ≤ 64) }
-    ensures ok { IfOk result (Checks map.now (option_map (λ text. text.now) scen.entry) agents mode paths.now form kinds quiet
-        (W.held writer.old) (W.held writer.new)) }
-    ensures err { IfErr result (IsCheckFault map.now (option_map (λ text. text.now) scen.entry) agents mode paths.now form) }
+    ensures ok { IfOk result (Checks map.now (bytes_of scen.entry) agents mode paths.now form kinds quiet (W.held writer.old) (W.held writer.new)) }
+    ensures err { IfErr result (IsCheckFault map.now (bytes_of scen.entry) agents mode paths.now form) }
     ensures broken { W.broken writer.new ≡ (W.broken writer.old || has_write_failed result) }
     ensures silent { IfErr result (λ fault. fault ≢ CheckFault.WriteFailed → W.held writer.new ≡ W.held writer.old) }
 {

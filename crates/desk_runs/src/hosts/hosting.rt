@@ -6,7 +6,7 @@ use crate::hosts::comparing::compare;
 use crate::hosts::seats::{Outcome, SeatFault, Seats};
 use crate::hosts::threads::host_threads;
 use desk_core::Desk;
-use desk_shared::{PassLost, SharedDesk};
+use desk_shared::SharedDesk;
 use grid_cells::OutOfMemory;
 use std::alloc::Global;
 use std::sync::Wait;
@@ -71,20 +71,14 @@ pub fn host_planners<R: Threads + Wait + Sync, S: Seats>(
         drop(desk);
         return Err(HostFault::OutOfMemory);
     };
-    let (shared, first) = match SharedDesk::share(alloc, desk, planners + 1) {
-        Ok(shared) => shared,
-        Err(OutOfMemory) => {
-            drop(outcomes);
-            return Err(HostFault::OutOfMemory);
-        }
+    let Ok((shared, first)) = SharedDesk::share(alloc, desk, planners + 1) else {
+        drop(outcomes);
+        return Err(HostFault::OutOfMemory);
     };
     let (first, operator, outcomes) = host_threads(rt, alloc, &shared, first, seats, outcomes);
-    let mut desk = match shared.close(first) {
-        Ok(desk) => desk,
-        Err(PassLost) => {
-            drop(outcomes);
-            return Err(HostFault::PassLost);
-        }
+    let Ok(mut desk) = shared.close(first) else {
+        drop(outcomes);
+        return Err(HostFault::PassLost);
     };
     let same = compare(rt, alloc, &mut desk, workers);
     Ok(HostEnd {

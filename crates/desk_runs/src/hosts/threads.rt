@@ -1,7 +1,7 @@
 //! Planners served at once, each in a thread of its own, and the operator beside them.
-ghost use Rattle.std.specs.Prelude.{◌≡◌, ◌+◌, ◌<◌, [], length};
+ghost use Rattle.std.specs.Prelude.{◌≡◌, ◌+◌, length};
 ghost use Rattle.desk_shared.specs.Passes.{Owns};
-ghost use Rattle.desk_runs.specs.Drills.{KeepsFrom};
+ghost use Rattle.desk_runs.specs.Drills.{MaySplit};
 ghost use Rattle.desk_runs.specs.Hosts.{HasHosted};
 
 use crate::hosts::seats::{Outcome, Seats};
@@ -21,17 +21,13 @@ fn host_all<'s, E: 's, R: Threads + Wait + Sync, S: Seats>(
     alloc: Global,
     scope: &'s Scope<'s, E>,
     desk: &'s SharedDesk,
-    first: Pass,
+    mut first: Pass,
     seats: &'s S,
     unstarted: &'s AtomicU32,
     number: u32,
     outcomes: &mut [Outcome],
 ) -> (Pass, Outcome)
-    requires owned { Owns desk.now first }
-    requires few { number + length outcomes.old < 256 }
-    requires kept { KeepsFrom (number + 1) (number + length outcomes.old + 1) first.known.unused }
-    requires nothing_seen { first.known.made ≡ [] }
-    requires none_joined { first.known.past ≡ [] }
+    requires first { MaySplit desk.now first number (length outcomes.old) }
     requires operator { first.known.planner ≡ 0 }
     ensures owned { Owns desk.now result.0 }
     ensures as_many { length outcomes.new ≡ length outcomes.old }
@@ -40,21 +36,13 @@ fn host_all<'s, E: 's, R: Threads + Wait + Sync, S: Seats>(
     let Some((outcome, later)) = outcomes.split_first_mut() else {
         return sit(rt, alloc, desk, first, seats, 0, unstarted);
     };
-    let mut first = first;
     let Ok(pass) = desk.split(&mut first) else {
         unreachable!()
     };
-    let sitting = begin(rt, alloc, scope, desk, pass, seats, number + 1, unstarted);
+    let number = number + 1;
+    let sitting = begin(rt, alloc, scope, desk, pass, seats, number, unstarted);
     let (mut first, operator) = host_all(
-        rt,
-        alloc,
-        scope,
-        desk,
-        first,
-        seats,
-        unstarted,
-        number + 1,
-        later,
+        rt, alloc, scope, desk, first, seats, unstarted, number, later,
     );
     let (pass, ended) = match sitting {
         Ok(child) => child.join(rt),
@@ -74,11 +62,7 @@ pub(crate) fn host_threads<R: Threads + Wait + Sync, S: Seats>(
     seats: &S,
     outcomes: Vec<Outcome>,
 ) -> (Pass, Outcome, Vec<Outcome>)
-    requires owned { Owns desk.now first }
-    requires few { length outcomes.items < 256 }
-    requires kept { KeepsFrom 1 (length outcomes.items + 1) first.known.unused }
-    requires nothing_seen { first.known.made ≡ [] }
-    requires none_joined { first.known.past ≡ [] }
+    requires first { MaySplit desk.now first 0 (length outcomes.items) }
     requires operator { first.known.planner ≡ 0 }
     ensures owned { Owns desk.now result.0 }
     ensures as_many { length result.2.items ≡ length outcomes.items }
@@ -89,27 +73,16 @@ pub(crate) fn host_threads<R: Threads + Wait + Sync, S: Seats>(
         thread::scope_env(),
         rt,
         move |scope| -> (Pass, Outcome, Vec<Outcome>)
-            requires owned { Owns desk.now first }
-            requires few { length outcomes.items < 256 }
-            requires kept { KeepsFrom 1 (length outcomes.items + 1) first.known.unused }
-            requires nothing_seen { first.known.made ≡ [] }
-            requires none_joined { first.known.past ≡ [] }
+            requires first { MaySplit desk.now first 0 (length outcomes.items) }
             requires operator { first.known.planner ≡ 0 }
             ensures owned { Owns desk.entry.now result.0 }
             ensures as_many { length result.2.items ≡ length outcomes.items }
             ensures hosted { HasHosted desk.entry.now (S.inputs seats.entry.now) first.known result.0.known 1 result.2.items result.1 }
         {
             let mut outcomes = outcomes;
+            let seated = outcomes.as_mut_slice();
             let (first, operator) = host_all(
-                rt,
-                alloc,
-                scope,
-                desk,
-                first,
-                seats,
-                unstarted,
-                0,
-                outcomes.as_mut_slice(),
+                rt, alloc, scope, desk, first, seats, unstarted, 0, seated,
             );
             (first, operator, outcomes)
         },

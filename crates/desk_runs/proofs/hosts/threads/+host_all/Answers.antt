@@ -1,25 +1,37 @@
-use Rattle.std.proofs.Common.{◌≡◌, ◌+◌, ◌<◌, length, arith, refl}
+use Rattle.std.proofs.Common.{rules, ◌≡◌, ◌+◌, ◌<◌, length, arith, refl}
 use Rattle.desk_runs.specs.Hosts.{IsEnded}
 use Rattle.desk_runs.proofs.Joining.{none_hosted, one_more_hosted}
 use Rattle.desk_runs.proofs.Sitting.{as_promised}
-use Rattle.desk_runs.proofs.Numbering.{keeps_some, least_is_first}
+use Rattle.desk_runs.proofs.Numbering.{keeps_some, least_is_first, split_keeps}
 use Rattle.desk_runs.proofs.hosts.threads.+host_all.Goals as goal
 use Rattle.desk_runs.proofs.hosts.threads.+host_all.Goals.{in-Ok-sitting, in-Err}
 
 pub returns-in_default-clause-hosted : goal.returns-in_default-clause-hosted
 returns-in_default-clause-hosted g t c =
-    none_hosted c.args.desk.now (g.S.Seats.inputs c.args.seats.now) c.args.first c.sit.result.0 _ c.args.outcomes.now _ c.in_default.ensures.cases c.requires.nothing_seen c.requires.none_joined c.requires.operator c.sit.ensures
+    none_hosted c.args.desk.now (g.S.Seats.inputs c.args.seats.now) c.args.first c.sit.result.0 _ c.args.outcomes.now _ c.in_default.ensures.cases c.requires.first.nothing_seen c.requires.first.none_joined c.requires.operator c.sit.ensures
 
 pub unreachable-requires : goal.unreachable-requires
 unreachable-requires g t c =
     let some : c.args.number + 1 < c.args.number + length c.args.outcomes.now + 1 = omega (arith, c.in-Some.ensures.cases.1) in
-    keeps_some _ _ c.args.first.known c.requires.kept some c.in_default-split.ensures.fault.0
+    keeps_some _ _ c.args.first.known c.requires.first.kept some c.in_default-split.ensures.fault.0
+
+pub host_all-first-requires-clause-first : goal.host_all-first-requires-clause-first
+host_all-first-requires-clause-first g t c κs within =
+    let planners : c.args.number + length c.args.outcomes.now + 1 ≡ c.args.number + 1 + length c.in-Some.later.now + 1 = omega (arith, c.in-Some.ensures.cases.1) in
+    let some : c.args.number + 1 < c.args.number + length c.args.outcomes.now + 1 = omega (arith, c.in-Some.ensures.cases.1) in
+    record {
+      owned = search rules;
+      few = omega (arith, c.in-Some.ensures.cases.1);
+      kept = split_keeps _ _ _ c.args.first.known c.split.new.pass.known c.in-Ok.pass.known planners some c.requires.first.kept c.in-Ok.ensures.split;
+      nothing_seen = search rules;
+      none_joined = search rules;
+    }
 
 pub returns-clause-hosted : goal.returns-clause-hosted
 returns-clause-hosted g t c =
     let some : c.args.number + 1 < c.args.number + length c.args.outcomes.now + 1 = omega (arith, c.in-Some.ensures.cases.1) in
     let split = c.in-Ok.ensures.split in
-    let number : c.in-Ok.pass.known.planner ≡ c.args.number + 1 = least_is_first _ _ c.args.first.known _ c.requires.kept some split.number in
+    let number : c.in-Ok.pass.known.planner ≡ c.args.number + 1 = least_is_first _ _ c.args.first.known _ c.requires.first.kept some split.number in
     let ends : IsEnded c.args.desk.now (g.S.Seats.inputs c.args.seats.now (c.args.number + 1)) c.in-Ok.pass c.match-sitting.pass.0 c.match-sitting.pass.1 =
     elim c.match-sitting.branch [
       | in-Ok-sitting w ↦ as_promised c.args.desk.now _ (g.S.Seats.inputs c.args.seats.now (c.args.number + 1)) _ c.in-Ok.pass _ c.match-sitting.pass w.join.result
@@ -27,4 +39,4 @@ returns-clause-hosted g t c =
       | in-Err w ↦ as_promised c.args.desk.now _ (g.S.Seats.inputs c.args.seats.now (c.args.number + 1)) _ c.in-Ok.pass _ c.match-sitting.pass w.in-Err.missed refl refl refl w.pass-is w.in-Err.ensures.missed
     ] in
     one_more_hosted c.args.desk.now (g.S.Seats.inputs c.args.seats.now) c.args.first.known c.split.new.pass.known c.host_all-first.result.0.known c.join-2.new.pass.known c.in-Ok.pass c.match-sitting.pass.0 (c.args.number + 1) c.match-sitting.pass.1 c.host_all-first.result.1 c.host_all-first.new.outcomes
-    c.requires.nothing_seen c.requires.operator number split c.host_all-first.ensures.hosted ends c.join-2.ensures.joined
+    c.requires.first.nothing_seen c.requires.operator number split c.host_all-first.ensures.hosted ends c.join-2.ensures.joined
