@@ -74,7 +74,7 @@ BODIES = [
      "match check_files(rt, check, stages, more) { Ok(solved) => Ok(!solved), Err(fault) => Err(fault) }", "check_ring_by_session"),
     ("agents_of_a_check_need_no_scenario", "checking.rt", "words.agents.is_some() && words.scen.is_none()", "false", "check_other_faults"),
     ("agents_of_a_check_not_handed_on", "checking.rt", "texts.scen,\n        ‹words.agents›", "None", "check_an_agent_without_a_path"),
-    ("scen_of_a_check_dropped", "checking.rt", "scen: ‹scen.as_deref()›", "None", "check_not_at_the_goal_of_its_task"),
+    ("scen_of_a_check_dropped", "checking.rt", "read_files(rt, Some(words.map), ‹words.scen›, Some(words.paths), more)", "None", "check_not_at_the_goal_of_its_task"),
     ("mode_of_a_check_not_handed_on", "checking.rt", "words.mode", "plan_table::Mode::Stay", "check_left_before_it_comes"),
     ("form_not_handed_on", "checking.rt", "words.form", "None", "check_named_form"),
     ("kinds_not_handed_on", "checking.rt", "words.kinds",

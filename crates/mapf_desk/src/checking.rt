@@ -1,8 +1,8 @@
 //! The word `check`.
 use crate::details::{Texts, more_of_check};
 use crate::faults::ProgramFault;
-use crate::files::{file_bytes, named_bytes};
 use crate::finishing::finish;
+use crate::named::read_files;
 use crate::stages::tell_stage;
 use crate::telling::More;
 use desk_report::Spout;
@@ -31,46 +31,23 @@ pub fn check_files<'a, R: Files + AllocGlobal + Print + Eprint + Threads + Wait>
         return Err(ProgramFault::Desk(Fault::AgentsWithoutScen));
     }
     tell_stage(rt, stages, "reading the files");
-    let map = match file_bytes(rt, words.map, more) {
-        Ok(map) => map,
+    let named = match read_files(rt, Some(words.map), words.scen, Some(words.paths), more) {
+        Ok(named) => named,
         Err(fault) => return Err(ProgramFault::Desk(fault)),
     };
-    let scen = match named_bytes(rt, words.scen, more) {
-        Ok(scen) => scen,
-        Err(fault) => {
-            drop(map);
-            return Err(ProgramFault::Desk(fault));
-        }
-    };
-    let paths = match file_bytes(rt, words.paths, more) {
-        Ok(paths) => paths,
-        Err(fault) => {
-            drop(scen);
-            drop(map);
-            return Err(ProgramFault::Desk(fault));
-        }
-    };
     tell_stage(rt, stages, "checking the paths");
-    let texts = Texts {
-        map: Some(map.as_slice()),
-        scen: scen.as_deref(),
-        journal: None,
-    };
-    let checked = check_texts(rt, texts, paths.as_slice(), words, more);
-    drop(paths);
-    drop(scen);
-    drop(map);
+    let checked = check_texts(rt, named.texts(), words, more);
+    drop(named);
     match checked {
         Ok(solved) => Ok(solved),
         Err(fault) => Err(ProgramFault::Check(fault)),
     }
 }
 
-// Checks the paths of a text onto standard output.
+// Checks the texts onto standard output; in place of a journal there are a solver's paths.
 fn check_texts<R: AllocGlobal + Print + Threads + Wait>(
     rt: &R,
     texts: Texts<'_>,
-    paths: &[u8],
     words: &CheckWords<'_>,
     more: &mut More,
 ) -> Result<bool, CheckFault> {
@@ -78,19 +55,19 @@ fn check_texts<R: AllocGlobal + Print + Threads + Wait>(
     let Ok(buffered) = BufWriter::new(alloc, io::writer(rt)) else {
         return Err(CheckFault::Run(RunFault::OutOfMemory));
     };
-    check_onto(rt, alloc, texts, paths, words, buffered, more)
+    check_onto(rt, alloc, texts, words, buffered, more)
 }
 
-// Checks the paths of a text onto a writer.
+// Checks the texts onto a writer.
 fn check_onto<R: Threads + Wait, O: Write + Drop>(
     rt: &R,
     alloc: Global,
     texts: Texts<'_>,
-    paths: &[u8],
     words: &CheckWords<'_>,
     buffered: BufWriter<O>,
     more: &mut More,
 ) -> Result<bool, CheckFault> {
+    let paths = texts.journal.unwrap_or(b"");
     let mut writer = Spout::new(buffered);
     let ended = run_check(
         rt,

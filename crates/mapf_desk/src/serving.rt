@@ -44,11 +44,7 @@ pub fn serve_streams<'a, R: Files + AllocGlobal + Print + Eprint + Input>(
     }
     let mut unsaved = More::none();
     let saved = match desk {
-        Some(desk) => {
-            let saved = save_named(rt, &desk, words.save, &mut unsaved);
-            drop(desk);
-            saved
-        }
+        Some(desk) => save_named(rt, &desk, words.save, &mut unsaved),
         None => Ok(()),
     };
     match saved {
@@ -147,13 +143,10 @@ fn serve_lines<I: Read + Drop, O: Write + Drop>(
         &mut writer,
     );
     let (desk, fault) = match sat {
-        Ok(sat) => {
-            let (desk, ended) = sat;
-            match ended {
-                Ok(_) => (Some(desk), None),
-                Err(fault) => (Some(desk), Some(RunFault::from(fault))),
-            }
-        }
+        Ok((desk, ended)) => match ended {
+            Ok(_) => (Some(desk), None),
+            Err(fault) => (Some(desk), Some(RunFault::from(fault))),
+        },
         Err(fault) => (None, Some(fault)),
     };
     Sat {
