@@ -3,9 +3,9 @@ use Rattle.std.proofs.Common.{◌≡◌, ◌≢◌, inl, inr, ℕ, ◌+◌, ◌�
 use Rattle.grid_cells.specs.Cell.{Point}
 use Rattle.plan_table.specs.Route.{Route, Fleet, position_of}
 use Rattle.where_index.specs.Index.{Contents}
-use Rattle.cell_spots.specs.Spot.{spot}
+use Rattle.where_index.specs.Spots.{spot}
 use Rattle.where_index.specs.Asked.{StandsIn, RestsIn, IsOccupant}
-use Rattle.cell_spots.specs.declared.spot_sets.Spot.{Spot}
+use Rattle.where_index.specs.declared.spot_sets.Spot.{Spot}
 use Rattle.mapf_rules.specs.Finding.{KeepsAll}
 use Rattle.mapf_rules.specs.declared.entries.Conflict.{Conflict}
 use Rattle.conflict_ledger.specs.Sight.{Shows}
@@ -23,18 +23,18 @@ near_here Behind fleet other time here next not there = there
 
 -- what the spot shows in each place is all that it shows
 module _ (fleet : Fleet) (agent : ℕ) (stop : Stop) (lasting : Bool) (s : Spot) (mid entries : List Conflict) where
-  pub seen_all : (stop.before ≢ stop.here → IsShown lasting s stop.past → HasMet fleet agent stop.past Ahead s.agent mid) → KeepsAll mid entries
-      → (IsShown lasting s stop.time → HasMet fleet agent stop.time Beside s.agent entries) → (IsShown lasting s (stop.time + 1) → HasMet fleet agent stop.time Behind s.agent entries) → HasSeen fleet agent stop lasting entries s
+  pub seen_all : (stop.before ≢ stop.here → IsShown lasting s stop.past → HasMet fleet agent stop.past Ahead s.step.agent mid) → KeepsAll mid entries
+      → (IsShown lasting s stop.time → HasMet fleet agent stop.time Beside s.step.agent entries) → (IsShown lasting s (stop.time + 1) → HasMet fleet agent stop.time Behind s.step.agent entries) → HasSeen fleet agent stop lasting entries s
   seen_all ahead keeps beside behind Beside of is = beside is
   seen_all ahead keeps beside behind Ahead of is = λ entry own at two apart met. keeps entry (ahead of is entry own at two apart met)
   seen_all ahead keeps beside behind Behind of is = behind is
 
 module _ (index : Contents) (agent : ℕ) (route : Option Route) (fleet : Fleet) (shows : Shows index agent route fleet) where
   pub stands_show : (cell : Point) (from to : ℕ) (stands : List Spot) → ((s : Spot) → Contains stands s → StandsIn shows.base cell from to s) → AreShowing fleet agent cell false stands
-  stands_show cell from to stands all s h apart time is = fleet_there index agent route fleet shows s.agent time cell apart (subst (λ (t : ℕ). position_of shows.base s.agent t ≡ Some cell) is (all s h).there)
+  stands_show cell from to stands all s h apart time is = fleet_there index agent route fleet shows s.step.agent time cell apart (subst (λ (t : ℕ). position_of shows.base s.step.agent t ≡ Some cell) is (all s h).there)
 
   pub tails_show : (cell : Point) (to : ℕ) (tails : List Spot) → ((s : Spot) → Contains tails s → RestsIn shows.base cell to s) → AreShowing fleet agent cell true tails
-  tails_show cell to tails all s h apart time is = fleet_there index agent route fleet shows s.agent time cell apart ((all s h).there time is)
+  tails_show cell to tails all s h apart time is = fleet_there index agent route fleet shows s.step.agent time cell apart ((all s h).there time is)
 
   -- what was offered of all whom both lists show has the entries with each who is at the stop
   module _ (stop : Stop) (stands tails : List Spot) (mid entries : List Conflict) (order : stop.past ≤ stop.time) (stood : HasSpots fleet agent stop false stands mid) (keeps : KeepsAll mid entries) (rested : HasSpots fleet agent stop true tails entries) where
@@ -52,6 +52,6 @@ module _ (index : Contents) (agent : ℕ) (route : Option Route) (fleet : Fleet)
     stop_has all place of other apart there =
         let seen : ℕ = seen_at place (step_of stop place) in
         elim (all other seen (from_past place) (until_later place) (base_there index agent route fleet shows other seen stop.here apart there)) [
-          | inl h ↦ λ entry own at two _ met. keeps entry (stood (spot stop.here seen other) h place of refl entry own at two apart met)
+          | inl h ↦ λ entry own at two _ met. keeps entry (stood (spot stop.here seen other h.0) h.1 place of refl entry own at two apart met)
           | inr (s, h, who, le) ↦ subst (λ (a : ℕ). HasMet fleet agent (step_of stop place) place a entries) who (rested s h place of le)
         ]

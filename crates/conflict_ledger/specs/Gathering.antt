@@ -10,7 +10,7 @@ use Rattle.conflict_ledger.specs.Spans.{IsIn}
 use Rattle.conflict_ledger.specs.declared.spans.Span.{Span}
 use Rattle.mapf_rules.specs.declared.entries.Conflict.{Conflict}
 use Rattle.mapf_rules.specs.declared.entries.Conflict.TheVariants.{Vertex, Parked, Edge, Following, Swapping, Cycle}
-use Rattle.cell_spots.specs.declared.spot_sets.Spot.{Spot}
+use Rattle.where_index.specs.declared.spot_sets.Spot.{Spot}
 use Rattle.conflict_ledger.specs.declared.places.Place.{Place}
 use Rattle.conflict_ledger.specs.declared.places.Stop.{Stop}
 use Rattle.conflict_ledger.specs.declared.places.Place.TheVariants.{Beside, Ahead, Behind}
@@ -84,7 +84,7 @@ IsShown false s time = s.time ≡ time
 
 -- the agent of the spot, if it is another one, is in the cell whenever the spot shows it
 abbrev pub IsShowing : Fleet → ℕ → Point → Bool → Spot → Type 0
-IsShowing fleet agent cell lasting s = s.agent ≢ agent → (time : ℕ) → IsShown lasting s time → position_of fleet s.agent time ≡ Some cell
+IsShowing fleet agent cell lasting s = s.step.agent ≢ agent → (time : ℕ) → IsShown lasting s time → position_of fleet s.step.agent time ≡ Some cell
 
 -- and so for each of the spots
 abbrev pub AreShowing : Fleet → ℕ → Point → Bool → List Spot → Type 0
@@ -108,7 +108,7 @@ HasMet fleet agent time place other entries =
 -- each entry of the agent at the stop with the one whom the spot shows is there
 abbrev pub HasSeen : Fleet → ℕ → Stop → Bool → List Conflict → Spot → Type 0
 HasSeen fleet agent stop lasting entries s =
-    (place : Place) → IsPlaceOf stop place → IsShown lasting s (seen_at place (step_of stop place)) → HasMet fleet agent (step_of stop place) place s.agent entries
+    (place : Place) → IsPlaceOf stop place → IsShown lasting s (seen_at place (step_of stop place)) → HasMet fleet agent (step_of stop place) place s.step.agent entries
 
 -- each entry of the agent at the stop with those whom the spots show is there
 abbrev pub HasSpots : Fleet → ℕ → Stop → Bool → List Spot → List Conflict → Type 0

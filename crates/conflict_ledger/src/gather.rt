@@ -11,11 +11,11 @@ use crate::places::Stop;
 use crate::resting::gather_late;
 use crate::sight::Sight;
 use crate::spans::Span;
-use cell_spots::Spot;
 use grid_cells::{OutOfMemory, Step};
 use mapf_rules::Conflict;
 use std::alloc::Global;
 use std::collections::btree_set::Range;
+use where_index::Spot;
 
 // Adds the entries that the agent has at the stop with each whom the spots show, once or, if they last,
 // from then on.

@@ -8,9 +8,9 @@ use crate::places::{
     Place, Stop, edge_of, following_of, in_order, is_shown, meeting_of, place_of, swapping_of,
 };
 use crate::sight::Sight;
-use cell_spots::Spot;
 use grid_cells::{Agent, Cell, OutOfMemory};
 use mapf_rules::{Conflict, offer};
+use where_index::Spot;
 
 // Adds the entries that the agent has in that step with the other one where they meet in that place.
 fn offer_met(
@@ -61,7 +61,7 @@ pub(crate) fn offer_ahead(
 ) -> Result<(), OutOfMemory>
     requires { (stop.now.past ≤ stop.now.time) × (stop.now.time < u32.MAX) }
     ensures gathers { OnOk result ((fleet : Fleet) → Sees sight.now fleet → IsStop fleet sight.now.agent stop.now → IsShowing fleet sight.now.agent stop.now.here lasting spot.now → Gathers fleet sight.now.agent (IsAbout stop.now) entries.old.items entries.new.items) }
-    ensures has { OnOk result ((fleet : Fleet) → Sees sight.now fleet → IsStop fleet sight.now.agent stop.now → stop.now.before ≢ stop.now.here → IsShown lasting spot.now stop.now.past → HasMet fleet sight.now.agent stop.now.past Place.Ahead spot.now.agent entries.new.items) }
+    ensures has { OnOk result ((fleet : Fleet) → Sees sight.now fleet → IsStop fleet sight.now.agent stop.now → stop.now.before ≢ stop.now.here → IsShown lasting spot.now stop.now.past → HasMet fleet sight.now.agent stop.now.past Place.Ahead spot.now.step.agent entries.new.items) }
 {
     if stop.before == stop.here || !is_shown(lasting, spot, stop.past) {
         return Ok(());
@@ -72,7 +72,7 @@ pub(crate) fn offer_ahead(
         entries,
         stop.past,
         place,
-        spot.agent,
+        spot.step.agent,
         stop.before,
         stop.here,
     )
@@ -89,13 +89,13 @@ pub(crate) fn offer_here(
 ) -> Result<(), OutOfMemory>
     requires { (stop.now.past ≤ stop.now.time) × (stop.now.time < u32.MAX) }
     ensures gathers { OnOk result ((fleet : Fleet) → Sees sight.now fleet → IsStop fleet sight.now.agent stop.now → IsShowing fleet sight.now.agent stop.now.here lasting spot.now → Gathers fleet sight.now.agent (IsAbout stop.now) entries.old.items entries.new.items) }
-    ensures beside { OnOk result ((fleet : Fleet) → Sees sight.now fleet → IsStop fleet sight.now.agent stop.now → IsShown lasting spot.now stop.now.time → HasMet fleet sight.now.agent stop.now.time Place.Beside spot.now.agent entries.new.items) }
-    ensures behind { OnOk result ((fleet : Fleet) → Sees sight.now fleet → IsStop fleet sight.now.agent stop.now → IsShowing fleet sight.now.agent stop.now.here lasting spot.now → IsShown lasting spot.now (stop.now.time + 1) → HasMet fleet sight.now.agent stop.now.time Place.Behind spot.now.agent entries.new.items) }
+    ensures beside { OnOk result ((fleet : Fleet) → Sees sight.now fleet → IsStop fleet sight.now.agent stop.now → IsShown lasting spot.now stop.now.time → HasMet fleet sight.now.agent stop.now.time Place.Beside spot.now.step.agent entries.new.items) }
+    ensures behind { OnOk result ((fleet : Fleet) → Sees sight.now fleet → IsStop fleet sight.now.agent stop.now → IsShowing fleet sight.now.agent stop.now.here lasting spot.now → IsShown lasting spot.now (stop.now.time + 1) → HasMet fleet sight.now.agent stop.now.time Place.Behind spot.now.step.agent entries.new.items) }
 {
     let Some(place) = place_of(lasting, spot, stop.time) else {
         return Ok(());
     };
     offer_met(
-        sight, entries, stop.time, place, spot.agent, stop.here, stop.next,
+        sight, entries, stop.time, place, spot.step.agent, stop.here, stop.next,
     )
 }

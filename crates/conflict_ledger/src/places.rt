@@ -9,9 +9,9 @@ ghost use Rattle.conflict_ledger.specs.declared.places.Place.{Place};
 ghost use Rattle.conflict_ledger.specs.Gathering.{AreTogether, IsShown, seen_at};
 
 use crate::sight::Sight;
-use cell_spots::Spot;
 use grid_cells::{Agent, Cell, Step};
 use mapf_rules::Conflict;
+use where_index::Spot;
 
 // Where the agent meets the other one of an entry: beside it as the step begins, ahead of it then, or
 // behind it as the step ends. What is known of the two by the place is not looked up again below.

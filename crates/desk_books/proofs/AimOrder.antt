@@ -15,7 +15,7 @@ use Rattle.std.proofs.lemmas.Map.Lookups.{CmpEqualImpliesEq, exact_unsigned}
 use Rattle.std.proofs.lemmas.Map.Views.{btree_set_contains_iff}
 use Rattle.std.proofs.lemmas.Bool.Decides.{nat_tests}
 use Rattle.std.proofs.lemmas.Cmp.{nat_cmp_total, on_total, then_total, tied_itself}
-use Rattle.cell_spots.proofs.SpotOrder.{then_equal, from_lt, from_eq, cases3}
+use Rattle.where_index.proofs.SpotOrder.{then_equal, from_lt, from_eq, cases3}
 use Rattle.grid_cells.specs.Cell.{Point}
 use Rattle.grid_cells.specs.declared.numbers.TheConstants.{MOST_AGENT}
 use Rattle.desk_books.specs.Aims.{aim, aim_cmp, HaveAgents, IsAimedAt, HasBetween}

@@ -9,7 +9,7 @@ use Rattle.plan_table.specs.Plans.{row_of, ChangesRow, IsByAgent}
 use Rattle.plan_table.proofs.Order.{Contains-nil}
 use Rattle.plan_table.specs.declared.plans.Row.{Row}
 use Rattle.cost_ledger.specs.Ledger.{Ledger, StandsFor}
-use Rattle.cell_spots.specs.Spot.{Gains, Loses}
+use Rattle.where_index.specs.Spots.{Gains, Loses}
 use Rattle.goal_fields.specs.Target.{Standing}
 use Rattle.goal_fields.specs.Held.{StandFor}
 use Rattle.desk_books.specs.Aims.{aim}

@@ -5,7 +5,7 @@ use Rattle.std.proofs.lemmas.Bool.Decides.{eqb_tells}
 use Rattle.std.proofs.lemmas.Option.{none-some, same_Some}
 use Rattle.grid_cells.specs.Cell.{Point}
 use Rattle.plan_table.specs.declared.plans.Row.{Row}
-use Rattle.cell_spots.specs.Spot.{Gains, Loses}
+use Rattle.where_index.specs.Spots.{Gains, Loses}
 use Rattle.desk_books.specs.Aims.{aim}
 use Rattle.desk_books.specs.Prices.{Rows, with_row, AimsAt}
 use Rattle.desk_books.specs.declared.aims.Aim.{Aim}

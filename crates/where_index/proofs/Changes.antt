@@ -2,20 +2,21 @@
 use Rattle.std.proofs.Common.{◌≡◌, ◌≢◌, ◌⊎◌, inl, inr, ℕ, zero, suc, ◌+◌, ◌<◌, ◌≤◌, nat_lt, List, Option, Some, None, true, false, cond, ◌&&◌, ◌==◌, refl, sym, ap, ◌∙◌, subst, arith}
 use Rattle.std.proofs.lemmas.Bool.Decides.{nat_tests}
 use Rattle.grid_cells.specs.Cell.{Point}
-use Rattle.where_index.specs.declared.moves.Move.{Move}
-use Rattle.where_index.specs.declared.hops.Place.{Place}
-use Rattle.cell_spots.specs.declared.spot_sets.Spot.{Spot}
+use Rattle.plan_table.specs.Route.{Route}
+use Rattle.where_index.specs.declared.spot_sets.Spot.{Spot}
 use Rattle.where_index.specs.declared.trails.Hop.{Hop}
-use Rattle.cell_spots.specs.Spot.{spot, Gains, Loses}
-use Rattle.where_index.specs.Hops.{GainsAt, LosesAt}
-use Rattle.where_index.specs.Records.{changes_below, changed, changed_hop, same_point}
-use Rattle.where_index.specs.Changes.{HasSpots, HasHops, set_at, set_row, mixed}
+use Rattle.where_index.specs.Spots.{spot, Gains, Loses}
+use Rattle.where_index.specs.Records.{hop, stand_at, hop_at, leg_between, leg_at, rest_at, changes_below, changed, changed_hop, same_point}
+use Rattle.where_index.specs.Changes.{HasSpots, HaveSameAt, set_at, set_row, mixed}
 
-pub HasSpots-ext : (spots : List Spot) (f g : ℕ → ℕ → Option Point) → ((a t : ℕ) → f a t ≡ g a t) → HasSpots spots f → HasSpots spots g
-HasSpots-ext spots f g same has s = ((λ h. sym (same s.agent s.time) ∙ (has s).0 h), (λ h. (has s).1 (same s.agent s.time ∙ h)))
+pub HasSpots-ext : (spots : List Spot) (f g : ℕ → ℕ → Option Hop) → ((a t : ℕ) → f a t ≡ g a t) → HasSpots spots f → HasSpots spots g
+HasSpots-ext spots f g same has s = ((λ h. sym (same s.step.agent s.time) ∙ (has s).0 h), (λ h. (has s).1 (same s.step.agent s.time ∙ h)))
 
-pub HasHops-ext : (lists : List (Place × List Move)) (f g : ℕ → ℕ → Option Hop) → ((a t : ℕ) → f a t ≡ g a t) → HasHops lists f → HasHops lists g
-HasHops-ext lists f g same has c t m = ((λ h. sym (same m.agent t) ∙ (has c t m).0 h), (λ h. (has c t m).1 (same m.agent t ∙ h)))
+pub same_leg : {old new : Route} {t : ℕ} → HaveSameAt old new t → leg_at old t ≡ leg_at new t
+same_leg {old} {new} {t} same = ap (λ o. leg_between o (hop_at old.path t)) same.stands ∙ ap (λ h. leg_between (stand_at new t) h) same.hops
+
+pub same_rest : {old new : Route} {t : ℕ} → HaveSameAt old new t → rest_at old t ≡ rest_at new t
+same_rest same = ap (λ o. leg_between o None) same.tails
 
 -- whether it is that agent at that time
 pub at_cases : (a b x y : ℕ) → (((a ≡ b) × (x ≡ y)) × ((a == b && (x == y)) ≡ true)) ⊎ (((a ≡ b) → (x ≡ y) → ⊥) × ((a == b && (x == y)) ≡ false))
@@ -40,89 +41,48 @@ set_twice f agent time u v a t = elim (at_cases a agent t time) [
   | inr away ↦ set_there (set_at f agent time u) agent time v a t away.1 ∙ (set_there f agent time u a t away.1 ∙ sym (set_there f agent time v a t away.1))
 ]
 
-spot_of : (s : Spot) (cell : Point) (time agent : ℕ) → s.cell ≡ cell → s.time ≡ time → s.agent ≡ agent → s ≡ spot cell time agent
-spot_of s cell time agent a b c = λ i. record { cell = a i; time = b i; agent = c i }
+spot_is : (s : Spot) (leg : Hop) (time agent : ℕ) → hop s.cell s.step.to ≡ leg → s.time ≡ time → s.step.agent ≡ agent → s ≡ spot leg.from time agent leg.to
+spot_is s leg time agent a b c = λ i. record { cell = (a i).from; time = b i; step = record { agent = c i; to = (a i).to } }
 
-none_some : {X G : Type 0} (o : Option X) (x : X) → o ≡ None → o ≡ Some x → G
+pub none_some : {X G : Type 0} (o : Option X) (x : X) → o ≡ None → o ≡ Some x → G
 none_some o x a b = absurd (cc)
 
-some_one : {X : Type 0} (o : Option X) (x y : X) → o ≡ Some x → o ≡ Some y → x ≡ y
+pub some_one : {X : Type 0} (o : Option X) (x y : X) → o ≡ Some x → o ≡ Some y → x ≡ y
 some_one o x y a b = cc
 
-pub clears : (old new : List Spot) (agent time : ℕ) (cell : Point) (f : ℕ → ℕ → Option Point) → Loses old new (spot cell time agent) → HasSpots old f → f agent time ≡ Some cell → HasSpots new (set_at f agent time None)
-clears old new agent time cell f loses has is s = elim (at_cases s.agent agent s.time time) [
+pub clears : (old new : List Spot) (agent time : ℕ) (leg : Hop) (f : ℕ → ℕ → Option Hop) → Loses old new (spot leg.from time agent leg.to) → HasSpots old f → f agent time ≡ Some leg → HasSpots new (set_at f agent time None)
+clears old new agent time leg f loses has is s = elim (at_cases s.step.agent agent s.time time) [
   | inl at ↦
-      let now = set_here f agent time None s.agent s.time at.1 in
-      let same : f s.agent s.time ≡ Some cell = ap (λ q. f q s.time) at.0.0 ∙ (ap (λ q. f agent q) at.0.1 ∙ is) in (
-        (λ h. let old_s = (loses s).0 h in absurd (old_s.1 (spot_of s cell time agent (some_one _ _ _ ((has s).0 old_s.0) same) at.0.1 at.0.0))),
+      let now = set_here f agent time None s.step.agent s.time at.1 in
+      let same : f s.step.agent s.time ≡ Some leg = ap (λ q. f q s.time) at.0.0 ∙ (ap (λ q. f agent q) at.0.1 ∙ is) in (
+        (λ h. let old_s = (loses s).0 h in absurd (old_s.1 (spot_is s leg time agent (some_one _ _ _ ((has s).0 old_s.0) same) at.0.1 at.0.0))),
         (λ h. none_some _ _ now h),
       )
   | inr away ↦
-      let now = set_there f agent time None s.agent s.time away.1 in (
+      let now = set_there f agent time None s.step.agent s.time away.1 in (
         (λ h. now ∙ (has s).0 ((loses s).0 h).0),
-        (λ h. (loses s).1 ((has s).1 (sym now ∙ h), λ one. away.0 (ap (λ (q : Spot). q.agent) one) (ap (λ (q : Spot). q.time) one))),
+        (λ h. (loses s).1 ((has s).1 (sym now ∙ h), λ one. away.0 (ap (λ (q : Spot). q.step.agent) one) (ap (λ (q : Spot). q.time) one))),
       )
 ]
 
-pub fills : (old new : List Spot) (agent time : ℕ) (cell : Point) (f : ℕ → ℕ → Option Point) → Gains old new (spot cell time agent) → HasSpots old f → f agent time ≡ None → HasSpots new (set_at f agent time (Some cell))
-fills old new agent time cell f gains has is s = elim (at_cases s.agent agent s.time time) [
+pub fills : (old new : List Spot) (agent time : ℕ) (leg : Hop) (f : ℕ → ℕ → Option Hop) → Gains old new (spot leg.from time agent leg.to) → HasSpots old f → f agent time ≡ None → HasSpots new (set_at f agent time (Some leg))
+fills old new agent time leg f gains has is s = elim (at_cases s.step.agent agent s.time time) [
   | inl at ↦
-      let now = set_here f agent time (Some cell) s.agent s.time at.1 in
-      let same : f s.agent s.time ≡ None = ap (λ q. f q s.time) at.0.0 ∙ (ap (λ q. f agent q) at.0.1 ∙ is) in (
+      let now = set_here f agent time (Some leg) s.step.agent s.time at.1 in
+      let same : f s.step.agent s.time ≡ None = ap (λ q. f q s.time) at.0.0 ∙ (ap (λ q. f agent q) at.0.1 ∙ is) in (
         (λ h. elim ((gains s).0 h) [
           | inl o ↦ none_some _ _ same ((has s).0 o)
-          | inr one ↦ now ∙ ap (λ (q : Spot). Some q.cell) (sym one)
+          | inr one ↦ now ∙ ap (λ (q : Spot). Some (hop q.cell q.step.to)) (sym one)
         ]),
-        (λ h. (gains s).1 (inr (spot_of s cell time agent (some_one _ _ _ h now) at.0.1 at.0.0))),
+        (λ h. (gains s).1 (inr (spot_is s leg time agent (some_one _ _ _ h now) at.0.1 at.0.0))),
       )
   | inr away ↦
-      let now = set_there f agent time (Some cell) s.agent s.time away.1 in (
+      let now = set_there f agent time (Some leg) s.step.agent s.time away.1 in (
         (λ h. elim ((gains s).0 h) [
           | inl o ↦ now ∙ (has s).0 o
-          | inr one ↦ absurd (away.0 (ap (λ (q : Spot). q.agent) one) (ap (λ (q : Spot). q.time) one))
+          | inr one ↦ absurd (away.0 (ap (λ (q : Spot). q.step.agent) one) (ap (λ (q : Spot). q.time) one))
         ]),
         (λ h. (gains s).1 (inl ((has s).1 (sym now ∙ h)))),
-      )
-]
-
-pub clears_hop : (old new : List (Place × List Move)) (agent time : ℕ) (hop : Hop) (f : ℕ → ℕ → Option Hop) → LosesAt old new hop.from time agent → HasHops old f → f agent time ≡ Some hop → HasHops new (set_at f agent time None)
-clears_hop old new agent time hop f loses has is c t m = elim (at_cases m.agent agent t time) [
-  | inl at ↦
-      let now = set_here f agent time None m.agent t at.1 in
-      let same : f m.agent t ≡ Some hop = ap (λ q. f q t) at.0.0 ∙ (ap (λ q. f agent q) at.0.1 ∙ is) in (
-        (λ h. let old_m = (loses c t m).0 h in
-            let one = some_one _ _ _ ((has c t m).0 old_m.0) same in
-            absurd (old_m.1 (ap (λ (q : Hop). q.from) one, at.0.1, at.0.0))),
-        (λ h. none_some _ _ now h),
-      )
-  | inr away ↦
-      let now = set_there f agent time None m.agent t away.1 in (
-        (λ h. now ∙ (has c t m).0 ((loses c t m).0 h).0),
-        (λ h. (loses c t m).1 ((has c t m).1 (sym now ∙ h), λ is_here. away.0 is_here.2 is_here.1)),
-      )
-]
-
-pub fills_hop : (old new : List (Place × List Move)) (agent time : ℕ) (hop : Hop) (f : ℕ → ℕ → Option Hop) → GainsAt old new hop.from time (record { agent = agent; to = hop.to }) → HasHops old f → f agent time ≡ None → HasHops new (set_at f agent time (Some hop))
-fills_hop old new agent time hop f gains has is c t m = elim (at_cases m.agent agent t time) [
-  | inl at ↦
-      let now = set_here f agent time (Some hop) m.agent t at.1 in
-      let same : f m.agent t ≡ None = ap (λ q. f q t) at.0.0 ∙ (ap (λ q. f agent q) at.0.1 ∙ is) in (
-        (λ h. elim ((gains c t m).0 h) [
-          | inl o ↦ none_some _ _ same ((has c t m).0 o.0)
-          | inr one ↦
-              let hops : hop ≡ record { from = c; to = m.to } = λ i. record { from = sym one.0 i; to = sym (ap (λ (q : Move). q.to) one.2) i } in
-              now ∙ ap (λ (q : Hop). Some q) hops
-        ]),
-        (λ h. let one = some_one _ _ _ h now in
-            (gains c t m).1 (inr (ap (λ (q : Hop). q.from) one, at.0.1, λ i. record { agent = at.0.0 i; to = (one i).to }))),
-      )
-  | inr away ↦
-      let now = set_there f agent time (Some hop) m.agent t away.1 in (
-        (λ h. elim ((gains c t m).0 h) [
-          | inl o ↦ now ∙ (has c t m).0 o.0
-          | inr one ↦ absurd (away.0 (ap (λ (q : Move). q.agent) one.2) one.1)
-        ]),
-        (λ h. (gains c t m).1 (inl ((has c t m).1 (sym now ∙ h), λ one. away.0 one.2 one.1))),
       )
 ]
 

@@ -13,7 +13,7 @@ use Rattle.where_index.specs.declared.trails.Hop.{Hop}
 use Rattle.where_index.specs.Records.{stand_at, tail_at, hop_at, same_point, changed, changed_hop, changes_below, records_apart}
 use Rattle.where_index.specs.Counted.{Record, Stand, Tail, Move, TellsApart}
 use Rattle.where_index.specs.Laws.{RecordsAreCounted}
-use Rattle.cell_spots.proofs.Sets.{Contains-nil, Contains-head, Contains-tail, Contains-cons_cases}
+use Rattle.where_index.proofs.Sets.{Contains-nil, Contains-head, Contains-tail, Contains-cons_cases}
 use Rattle.where_index.proofs.Standing.{stand_past, rest_past, hop_past}
 
 -- ---- lists without repetitions

@@ -1,16 +1,17 @@
 -- What an index keeps fixes its fleet.
 use Rattle.std.proofs.Common.{◌≡◌, ◌⊎◌, inl, inr, ℕ, ◌+◌, ◌<◌, ◌≤◌, List, length, slice_get, Option, Some, None, Bool, true, false, cond, not, nat_lt, ◌&&◌, ◌||◌, ◌==◌, refl, sym, ap, ◌∙◌, arith}
-use Rattle.std.specs.Option.{option_and_then, unwrap_or}
+use Rattle.std.specs.Option.{option_and_then, option_map, unwrap_or}
 use Rattle.std.proofs.lemmas.Bool.Decides.{nat_tests}
 use Rattle.std.proofs.lemmas.List.{same_lists}
 use Rattle.std.proofs.lemmas.Option.{slice_get_within, unwrap_or-slice_get}
 use Rattle.grid_cells.specs.Cell.{Point}
 use Rattle.plan_table.specs.Path.{last_index}
 use Rattle.plan_table.specs.Route.{Route, position}
-use Rattle.cell_spots.specs.declared.spot_sets.Spot.{Spot}
+use Rattle.where_index.specs.declared.spot_sets.Spot.{Spot}
 use Rattle.where_index.specs.declared.ends.End.{End}
-use Rattle.cell_spots.specs.Spot.{spot}
-use Rattle.where_index.specs.Records.{stand_at, tail_at}
+use Rattle.where_index.specs.Spots.{spot}
+use Rattle.where_index.specs.declared.trails.Hop.{Hop}
+use Rattle.where_index.specs.Records.{stand_at, tail_at, hop_at, leg_between, leg_at, rest_at}
 use Rattle.where_index.specs.Changes.{HasSpots}
 use Rattle.where_index.specs.Ends.{IsEndOf}
 use Rattle.where_index.specs.Index.{all_of}
@@ -23,8 +24,22 @@ same_option None None there back = refl
 same_option None (Some y) there back = back y refl
 same_option (Some x) p there back = sym (there x refl)
 
-same_spots : (spots : List Spot) (f g : ℕ → ℕ → Option Point) → HasSpots spots f → HasSpots spots g → (a t : ℕ) → f a t ≡ g a t
-same_spots spots f g has_f has_g a t = same_option (f a t) (g a t) (λ c h. (has_g (spot c t a)).0 ((has_f (spot c t a)).1 h)) (λ c h. (has_f (spot c t a)).0 ((has_g (spot c t a)).1 h))
+same_spots : (spots : List Spot) (f g : ℕ → ℕ → Option Hop) → HasSpots spots f → HasSpots spots g → (a t : ℕ) → f a t ≡ g a t
+same_spots spots f g has_f has_g a t = same_option (f a t) (g a t) (λ c h. (has_g (at c)).0 ((has_f (at c)).1 h)) (λ c h. (has_f (at c)).0 ((has_g (at c)).1 h)) where
+  at : Hop → Spot
+  at c = spot c.from t a c.to
+
+-- where agents go says where they are
+start_of : (o : Option Point) (move : Option Hop) → option_map (λ (h : Hop). h.from) (leg_between o move) ≡ o
+start_of None move = refl
+start_of (Some c) None = refl
+start_of (Some c) (Some m) = refl
+
+same_starts : (g : Route → ℕ → Option Point) (k : Route → ℕ → Option Hop) (o p : Option Route) (t : ℕ) → option_and_then (λ r. leg_between (g r t) (k r t)) o ≡ option_and_then (λ r. leg_between (g r t) (k r t)) p → option_and_then (λ r. g r t) o ≡ option_and_then (λ r. g r t) p
+same_starts g k o p t same = sym (starts o) ∙ (ap (option_map (λ (h : Hop). h.from)) same ∙ starts p) where
+  starts : (q : Option Route) → option_map (λ (h : Hop). h.from) (option_and_then (λ r. leg_between (g r t) (k r t)) q) ≡ option_and_then (λ r. g r t) q
+  starts None = refl
+  starts (Some r) = start_of (g r t) (k r t)
 
 ends_or : (n t : ℕ) → (t + 1 < n) ⊎ ((t + 1 ≡ n) ⊎ (n ≤ t))
 ends_or n t = grind arith
@@ -73,6 +88,6 @@ one_route (Some end) (Some r) (Some q) a b stands tails =
 pub one_fleet : OneFleet
 one_fleet index one two has also agent =
     let route : one agent ≡ two agent = one_route _ (one agent) (two agent) (has.ends agent) (also.ends agent)
-    (λ t. same_spots index.stands (all_of stand_at one) (all_of stand_at two) has.stands also.stands agent t)
-    (λ t. same_spots index.tails (all_of tail_at one) (all_of tail_at two) has.tails also.tails agent t) in
+    (λ t. same_starts stand_at (λ r t. hop_at r.path t) (one agent) (two agent) t (same_spots index.stands (all_of leg_at one) (all_of leg_at two) has.stands also.stands agent t))
+    (λ t. same_starts tail_at (λ r t. None) (one agent) (two agent) t (same_spots index.tails (all_of rest_at one) (all_of rest_at two) has.tails also.tails agent t)) in
     (route, λ time. ap (λ o. option_and_then (λ r. position r time) o) route)

@@ -9,7 +9,8 @@ use Rattle.where_index.specs.declared.traffic.Traffic.{Traffic}
 use Rattle.where_index.specs.Changes.{set_at}
 use Rattle.where_index.specs.Flows.{many_below, goes, AreCounted, HasFlows}
 use Rattle.where_index.specs.Traffic.{HasTraffic}
-use Rattle.where_index.proofs.Changes.{HasHops-ext, at_cases, set_here, set_there, set_itself}
+use Rattle.where_index.proofs.Changes.{HasSpots-ext, at_cases, set_here, set_there, set_itself}
+use Rattle.where_index.proofs.Crowding.{HasCrowds-ext}
 use Rattle.where_index.proofs.Counts.{many-same, many-none, many-le, many-more}
 
 pub counted-ext : (counts : List ℕ) (way : Way) (f g : ℕ → ℕ → Option Hop) → ((a t : ℕ) → goes way (f a t) ≡ goes way (g a t)) → AreCounted counts way f → AreCounted counts way g
@@ -17,7 +18,8 @@ counted-ext counts way f g same has t = has t ∙ many-same (λ a. goes way (f a
 
 pub HasTraffic-ext : (traffic : Traffic) (f g : ℕ → ℕ → Option Hop) → ((a t : ℕ) → f a t ≡ g a t) → HasTraffic traffic f → HasTraffic traffic g
 HasTraffic-ext traffic f g same has = record {
-  hops = HasHops-ext traffic.hops f g same has.hops;
+  stands = HasSpots-ext traffic.stands f g same has.stands;
+  crowds = HasCrowds-ext traffic.crowds f g same has.crowds;
   flows = λ way. counted-ext _ way f g (λ a t. ap (λ o. goes way o) (same a t)) (has.flows way);
 }
 

@@ -12,11 +12,11 @@ use Rattle.std.proofs.lemmas.Map.Lookups.{CmpEqualImpliesEq, exact_unsigned}
 use Rattle.std.proofs.lemmas.List.Elements.{All-from_recursion}
 use Rattle.std.proofs.lemmas.List.Kept.{AllPairs-cons}
 use Rattle.plan_table.specs.Order.{ComesBefore}
-use Rattle.cell_spots.specs.declared.spot_sets.Spot.{Spot}
+use Rattle.where_index.specs.declared.spot_sets.Spot.{Spot}
 use Rattle.where_index.specs.declared.passings.Passing.{Passing}
-use Rattle.where_index.specs.Spot.{passing_cmp}
-use Rattle.cell_spots.proofs.Sets.{Contains-nil, Contains-head, Contains-tail, Contains-cons_cases}
-use Rattle.cell_spots.proofs.SpotOrder.{then_equal}
+use Rattle.where_index.specs.Shown.{passing_cmp}
+use Rattle.where_index.proofs.Sets.{Contains-nil, Contains-head, Contains-tail, Contains-cons_cases}
+use Rattle.where_index.proofs.SpotOrder.{then_equal}
 
 pub passing_total : IsTotalOrder passing_cmp
 passing_total = then_total (on_total (λ (p : Passing). p.time) nat_cmp_total) (on_total (λ (p : Passing). p.agent) nat_cmp_total)

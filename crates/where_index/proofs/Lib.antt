@@ -1,7 +1,10 @@
+pub mod Sets
+pub mod SpotOrder
+pub mod ByCell
 pub mod MoveSearch
 pub mod Rising
-pub mod Places
 pub mod Changes
+pub mod Crowding
 pub mod Counts
 pub mod Flowing
 pub mod Standing

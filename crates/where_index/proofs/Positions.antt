@@ -7,21 +7,21 @@ use Rattle.std.proofs.lemmas.Option.{slice_get_within}
 use Rattle.grid_cells.specs.Cell.{Point}
 use Rattle.plan_table.specs.Path.{last_index, place}
 use Rattle.plan_table.specs.Route.{Route, Fleet, position, position_of, last_of}
-use Rattle.cell_spots.specs.declared.spot_sets.Spot.{Spot}
-use Rattle.cell_spots.specs.Spot.{AreBetween, spot, HasOther}
-use Rattle.where_index.specs.Spot.{HasAgent, HasPassing}
-use Rattle.where_index.specs.Records.{route, stand_at, tail_at, hop_at, hop_between, same_point}
-use Rattle.where_index.specs.Changes.{HasSpots, HasHops}
+use Rattle.where_index.specs.declared.spot_sets.Spot.{Spot}
+use Rattle.where_index.specs.Spots.{AreBetween, spot, HasAt}
+use Rattle.where_index.specs.Shown.{HasAgent, HasPassing}
+use Rattle.where_index.specs.Records.{route, stand_at, tail_at, hop_at, hop_between, hop, leg_between, leg_at, rest_at, same_point}
+use Rattle.where_index.specs.Changes.{HasSpots}
 use Rattle.where_index.specs.declared.trails.Hop.{Hop}
 use Rattle.where_index.specs.declared.moves.Move.{Move}
-use Rattle.where_index.specs.declared.hops.Place.{Place}
 use Rattle.where_index.specs.declared.passings.Passing.{Passing}
 use Rattle.where_index.specs.declared.ends.End.{End}
 use Rattle.where_index.specs.declared.occupants.Occupants.{Occupants}
-use Rattle.where_index.specs.Hops.{movers_in}
+use Rattle.where_index.specs.Crowds.{Moves}
 use Rattle.where_index.specs.Ends.{IsEndOfRoute, IsEndOf}
-use Rattle.where_index.specs.Asked.{MovesFrom, Passes, AreOccupants, IsShared}
+use Rattle.where_index.specs.Asked.{MovesFrom, Passes, AreOccupants}
 use Rattle.where_index.specs.Index.{all_of}
+use Rattle.where_index.proofs.Standing.{early_stand}
 
 guarded : (b : Bool) (o : Option Point) (cell : Point) → cond b o None ≡ Some cell → (b ≡ true) × (o ≡ Some cell)
 guarded true o cell e = (refl, e)
@@ -88,46 +88,68 @@ module _ (t : ℕ) (cell : Point) where
   either_is None e = absurd (cc)
   either_is (Some r) e = to_either r.path r.leaves t cell e
 
-same_record : (f : ℕ → ℕ → Option Point) (s : Spot) (a time : ℕ) (cell : Point) → s.agent ≡ a → s.time ≡ time → s.cell ≡ cell → f s.agent s.time ≡ Some s.cell → f a time ≡ Some cell
-same_record f s a time cell x y z e = ap (λ q. f q time) (sym x) ∙ (ap (λ q. f s.agent q) (sym y) ∙ (e ∙ ap (λ (p : Point). Some p) z))
+-- ---- what spots show of the cells of agents
+abbrev pub ShowCells : List Spot → (ℕ → ℕ → Option Point) → Type 0
+ShowCells spots f = ((s : Spot) → Contains spots s → f s.step.agent s.time ≡ Some s.cell) × ((cell : Point) (time agent : ℕ) → f agent time ≡ Some cell → HasAt spots cell time agent)
 
-pub standing_exact : (stands tails s1 s2 : List Spot) (fleet : Fleet) (cell : Point) (time : ℕ) → HasSpots stands (all_of stand_at fleet) → HasSpots tails (all_of tail_at fleet) → AreBetween stands cell time time s1 → AreBetween tails cell 0 time s2 → (a : ℕ) → (HasAgent s1 a ⊎ HasAgent s2 a) ↔ (position_of fleet a time ≡ Some cell)
+leg_cell : (o : Option Point) (move : Option Hop) (a b : Point) → leg_between o move ≡ Some (hop a b) → o ≡ Some a
+leg_cell None move a b e = absurd (cc)
+leg_cell (Some c) None a b e = let one : hop c c ≡ hop a b = cc in ap (λ (h : Hop). Some h.from) one
+leg_cell (Some c) (Some m) a b e = let one : hop c m.to ≡ hop a b = cc in ap (λ (h : Hop). Some h.from) one
+
+some_leg : (o : Option Point) (move : Option Hop) (a : Point) → o ≡ Some a → (b : Point) × (leg_between o move ≡ Some (hop a b))
+some_leg o None a e = (a, ap (λ p. leg_between p None) e)
+some_leg o (Some m) a e = (m.to, ap (λ p. leg_between p (Some m)) e)
+
+module _ (g : Route → ℕ → Option Point) (k : Route → ℕ → Option Hop) where
+  cell_shown : (o : Option Route) (t : ℕ) (a b : Point) → option_and_then (λ r. leg_between (g r t) (k r t)) o ≡ Some (hop a b) → option_and_then (λ r. g r t) o ≡ Some a
+  cell_shown None t a b e = absurd (cc)
+  cell_shown (Some r) t a b e = leg_cell (g r t) (k r t) a b e
+
+  leg_shown : (o : Option Route) (t : ℕ) (a : Point) → option_and_then (λ r. g r t) o ≡ Some a → (b : Point) × (option_and_then (λ r. leg_between (g r t) (k r t)) o ≡ Some (hop a b))
+  leg_shown None t a e = absurd (cc)
+  leg_shown (Some r) t a e = some_leg (g r t) (k r t) a e
+
+  show : (spots : List Spot) (fleet : Fleet) → HasSpots spots (all_of (λ r t. leg_between (g r t) (k r t)) fleet) → ShowCells spots (all_of g fleet)
+  show spots fleet has = (
+    (λ s within. cell_shown (fleet s.step.agent) s.time s.cell s.step.to ((has s).0 within)),
+    (λ cell time agent at. let leg = leg_shown (fleet agent) time cell at in (leg.0, (has (spot cell time agent leg.0)).1 leg.1)),
+  )
+
+pub stands_show : (stands : List Spot) (fleet : Fleet) → HasSpots stands (all_of leg_at fleet) → ShowCells stands (all_of stand_at fleet)
+stands_show stands fleet has = show stand_at (λ r t. hop_at r.path t) stands fleet has
+
+pub tails_show : (tails : List Spot) (fleet : Fleet) → HasSpots tails (all_of rest_at fleet) → ShowCells tails (all_of tail_at fleet)
+tails_show tails fleet has = show tail_at (λ r t. None) tails fleet has
+
+same_record : (f : ℕ → ℕ → Option Point) (s : Spot) (a time : ℕ) (cell : Point) → s.step.agent ≡ a → s.time ≡ time → s.cell ≡ cell → f s.step.agent s.time ≡ Some s.cell → f a time ≡ Some cell
+same_record f s a time cell x y z e = ap (λ q. f q time) (sym x) ∙ (ap (λ q. f s.step.agent q) (sym y) ∙ (e ∙ ap (λ (p : Point). Some p) z))
+
+pub standing_exact : (stands tails s1 s2 : List Spot) (fleet : Fleet) (cell : Point) (time : ℕ) → ShowCells stands (all_of stand_at fleet) → ShowCells tails (all_of tail_at fleet) → AreBetween stands cell time time s1 → AreBetween tails cell 0 time s2 → (a : ℕ) → (HasAgent s1 a ⊎ HasAgent s2 a) ↔ (position_of fleet a time ≡ Some cell)
 standing_exact stands tails s1 s2 fleet cell time has_s has_r b1 b2 a = (
   (λ h. elim h [
     | inl (s, within, is) ↦
         let inside = (b1 s).0 within in
-        stands_is time cell (fleet a) (same_record (all_of stand_at fleet) s a time cell is (omega (arith, inside.2, inside.3)) inside.1 ((has_s s).0 inside.0))
+        stands_is time cell (fleet a) (same_record (all_of stand_at fleet) s a time cell is (omega (arith, inside.2, inside.3)) inside.1 (has_s.0 s inside.0))
     | inr (s, within, is) ↦
         let inside = (b2 s).0 within in
-        rests_is time cell s.time inside.3 (fleet a) (same_record (all_of tail_at fleet) s a s.time cell is refl inside.1 ((has_r s).0 inside.0))
+        rests_is time cell s.time inside.3 (fleet a) (same_record (all_of tail_at fleet) s a s.time cell is refl inside.1 (has_r.0 s inside.0))
   ]),
   (λ h. elim (either_is time cell (fleet a) h) [
-    | inl stood ↦ inl (spot cell time a, (b1 (spot cell time a)).1 ((has_s (spot cell time a)).1 stood, refl, omega arith, omega arith), refl)
-    | inr w ↦ inr (spot cell w.0 a, (b2 (spot cell w.0 a)).1 ((has_r (spot cell w.0 a)).1 w.2, refl, omega arith, w.1), refl)
+    | inl stood ↦ let v = has_s.1 cell time a stood in inl (spot cell time a v.0, (b1 (spot cell time a v.0)).1 (v.1, refl, omega arith, omega arith), refl)
+    | inr w ↦ let v = has_r.1 cell w.0 a w.2 in inr (spot cell w.0 a v.0, (b2 (spot cell w.0 a v.0)).1 (v.1, refl, omega arith, w.1), refl)
   ]),
 )
 
-pub shared_exact : (stands tails : List Spot) (fleet : Fleet) (cell : Point) (from to agent : ℕ) → from ≤ to → HasSpots stands (all_of stand_at fleet) → HasSpots tails (all_of tail_at fleet) → (HasOther stands cell from to agent ⊎ HasOther tails cell 0 to agent) ↔ IsShared fleet cell from to agent
-shared_exact stands tails fleet cell from to agent order has_s has_r = (
-  (λ h. elim h [
-    | inl w ↦ record { other = w.0.agent; apart = w.5; time = w.0.time; not_before = w.3; not_after = w.4; there = stands_is w.0.time cell (fleet w.0.agent) (same_record (all_of stand_at fleet) w.0 w.0.agent w.0.time cell refl refl w.2 ((has_s w.0).0 w.1)) }
-    | inr w ↦ record { other = w.0.agent; apart = w.5; time = to; not_before = order; not_after = omega arith; there = rests_is to cell w.0.time w.4 (fleet w.0.agent) (same_record (all_of tail_at fleet) w.0 w.0.agent w.0.time cell refl refl w.2 ((has_r w.0).0 w.1)) }
-  ]),
-  (λ is. elim (either_is is.time cell (fleet is.other) is.there) [
-    | inl stood ↦ inl (spot cell is.time is.other, (has_s (spot cell is.time is.other)).1 stood, refl, is.not_before, is.not_after, is.apart)
-    | inr w ↦ inr (spot cell w.0 is.other, (has_r (spot cell w.0 is.other)).1 w.2, refl, omega arith, omega (arith, w.1, is.not_after), is.apart)
-  ]),
-)
-
-pub occupants_exact : (stands tails : List Spot) (fleet : Fleet) (cell : Point) (from to : ℕ) → HasSpots stands (all_of stand_at fleet) → HasSpots tails (all_of tail_at fleet) → (found : Occupants) → AreBetween stands cell from to found.stands → AreBetween tails cell 0 to found.tails → AreOccupants fleet cell from to found
+pub occupants_exact : (stands tails : List Spot) (fleet : Fleet) (cell : Point) (from to : ℕ) → ShowCells stands (all_of stand_at fleet) → ShowCells tails (all_of tail_at fleet) → (found : Occupants) → AreBetween stands cell from to found.stands → AreBetween tails cell 0 to found.tails → AreOccupants fleet cell from to found
 occupants_exact stands tails fleet cell from to has_s has_r found b1 b2 = record {
   standing = λ s within. let inside = (b1 s).0 within in
-      record { place = inside.1; not_before = inside.2; not_after = inside.3; there = stands_is s.time cell (fleet s.agent) (same_record (all_of stand_at fleet) s s.agent s.time cell refl refl inside.1 ((has_s s).0 inside.0)) };
+      record { place = inside.1; not_before = inside.2; not_after = inside.3; there = stands_is s.time cell (fleet s.step.agent) (same_record (all_of stand_at fleet) s s.step.agent s.time cell refl refl inside.1 (has_s.0 s inside.0)) };
   resting = λ s within. let inside = (b2 s).0 within in
-      record { place = inside.1; not_after = inside.3; there = λ t h. rests_is t cell s.time h (fleet s.agent) (same_record (all_of tail_at fleet) s s.agent s.time cell refl refl inside.1 ((has_r s).0 inside.0)) };
+      record { place = inside.1; not_after = inside.3; there = λ t h. rests_is t cell s.time h (fleet s.step.agent) (same_record (all_of tail_at fleet) s s.step.agent s.time cell refl refl inside.1 (has_r.0 s inside.0)) };
   all = λ a t h k at. elim (either_is t cell (fleet a) at) [
-    | inl stood ↦ inl ((b1 (spot cell t a)).1 ((has_s (spot cell t a)).1 stood, refl, h, k))
-    | inr w ↦ inr (spot cell w.0 a, (b2 (spot cell w.0 a)).1 ((has_r (spot cell w.0 a)).1 w.2, refl, omega arith, omega (arith, w.1, k)), refl, w.1)
+    | inl stood ↦ let v = has_s.1 cell t a stood in inl (v.0, (b1 (spot cell t a v.0)).1 (v.1, refl, h, k))
+    | inr w ↦ let v = has_r.1 cell w.0 a w.2 in inr (spot cell w.0 a v.0, (b2 (spot cell w.0 a v.0)).1 (v.1, refl, omega arith, omega (arith, w.1, k)), refl, w.1)
   ];
 }
 
@@ -145,14 +167,14 @@ tail_last (Some r) t cell e = go r.leaves (guarded _ _ _ e).0 where
   go true is = absurd (cc)
   go false is = let end = end_test (t + 1) (length r.path) is in omega arith
 
-pub passing_exact : (stands tails s1 s2 : List Spot) (fleet : Fleet) (cell : Point) (from to : ℕ) → HasSpots stands (all_of stand_at fleet) → HasSpots tails (all_of tail_at fleet) → ((a : ℕ) → last_of fleet a ≤ to) → AreBetween stands cell from to s1 → AreBetween tails cell from to s2 → (p : Passing) → (HasPassing s1 p ⊎ HasPassing s2 p) ↔ Passes fleet cell from p
+pub passing_exact : (stands tails s1 s2 : List Spot) (fleet : Fleet) (cell : Point) (from to : ℕ) → ShowCells stands (all_of stand_at fleet) → ShowCells tails (all_of tail_at fleet) → ((a : ℕ) → last_of fleet a ≤ to) → AreBetween stands cell from to s1 → AreBetween tails cell from to s2 → (p : Passing) → (HasPassing s1 p ⊎ HasPassing s2 p) ↔ Passes fleet cell from p
 passing_exact stands tails s1 s2 fleet cell from to has_s has_r most b1 b2 p = (
   (λ h. elim h [
     | inl (s, within, is) ↦
         let inside = (b1 s).0 within in
-        let agents : s.agent ≡ p.agent = ap (λ (q : Passing). q.agent) is in
+        let agents : s.step.agent ≡ p.agent = ap (λ (q : Passing). q.agent) is in
         let times : s.time ≡ p.time = ap (λ (q : Passing). q.time) is in
-        let stood = same_record (all_of stand_at fleet) s p.agent p.time cell agents times inside.1 ((has_s s).0 inside.0) in
+        let stood = same_record (all_of stand_at fleet) s p.agent p.time cell agents times inside.1 (has_s.0 s inside.0) in
         record {
           not_before = omega (arith, inside.2);
           not_after = stand_early (fleet p.agent) p.time cell stood;
@@ -160,9 +182,9 @@ passing_exact stands tails s1 s2 fleet cell from to has_s has_r most b1 b2 p = (
         }
     | inr (s, within, is) ↦
         let inside = (b2 s).0 within in
-        let agents : s.agent ≡ p.agent = ap (λ (q : Passing). q.agent) is in
+        let agents : s.step.agent ≡ p.agent = ap (λ (q : Passing). q.agent) is in
         let times : s.time ≡ p.time = ap (λ (q : Passing). q.time) is in
-        let rested = same_record (all_of tail_at fleet) s p.agent p.time cell agents times inside.1 ((has_r s).0 inside.0) in
+        let rested = same_record (all_of tail_at fleet) s p.agent p.time cell agents times inside.1 (has_r.0 s inside.0) in
         let last : p.time ≡ last_of fleet p.agent = tail_last (fleet p.agent) p.time cell rested in
         record {
           not_before = omega (arith, inside.2);
@@ -172,14 +194,16 @@ passing_exact stands tails s1 s2 fleet cell from to has_s has_r most b1 b2 p = (
   ]),
   (λ h. elim (either_is p.time cell (fleet p.agent) h.there) [
     | inl stood ↦
-        let s = spot cell p.time p.agent in
-        inl (s, (b1 s).1 ((has_s s).1 stood, refl, h.not_before, omega (arith, most p.agent, h.not_after)), refl)
+        let v = has_s.1 cell p.time p.agent stood in
+        let s = spot cell p.time p.agent v.0 in
+        inl (s, (b1 s).1 (v.1, refl, h.not_before, omega (arith, most p.agent, h.not_after)), refl)
     | inr w ↦
         let last : w.0 ≡ last_of fleet p.agent = tail_last (fleet p.agent) w.0 cell w.2 in
         let now : w.0 ≡ p.time = omega (arith, last, w.1, h.not_after) in
-        let s = spot cell p.time p.agent in
         let rested : all_of tail_at fleet p.agent p.time ≡ Some cell = subst (λ q. all_of tail_at fleet p.agent q ≡ Some cell) now w.2 in
-        inr (s, (b2 s).1 ((has_r s).1 rested, refl, h.not_before, omega (arith, most p.agent, h.not_after)), refl)
+        let v = has_r.1 cell p.time p.agent rested in
+        let s = spot cell p.time p.agent v.0 in
+        inr (s, (b2 s).1 (v.1, refl, h.not_before, omega (arith, most p.agent, h.not_after)), refl)
   ]),
 )
 
@@ -226,22 +250,22 @@ no_place end (Some r) t is leaves late h =
     cc
 
 -- where an agent with that end is, by the sets
-pub is_there : (stands tails : List Spot) (fleet : Fleet) (cell : Point) (agent time : ℕ) (end : End) → HasSpots stands (all_of stand_at fleet) → HasSpots tails (all_of tail_at fleet) → IsEndOf (Some end) (fleet agent) → end.last ≤ time → Contains tails (spot cell end.last agent) → position_of fleet agent time ≡ Some cell
-is_there stands tails fleet cell agent time end has_s has_r is late there = rests_is time cell end.last late (fleet agent) ((has_r (spot cell end.last agent)).0 there)
+pub is_there : (stands tails : List Spot) (fleet : Fleet) (cell : Point) (agent time : ℕ) (end : End) → ShowCells stands (all_of stand_at fleet) → ShowCells tails (all_of tail_at fleet) → IsEndOf (Some end) (fleet agent) → end.last ≤ time → HasAt tails cell end.last agent → position_of fleet agent time ≡ Some cell
+is_there stands tails fleet cell agent time end has_s has_r is late there = rests_is time cell end.last late (fleet agent) (has_r.0 (spot cell end.last agent there.0) there.1)
 
-pub is_rest : (stands tails : List Spot) (fleet : Fleet) (cell : Point) (agent time : ℕ) (end : End) → HasSpots stands (all_of stand_at fleet) → HasSpots tails (all_of tail_at fleet) → IsEndOf (Some end) (fleet agent) → (Contains stands (spot cell time agent) → ⊥) → position_of fleet agent time ≡ Some cell → (end.last ≤ time) × Contains tails (spot cell end.last agent)
+pub is_rest : (stands tails : List Spot) (fleet : Fleet) (cell : Point) (agent time : ℕ) (end : End) → ShowCells stands (all_of stand_at fleet) → ShowCells tails (all_of tail_at fleet) → IsEndOf (Some end) (fleet agent) → (HasAt stands cell time agent → ⊥) → position_of fleet agent time ≡ Some cell → (end.last ≤ time) × HasAt tails cell end.last agent
 is_rest stands tails fleet cell agent time end has_s has_r is not_standing at = elim (either_is time cell (fleet agent) at) [
-  | inl stood ↦ absurd (not_standing ((has_s (spot cell time agent)).1 stood))
+  | inl stood ↦ absurd (not_standing (has_s.1 cell time agent stood))
   | inr w ↦
       let last : w.0 ≡ end.last = tail_last (fleet agent) w.0 cell w.2 ∙ end_last (fleet agent) is in
-      (omega (arith, w.1, last), (has_r (spot cell end.last agent)).1 (subst (λ q. all_of tail_at fleet agent q ≡ Some cell) last w.2))
+      (omega (arith, w.1, last), has_r.1 cell end.last agent (subst (λ q. all_of tail_at fleet agent q ≡ Some cell) last w.2))
 ] where
   end_last : (o : Option Route) → IsEndOf (Some end) o → unwrap_or (option_map (λ (r : Route). last_index r.path) o) 0 ≡ end.last
   end_last None e = absurd e
   end_last (Some r) e = sym e.last
 
-pub is_standing : (stands : List Spot) (fleet : Fleet) (cell : Point) (agent time : ℕ) → HasSpots stands (all_of stand_at fleet) → Contains stands (spot cell time agent) → position_of fleet agent time ≡ Some cell
-is_standing stands fleet cell agent time has_s there = stands_is time cell (fleet agent) ((has_s (spot cell time agent)).0 there)
+pub is_standing : (stands : List Spot) (fleet : Fleet) (cell : Point) (agent time : ℕ) → ShowCells stands (all_of stand_at fleet) → HasAt stands cell time agent → position_of fleet agent time ≡ Some cell
+is_standing stands fleet cell agent time has_s there = stands_is time cell (fleet agent) (has_s.0 (spot cell time agent there.0) there.1)
 
 -- ---- a record Move is a move out of a cell
 hop_parts : (a b : Point) (v : Bool) (h : Hop) → same_point a b ≡ v → cond v None (Some (record { from = a; to = b })) ≡ Some h → (a ≡ h.from) × (b ≡ h.to) × (same_point a b ≡ false)
@@ -317,8 +341,35 @@ pub of_hop : (o : Option Route) (t : ℕ) (from to : Point) → option_and_then 
 of_hop None t from to starts arrives apart = absurd (cc)
 of_hop (Some r) t from to starts arrives apart = moves_hop r.path r.leaves t from to starts arrives apart
 
-pub movers_exact : (lists : List (Place × List Move)) (fleet : Fleet) (cell : Point) (time : ℕ) → HasHops lists (all_of (λ r. hop_at r.path) fleet) → (m : Move) → Contains (movers_in lists cell time) m ↔ MovesFrom fleet time cell m
-movers_exact lists fleet cell time has m = (
-  (λ h. let parts = hop_of (fleet m.agent) time _ ((has cell time m).0 h) in record { starts = parts.0; arrives = parts.1; moves = parts.2 }),
-  (λ h. (has cell time m).1 (of_hop (fleet m.agent) time cell m.to h.starts h.arrives h.moves)),
+-- ---- a step to another cell is a move
+pub hop_leg : (o : Option Route) (t : ℕ) (h : Hop) → option_and_then (λ r. hop_at r.path t) o ≡ Some h → option_and_then (λ r. leg_at r t) o ≡ Some h
+hop_leg None t h is = absurd (cc)
+hop_leg (Some r) t h is =
+    let parts = hop_cases (slice_get r.path t) (slice_get r.path (t + 1)) h is in
+    let within = slice_get_within r.path (t + 1) h.to parts.1 in
+    let stands : stand_at r t ≡ Some h.from = early_stand r t within ∙ parts.0 in
+    ap (λ o. leg_between o (hop_at r.path t)) stands ∙ ap (λ o. leg_between (Some h.from) o) is
+
+pub leg_hop : (o : Option Route) (t : ℕ) (a b : Point) → a ≢ b → option_and_then (λ r. leg_at r t) o ≡ Some (hop a b) → option_and_then (λ r. hop_at r.path t) o ≡ Some (hop a b)
+leg_hop None t a b apart is = absurd (cc)
+leg_hop (Some r) t a b apart is = go (hop_at r.path t) refl where
+  stands : stand_at r t ≡ Some a
+  stands = leg_cell (stand_at r t) (hop_at r.path t) a b is
+
+  go : (move : Option Hop) → hop_at r.path t ≡ move → hop_at r.path t ≡ Some (hop a b)
+  go None e =
+      let waits : Some (hop a a) ≡ Some (hop a b) = sym (ap (λ o. leg_between o None) stands) ∙ (sym (ap (λ o. leg_between (stand_at r t) o) e) ∙ is) in
+      let one : hop a a ≡ hop a b = cc in
+      absurd (apart (ap (λ (h : Hop). h.to) one))
+  go (Some m) e =
+      let goes : Some (hop a m.to) ≡ Some (hop a b) = sym (ap (λ o. leg_between o (Some m)) stands) ∙ (sym (ap (λ o. leg_between (stand_at r t) o) e) ∙ is) in
+      let one : hop a m.to ≡ hop a b = cc in
+      let from : Some m.from ≡ Some a = sym (hop_cases (slice_get r.path t) (slice_get r.path (t + 1)) m e).0 ∙ (guarded _ _ _ stands).1 in
+      let start : m.from ≡ a = cc in
+      e ∙ λ i. Some (record { from = start i; to = (one i).to })
+
+pub movers_exact : (fleet : Fleet) (cell : Point) (time : ℕ) (m : Move) → Moves (all_of leg_at fleet) cell time m ↔ MovesFrom fleet time cell m
+movers_exact fleet cell time m = (
+  (λ h. let parts = hop_of (fleet m.agent) time (hop cell m.to) (leg_hop (fleet m.agent) time cell m.to h.1 h.0) in record { starts = parts.0; arrives = parts.1; moves = parts.2 }),
+  (λ h. (hop_leg (fleet m.agent) time (hop cell m.to) (of_hop (fleet m.agent) time cell m.to h.starts h.arrives h.moves), h.moves)),
 )

@@ -10,13 +10,13 @@ use Rattle.plan_table.specs.Path.{last_index, place}
 use Rattle.plan_table.specs.Route.{Route, Fleet, last_of, position}
 use Rattle.where_index.specs.declared.ends.End.{End}
 use Rattle.where_index.specs.declared.traffic.Traffic.{Traffic}
-use Rattle.where_index.specs.Records.{stand_at, tail_at, hop_at, hop_between}
+use Rattle.where_index.specs.Records.{stand_at, tail_at, hop_at, hop_between, leg_between, leg_at, rest_at}
 use Rattle.where_index.specs.Changes.{HaveSameAt, set_row, ChangesSpots}
-use Rattle.where_index.specs.Traffic.{ChangesMoves}
+use Rattle.where_index.specs.Traffic.{ChangesLegs}
 use Rattle.where_index.specs.Index.{Contents, end_in, all_of, StandsFor, with_route}
 use Rattle.where_index.specs.Ends.{IsEndOf}
 use Rattle.where_index.specs.Records.{nothing}
-use Rattle.cell_spots.proofs.Sets.{tied_or_not}
+use Rattle.where_index.proofs.Sets.{tied_or_not}
 use Rattle.where_index.proofs.Changes.{HasSpots-ext, row_cases}
 use Rattle.where_index.proofs.Flowing.{HasTraffic-ext}
 
@@ -40,15 +40,18 @@ stand_past r t h = ap (λ b. cond b (slice_get r.path t) None) (tests_past (leng
 pub rest_past : (r : Route) (t : ℕ) → length r.path ≤ t → tail_at r t ≡ None
 rest_past r t h = ap (λ b. cond b (slice_get r.path t) None) (test_past (length r.path) t r.leaves h)
 
-rest_elsewhere : (r : Route) (t : ℕ) → t ≢ last_index r.path → tail_at r t ≡ None
-rest_elsewhere r t h = ap (λ b. cond b (slice_get r.path t) None) (test r.leaves) where
+tail_elsewhere : (r : Route) (t : ℕ) → t ≢ last_index r.path → tail_at r t ≡ None
+tail_elsewhere r t h = ap (λ b. cond b (slice_get r.path t) None) (test r.leaves) where
   test : (leaves : Bool) → (not leaves && (t + 1 == length r.path)) ≡ false
   test true = grind (arith, nat_tests)
   test false = grind (arith, nat_tests)
 
 -- two routes have the same tails, but for the times of their last indices
 pub same_elsewhere : (old new : Route) (t : ℕ) → t ≢ last_index old.path → t ≢ last_index new.path → tail_at old t ≡ tail_at new t
-same_elsewhere old new t a b = rest_elsewhere old t a ∙ sym (rest_elsewhere new t b)
+same_elsewhere old new t a b = tail_elsewhere old t a ∙ sym (tail_elsewhere new t b)
+
+pub rest_elsewhere : (old new : Route) (t : ℕ) → t ≢ last_index old.path → t ≢ last_index new.path → rest_at old t ≡ rest_at new t
+rest_elsewhere old new t a b = ap (λ o. leg_between o None) (same_elsewhere old new t a b)
 
 pub hop_past : (path : List Point) (t : ℕ) → length path ≤ t → hop_at path t ≡ None
 hop_past path t h = ap (λ (o : Option Point). hop_between o (slice_get path (t + 1))) (past path t h)
@@ -76,14 +79,11 @@ module _ (fleet : Fleet) (agent : ℕ) (before next : Option Route) (was : fleet
       | inr away ↦ ap (λ b. cond b (g (unwrap_or next nothing) t) (all_of g fleet a t)) away.1 ∙ sym (ap (λ b. option_and_then (λ r. g r t) (cond b next (fleet a))) away.1)
     ]
 
-  no_stand : (t : ℕ) → stand_at nothing t ≡ None
-  no_stand t = stand_past nothing t (omega arith)
+  no_leg : (t : ℕ) → leg_at nothing t ≡ None
+  no_leg t = ap (λ o. leg_between o (hop_at [] t)) (stand_past nothing t (omega arith))
 
-  no_rest : (t : ℕ) → tail_at nothing t ≡ None
-  no_rest t = rest_past nothing t (omega arith)
-
-  no_hop : (t : ℕ) → hop_at [] t ≡ None
-  no_hop t = refl
+  no_rest : (t : ℕ) → rest_at nothing t ≡ None
+  no_rest t = ap (λ o. leg_between o None) (rest_past nothing t (omega arith))
 
   ends_next : (old new : List (ℕ × End)) (end : Option End) → ((q : ℕ) → end_in new q ≡ cond (is_eq (nat_cmp agent q)) end (end_in old q)) → ((a : ℕ) → IsEndOf (end_in old a) (fleet a)) → IsEndOf end next → (a : ℕ) → IsEndOf (end_in new a) (with_route fleet agent next a)
   ends_next old new end puts has is a = elim (row_cases a agent) [
@@ -111,23 +111,22 @@ module _ (fleet : Fleet) (agent : ℕ) (before next : Option Route) (was : fleet
     last_le (Some r) h = h
 
   abbrev traffic_in : Contents → Traffic
-  traffic_in index = record { hops = index.hops; flows = index.flows }
+  traffic_in index = record { stands = index.stands; crowds = index.crowds; flows = index.flows }
 
   -- the index after the records, the end and the horizon are changed
   pub stands_next : (index new : Contents) (end : Option End) → StandsFor index fleet
-      → ChangesSpots index.stands new.stands agent (stand_at (unwrap_or before nothing)) (stand_at (unwrap_or next nothing))
-      → ChangesSpots index.tails new.tails agent (tail_at (unwrap_or before nothing)) (tail_at (unwrap_or next nothing))
-      → ChangesMoves (traffic_in index) (traffic_in new) agent (hop_at (unwrap_or before nothing).path) (hop_at (unwrap_or next nothing).path)
+      → ChangesLegs (traffic_in index) (traffic_in new) agent (leg_at (unwrap_or before nothing)) (leg_at (unwrap_or next nothing))
+      → ChangesSpots index.tails new.tails agent (rest_at (unwrap_or before nothing)) (rest_at (unwrap_or next nothing))
       → ((q : ℕ) → end_in new.ends q ≡ cond (is_eq (nat_cmp agent q)) end (end_in index.ends q)) → IsEndOf end next
       → index.horizon ≤ new.horizon → last_index (unwrap_or next nothing).path ≤ new.horizon
       → StandsFor new (with_route fleet agent next)
-  stands_next index new end has stands tails moves puts is more last =
-      let moves_next = HasTraffic-ext (traffic_in new) _ _ (row_next (λ r. hop_at r.path) no_hop) (moves (all_of (λ r. hop_at r.path) fleet) (record { hops = has.hops; flows = has.flows }) (agrees (λ r. hop_at r.path) no_hop)) in
+  stands_next index new end has legs tails puts is more last =
+      let legs_next = HasTraffic-ext (traffic_in new) _ _ (row_next leg_at no_leg) (legs (all_of leg_at fleet) (record { stands = has.stands; crowds = has.crowds; flows = has.flows }) (agrees leg_at no_leg)) in
       record {
-        stands = HasSpots-ext new.stands _ _ (row_next stand_at no_stand) (stands (all_of stand_at fleet) has.stands (agrees stand_at no_stand));
-        tails = HasSpots-ext new.tails _ _ (row_next tail_at no_rest) (tails (all_of tail_at fleet) has.tails (agrees tail_at no_rest));
-        hops = moves_next.hops;
-        flows = moves_next.flows;
+        stands = legs_next.stands;
+        crowds = legs_next.crowds;
+        flows = legs_next.flows;
+        tails = HasSpots-ext new.tails _ _ (row_next rest_at no_rest) (tails (all_of rest_at fleet) has.tails (agrees rest_at no_rest));
         ends = ends_next index.ends new.ends end puts has.ends is;
         horizon = horizon_next index.horizon new.horizon has.horizon more last;
       }

@@ -6,11 +6,11 @@ use Rattle.plan_table.specs.Order.{ListsAll}
 use Rattle.plan_table.specs.Route.{Fleet, position_of, last_of}
 use Rattle.where_index.specs.declared.moves.Move.{Move}
 use Rattle.where_index.specs.declared.passings.Passing.{Passing}
-use Rattle.cell_spots.specs.declared.spot_sets.Spot.{Spot}
+use Rattle.where_index.specs.declared.spot_sets.Spot.{Spot}
 use Rattle.where_index.specs.declared.occupants.Occupants.{Occupants}
 use Rattle.where_index.specs.declared.ways.Way.{Way}
 use Rattle.where_index.specs.Flows.{leads}
-use Rattle.cell_spots.specs.Spot.{spot}
+use Rattle.where_index.specs.Spots.{HasAt}
 
 -- the agents whose position at that time is the cell, ascending
 abbrev pub AreStandingAt : Fleet → ℕ → Point → List ℕ → Type 0
@@ -50,32 +50,23 @@ pub record StandsIn (fleet : Fleet) (cell : Point) (from to : ℕ) (s : Spot) : 
   pub place : s.cell ≡ cell
   pub not_before : from ≤ s.time
   pub not_after : s.time ≤ to
-  pub there : position_of fleet s.agent s.time ≡ Some cell
+  pub there : position_of fleet s.step.agent s.time ≡ Some cell
 
 -- the agent is in the cell from that time on, which is no later than another
 pub record RestsIn (fleet : Fleet) (cell : Point) (to : ℕ) (s : Spot) : Type 0 where
   pub place : s.cell ≡ cell
   pub not_after : s.time ≤ to
-  pub there : (time : ℕ) → s.time ≤ time → position_of fleet s.agent time ≡ Some cell
+  pub there : (time : ℕ) → s.time ≤ time → position_of fleet s.step.agent time ≡ Some cell
 
 -- an agent that is in the cell at a time stands there, or has come to rest there
 abbrev pub IsOccupant : Point → ℕ → ℕ → List Spot → List Spot → Type 0
-IsOccupant cell time agent stands tails = Contains stands (spot cell time agent) ⊎ ((s : Spot) × Contains tails s × (s.agent ≡ agent) × (s.time ≤ time))
+IsOccupant cell time agent stands tails = HasAt stands cell time agent ⊎ ((s : Spot) × Contains tails s × (s.step.agent ≡ agent) × (s.time ≤ time))
 
 -- those who are in the cell at times from one to another
 pub record AreOccupants (fleet : Fleet) (cell : Point) (from to : ℕ) (found : Occupants) : Type 0 where
   pub standing : (s : Spot) → Contains found.stands s → StandsIn fleet cell from to s
   pub resting : (s : Spot) → Contains found.tails s → RestsIn fleet cell to s
   pub all : (agent time : ℕ) → from ≤ time → time ≤ to → position_of fleet agent time ≡ Some cell → IsOccupant cell time agent found.stands found.tails
-
--- another agent is in the cell at some time from one to another
-pub record IsShared (fleet : Fleet) (cell : Point) (from to agent : ℕ) : Type 0 where
-  pub other : ℕ
-  pub apart : other ≢ agent
-  pub time : ℕ
-  pub not_before : from ≤ time
-  pub not_after : time ≤ to
-  pub there : position_of fleet other time ≡ Some cell
 
 -- so many agents have a route
 pub record CountsAgents (fleet : Fleet) (count : ℕ) : Type 0 where

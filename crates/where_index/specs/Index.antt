@@ -4,22 +4,23 @@ use Rattle.std.specs.Option.{option_and_then}
 use Rattle.std.specs.Map.{lookup}
 use Rattle.std.specs.Ordering.{nat_cmp, is_eq}
 use Rattle.plan_table.specs.Route.{Route, Fleet, last_of}
-use Rattle.cell_spots.specs.declared.spot_sets.Spot.{Spot}
+use Rattle.where_index.specs.declared.spot_sets.Spot.{Spot}
 use Rattle.where_index.specs.declared.moves.Move.{Move}
-use Rattle.where_index.specs.declared.hops.Place.{Place}
+use Rattle.where_index.specs.declared.crowds.Place.{Place}
 use Rattle.where_index.specs.declared.flows.Flows.{Flows}
 use Rattle.where_index.specs.declared.ends.End.{End}
 use Rattle.where_index.specs.Ends.{IsEndOf}
-use Rattle.where_index.specs.Records.{stand_at, tail_at, hop_at}
-use Rattle.where_index.specs.Changes.{HasSpots, HasHops}
+use Rattle.where_index.specs.Records.{leg_at, rest_at}
+use Rattle.where_index.specs.Changes.{HasSpots}
+use Rattle.where_index.specs.Crowds.{HasCrowds}
 use Rattle.where_index.specs.Flows.{HasFlows}
 
 -- what an index keeps
 pub record Contents : Type 0 where
   pub stands : List Spot
-  pub tails : List Spot
-  pub hops : List (Place × List Move)
+  pub crowds : List (Place × List Move)
   pub flows : Flows
+  pub tails : List Spot
   pub ends : List (ℕ × End)
   pub horizon : ℕ
   pub touched : ℕ
@@ -34,10 +35,10 @@ all_of g fleet agent time = option_and_then (λ r. g r time) (fleet agent)
 
 -- the contents are the records of the fleet's routes, and nothing else
 pub record StandsFor (index : Contents) (fleet : Fleet) : Type 0 where
-  pub stands : HasSpots index.stands (all_of stand_at fleet)
-  pub tails : HasSpots index.tails (all_of tail_at fleet)
-  pub hops : HasHops index.hops (all_of (λ r. hop_at r.path) fleet)
-  pub flows : HasFlows index.flows (all_of (λ r. hop_at r.path) fleet)
+  pub stands : HasSpots index.stands (all_of leg_at fleet)
+  pub crowds : HasCrowds index.crowds (all_of leg_at fleet)
+  pub flows : HasFlows index.flows (all_of leg_at fleet)
+  pub tails : HasSpots index.tails (all_of rest_at fleet)
   pub ends : (agent : ℕ) → IsEndOf (end_in index.ends agent) (fleet agent)
   pub horizon : (agent : ℕ) → last_of fleet agent ≤ index.horizon
 

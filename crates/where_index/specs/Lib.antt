@@ -1,6 +1,8 @@
-pub mod Spot
+pub mod Spots
+pub mod ByCell
+pub mod Shown
 pub mod Moves
-pub mod Hops
+pub mod Crowds
 pub mod Records
 pub mod Changes
 pub mod Flows

@@ -15,6 +15,10 @@ HasNone moves agent = (m : Move) → Contains moves m → m.agent ≢ agent
 abbrev pub GainsMove : List Move → List Move → Move → Type 0
 GainsMove old new added = (m : Move) → Contains new m ↔ (Contains old m ⊎ (m ≡ added))
 
+-- new has that move, in the place of the agent's of old, and the others
+abbrev pub PutsMove : List Move → List Move → Move → Type 0
+PutsMove old new added = (m : Move) → Contains new m ↔ ((Contains old m × (m.agent ≢ added.agent)) ⊎ (m ≡ added))
+
 -- new has the moves of old but for the agent's
 abbrev pub LosesMover : List Move → List Move → ℕ → Type 0
 LosesMover old new agent = (m : Move) → Contains new m ↔ (Contains old m × (m.agent ≢ agent))

@@ -30,6 +30,24 @@ hop_between None b = None
 abbrev pub hop_at : List Point → ℕ → Option Hop
 hop_at path time = hop_between (slice_get path time) (slice_get path (time + 1))
 
+-- from the one cell to the other
+abbrev pub hop : Point → Point → Hop
+hop from to = record { from = from; to = to }
+
+-- where an agent stands, if it does, and where it is one step later: where its move leads, if it makes one
+abbrev pub leg_between : Option Point → Option Hop → Option Hop
+leg_between None move = None
+leg_between (Some cell) None = Some (hop cell cell)
+leg_between (Some cell) (Some move) = Some (hop cell move.to)
+
+-- where a route's agent stands at a time and where it is one step later, by the records Stand and Move
+abbrev pub leg_at : Route → ℕ → Option Hop
+leg_at r time = leg_between (stand_at r time) (hop_at r.path time)
+
+-- where it comes to rest, and stays, by the record Tail
+abbrev pub rest_at : Route → ℕ → Option Hop
+rest_at r time = leg_between (tail_at r time) None
+
 -- how many of the two are given, where they differ
 abbrev pub changed : Option Point → Option Point → ℕ
 changed None None = 0
@@ -49,9 +67,13 @@ abbrev pub changes_below : {X : Type 0} → (X → X → ℕ) → (ℕ → X) �
 changes_below change old new zero = 0
 changes_below change old new (suc x) = changes_below change old new x + change (old x) (new x)
 
+-- how many records Stand and Move exactly one of two routes has, below a time
+abbrev pub legs_apart : Route → Route → ℕ → ℕ
+legs_apart old new to = changes_below changed (stand_at old) (stand_at new) to + changes_below changed_hop (hop_at old.path) (hop_at new.path) to
+
 -- how many records exactly one of two routes has, below a time
 abbrev pub apart_below : Route → Route → ℕ → ℕ
-apart_below old new to = changes_below changed (stand_at old) (stand_at new) to + changes_below changed (tail_at old) (tail_at new) to + changes_below changed_hop (hop_at old.path) (hop_at new.path) to
+apart_below old new to = legs_apart old new to + changes_below changed (tail_at old) (tail_at new) to
 
 -- how many records exactly one of two routes has
 abbrev pub records_apart : Route → Route → ℕ

@@ -3,10 +3,10 @@ ghost use Rattle.std.specs.Ordering.{nat_cmp};
 ghost use Rattle.std.specs.List.Sorted.{IsStrictlySortedBy};
 ghost use Rattle.plan_table.specs.Order.{ListsAll};
 ghost use Rattle.where_index.specs.declared.passings.Passing.{Passing};
-ghost use Rattle.where_index.specs.Spot.{HasAgent, HasPassing, passing_cmp};
+ghost use Rattle.where_index.specs.Shown.{HasAgent, HasPassing, passing_cmp};
 
 use crate::passings::Passing;
-use cell_spots::Spot;
+use crate::spot_sets::Spot;
 use grid_cells::{Agent, List, OutOfMemory};
 use std::alloc::Global;
 use std::collections::BTreeSet;
@@ -45,7 +45,7 @@ fn gather_agents(found: &mut BTreeSet<Agent>, spots: Range<'_, Spot>) -> Result<
     ensures { OnOk result ((a : ℕ) → Contains found.new.keys a ↔ (Contains found.old.keys a ⊎ HasAgent spots.entry a)) }
 {
     for spot in spots {
-        found.insert(spot.agent)?;
+        found.insert(spot.step.agent)?;
     }
     Ok(())
 }
@@ -55,7 +55,7 @@ fn gather_passings(found: &mut BTreeSet<Passing>, spots: Range<'_, Spot>) -> Res
     ensures { OnOk result ((p : Passing) → Contains found.new.keys p ↔ (Contains found.old.keys p ⊎ HasPassing spots.entry p)) }
 {
     for spot in spots {
-        let (time, agent) = (spot.time, spot.agent);
+        let (time, agent) = (spot.time, spot.step.agent);
         found.insert(Passing { time, agent })?;
     }
     Ok(())

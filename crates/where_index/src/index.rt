@@ -33,7 +33,7 @@ impl Model for WhereIndex {
 
     ghost Value = { Contents };
 
-    ghost view = { λ i. record { stands = i.records.stands; tails = i.records.tails; hops = i.records.traffic.hops; flows = i.records.traffic.flows; ends = i.ends.entries; horizon = i.horizon; touched = i.touched } };
+    ghost view = { λ i. record { stands = i.records.traffic.stands; crowds = i.records.traffic.crowds; flows = i.records.traffic.flows; tails = i.records.tails; ends = i.ends.entries; horizon = i.horizon; touched = i.touched } };
 }
 
 impl WhereIndex {

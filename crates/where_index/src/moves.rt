@@ -1,12 +1,13 @@
 ghost use Rattle.std.specs.Prelude.{◌≡◌, [], OnOk, IfOk, IfErr};
-ghost use Rattle.where_index.specs.Moves.{AreByAgent, HasNone, GainsMove, LosesMover, IsAt, IsGapFor};
+ghost use Rattle.where_index.specs.Moves.{AreByAgent, HasNone, GainsMove, PutsMove, LosesMover, IsAt, IsGapFor};
 
 use grid_cells::{Agent, Cell, OutOfMemory};
 use smallvec::SmallVec;
 use std::alloc::Global;
 use std::marker::Model;
 
-/// A move of an agent, and the cell that it goes to.
+/// A step of an agent, and the cell that it goes to. A step that stays in its cell is a wait, and no
+/// move.
 #[derive(Clone, Copy, Debug, Default, PartialEq, Eq, PartialOrd, Ord)]
 pub struct Move {
     pub agent: Agent,
@@ -16,7 +17,7 @@ pub struct Move {
 /// The moves out of one cell in one step, by agent.
 #[derive(Drop)]
 pub struct MoveList {
-    moves: SmallVec<Move, 1>,
+    moves: SmallVec<Move, 2>,
 }
 
 impl Model for MoveList {
@@ -49,8 +50,8 @@ impl MoveList {
         self.moves.as_slice()
     }
 
-    /// Adds the move of an agent that has none in the list.
-    pub fn add(&mut self, added: Move) -> Result<(), OutOfMemory>
+    // Adds the move of an agent that has none in the list.
+    fn add(&mut self, added: Move) -> Result<(), OutOfMemory>
         requires { HasNone self.old added.agent }
         ensures { OnOk result (GainsMove self.old self.new added) }
     {
@@ -61,6 +62,14 @@ impl MoveList {
                 Ok(())
             }
         }
+    }
+
+    /// Puts in the move, in the place of the agent's, if it has one.
+    pub fn put(&mut self, added: Move) -> Result<(), OutOfMemory>
+        ensures { OnOk result (PutsMove self.old self.new added) }
+    {
+        self.lose(added.agent);
+        self.add(added)
     }
 
     /// Takes the agent's move out, if it has one.

@@ -1,4 +1,4 @@
-use cell_spots::Spot;
+use crate::spot_sets::Spot;
 use std::collections::btree_set::Range;
 
 /// Who is in one cell at steps from one to another. Both parts go by time, then agent.

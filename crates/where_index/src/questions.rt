@@ -3,7 +3,7 @@ ghost use Rattle.std.specs.Option.{option_map};
 ghost use Rattle.plan_table.specs.Route.{Fleet, position_of};
 ghost use Rattle.where_index.specs.Ends.{EndsAt};
 ghost use Rattle.where_index.specs.Index.{StandsFor, end_in};
-ghost use Rattle.where_index.specs.Asked.{AreStandingAt, AreMovers, Goes, ArePassing, AreOccupants, IsShared};
+ghost use Rattle.where_index.specs.Asked.{AreStandingAt, AreMovers, Goes, ArePassing, AreOccupants};
 
 use crate::ends::End;
 use crate::gathering::{agents_of, passings_of};
@@ -20,7 +20,7 @@ impl WhereIndex {
         ensures { IfOk result (λ agents. (fleet : Fleet) → StandsFor self.now fleet → AreStandingAt fleet step cell agents) }
     {
         let time = step.number();
-        let stands = self.records.stands.between(cell, time, time);
+        let stands = self.records.traffic.stands.between(cell, time, time);
         let tails = self.records.tails.between(cell, 0, time);
         agents_of(self.alloc, stands, tails)
     }
@@ -33,36 +33,23 @@ impl WhereIndex {
         let first = from.number();
         let last = to.number();
         Occupants {
-            stands: self.records.stands.between(cell, first, last),
+            stands: self.records.traffic.stands.between(cell, first, last),
             tails: self.records.tails.between(cell, 0, last),
         }
-    }
-
-    /// Whether another agent is in the cell at some step from one to another, both of them included.
-    pub fn is_shared(&self, cell: Cell, from: Step, to: Step, agent: Agent) -> bool
-        requires { from ≤ to }
-        ensures { (fleet : Fleet) → StandsFor self.now fleet → IsTrue result ↔ IsShared fleet cell from to agent }
-    {
-        let first = from.number();
-        let last = to.number();
-        if self.records.stands.has_other(cell, first, last, agent) {
-            return true;
-        }
-        self.records.tails.has_other(cell, 0, last, agent)
     }
 
     /// Those who move out of the cell in the step, by agent.
     pub fn movers(&self, step: Step, cell: Cell) -> &[Move]
         ensures { (fleet : Fleet) → StandsFor self.now fleet → AreMovers fleet step cell result.now }
     {
-        self.records.traffic.hops.at(cell, step.number())
+        self.records.traffic.movers(cell, step.number())
     }
 
     /// Whether some agent moves that way in the step.
     pub fn goes(&self, step: Step, way: Way) -> bool
         ensures { (fleet : Fleet) → StandsFor self.now fleet → IsTrue result ↔ Goes fleet step way }
     {
-        self.records.stands.are_numbered();
+        self.records.traffic.stands.are_within();
         self.records.traffic.flows.at(way, step.number()) > 0
     }
 
@@ -73,7 +60,7 @@ impl WhereIndex {
     {
         let time = from.number();
         let to = self.horizon.max(time);
-        let stands = self.records.stands.between(cell, time, to);
+        let stands = self.records.traffic.stands.between(cell, time, to);
         let tails = self.records.tails.between(cell, time, to);
         passings_of(self.alloc, stands, tails)
     }
@@ -83,7 +70,7 @@ impl WhereIndex {
         ensures { (fleet : Fleet) → StandsFor self.now fleet → IsTrue result ↔ (position_of fleet agent step ≡ Some cell) }
     {
         let time = step.number();
-        if self.records.stands.has(cell, time, agent) {
+        if self.records.traffic.stands.has(cell, time, agent) {
             return true;
         }
         match self.end_of(agent) {

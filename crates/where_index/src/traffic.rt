@@ -1,46 +1,103 @@
-ghost use Rattle.std.specs.Prelude.{Some, None, OnOk};
-ghost use Rattle.where_index.specs.Traffic.{HasTraffic, ChangesMove};
+ghost use Rattle.std.specs.Prelude.{◌≡◌, ◌↔◌, ℕ, Option, Some, None, OnOk, Contains};
+ghost use Rattle.where_index.specs.declared.trails.Hop.{Hop};
+ghost use Rattle.where_index.specs.declared.moves.Move.{Move};
+ghost use Rattle.where_index.specs.Records.{hop};
+ghost use Rattle.where_index.specs.Changes.{HasSpots, set_at};
+ghost use Rattle.where_index.specs.Crowds.{Moves, HasCrowds, IsBeside};
+ghost use Rattle.where_index.specs.Moves.{AreByAgent};
+ghost use Rattle.where_index.specs.Traffic.{HasTraffic, ChangesLeg};
 
+use crate::crowds::Crowds;
 use crate::flows::Flows;
-use crate::hops::Hops;
 use crate::moves::Move;
+use crate::spot_sets::Spot;
+use crate::spots::Spots;
 use crate::trails::Hop;
-use grid_cells::{Agent, OutOfMemory};
+use grid_cells::{Agent, Cell, OutOfMemory};
 use std::alloc::Global;
+use std::slice;
 
-/// The moves of agents: those out of each cell in each step, and how many go each way.
+/// Where agents are at each time and one step later: by cell, the moves of crowds once more as lists,
+/// and how many go each way.
 #[derive(Drop)]
 pub struct Traffic {
-    pub hops: Hops,
+    pub stands: Spots,
+    pub crowds: Crowds,
     pub flows: Flows,
 }
 
 impl Traffic {
-    /// Nobody moves.
+    /// Nobody is anywhere.
     pub fn new(alloc: Global) -> Traffic
         ensures { HasTraffic result (λ _ _. None) }
     {
         Traffic {
-            hops: Hops::new(alloc),
+            stands: Spots::new(alloc),
+            crowds: Crowds::new(alloc),
             flows: Flows::new(alloc),
         }
     }
 
-    /// Adds the agent's move in that step, where it has none.
-    pub fn add(&mut self, agent: Agent, time: u32, hop: Hop) -> Result<(), OutOfMemory>
-        ensures { OnOk result (ChangesMove self.old self.new agent time None (Some hop)) }
+    /// The moves out of the cell in the step that begins at the time, by agent.
+    pub fn movers(&self, cell: Cell, time: u32) -> &[Move]
+        ensures all { (f : ℕ → ℕ → Option Hop) → HasTraffic self.now f → (m : Move) → Contains result.now m ↔ Moves f cell time m }
+        ensures by_agent { AreByAgent result.now }
     {
-        let (from, to) = (hop.from, hop.to);
-        self.flows.add(agent, time, &hop)?;
-        self.hops.add(from, time, Move { agent, to })
+        if let Some(moves) = self.crowds.at(cell, time) {
+            return moves;
+        }
+        match self.stands.mover(cell, time) {
+            Some(step) => slice::from_ref(step),
+            None => &[],
+        }
     }
 
-    /// Takes the agent's move in that step out.
-    pub fn lose(&mut self, agent: Agent, time: u32, hop: Hop)
-        ensures { ChangesMove self.old self.new agent time (Some hop) None }
+    // One of the moves out of the cell in the step, if there is any.
+    fn beside(&self, cell: Cell, time: u32) -> Option<Move>
+        ensures { (f : ℕ → ℕ → Option Hop) → HasSpots self.now.stands f → IsBeside f cell time result }
     {
-        let from = hop.from;
-        self.flows.lose(agent, time, &hop);
-        self.hops.lose(from, time, agent);
+        match self.stands.mover(cell, time) {
+            Some(step) => Some(*step),
+            None => None,
+        }
     }
+
+    /// Adds where the agent goes in that step, where nothing is known of it.
+    pub fn add(&mut self, agent: Agent, time: u32, leg: Hop) -> Result<(), OutOfMemory>
+        ensures { OnOk result (ChangesLeg self.old self.new agent time None (Some leg)) }
+    {
+        let (cell, to) = (leg.from, leg.to);
+        let beside = self.beside(cell, time);
+        self.flows.add(agent, time, &leg)?;
+        crowd(&mut self.crowds, cell, time, beside, Move { agent, to })?;
+        let step = Move { agent, to };
+        self.stands.add(Spot { cell, time, step })
+    }
+
+    /// Takes out where the agent goes in that step.
+    pub fn lose(&mut self, agent: Agent, time: u32, leg: Hop)
+        ensures { ChangesLeg self.old self.new agent time (Some leg) None }
+    {
+        let (cell, to) = (leg.from, leg.to);
+        let step = Move { agent, to };
+        self.flows.lose(agent, time, &leg);
+        self.stands.lose(&Spot { cell, time, step });
+        self.crowds.leave(cell, time, agent);
+    }
+}
+
+// Keeps the step with the others out of its cell then, if it is a move, and one of them is told.
+fn crowd(
+    crowds: &mut Crowds,
+    cell: Cell,
+    time: u32,
+    beside: Option<Move>,
+    step: Move,
+) -> Result<(), OutOfMemory>
+    ensures { OnOk result ((f : ℕ → ℕ → Option Hop) → HasCrowds crowds.old f → f step.agent time ≡ None → IsBeside f cell time beside → HasCrowds crowds.new (set_at f step.agent time (Some (hop cell step.to)))) }
+{
+    if step.to == cell {
+        return Ok(());
+    }
+    crowds.join(cell, time, beside, step)
 }

@@ -1,13 +1,13 @@
 ghost use Rattle.std.specs.Prelude.{◌≡◌, Some};
 ghost use Rattle.plan_table.specs.Path.{IsPath, last_index};
 ghost use Rattle.plan_table.specs.Route.{route_of};
-ghost use Rattle.where_index.specs.Records.{nothing, stand_at, tail_at, hop_at, hop_between};
+ghost use Rattle.where_index.specs.Records.{nothing, stand_at, tail_at, hop_at, hop_between, leg_at, leg_between};
 
 use grid_cells::Cell;
 use plan_table::Track;
 use std::marker::Model;
 
-/// A move from one cell to another.
+/// From one cell to another in a step, or to the same one, where an agent waits.
 #[derive(Clone, Copy, Debug, PartialEq, Eq)]
 pub struct Hop {
     pub from: Cell,
@@ -96,6 +96,24 @@ impl<'a> Trail<'a> {
         } else {
             None
         }
+    }
+
+    /// Where its agent stands at the time, before it comes to rest, and where it is one step later.
+    pub fn leg(&self, time: u32) -> Option<Hop>
+        ensures { result ≡ leg_at self.now time }
+    {
+        leg_from(self.stand(time), self.hop(time))
+    }
+}
+
+// From where an agent stands, if it does, to where its move leads, if it makes one.
+fn leg_from(stand: Option<Cell>, hop: Option<Hop>) -> Option<Hop>
+    ensures { result ≡ leg_between stand hop }
+{
+    let from = stand?;
+    match hop {
+        Some(hop) => Some(Hop { from, to: hop.to }),
+        None => Some(Hop { from, to: from }),
     }
 }
 

@@ -1,7 +1,7 @@
 use Rattle.std.proofs.Common.{List, Contains, inl, inr, sym, subst}
 use Rattle.plan_table.specs.Route.{Fleet}
-use Rattle.cell_spots.specs.declared.spot_sets.Spot.{Spot}
-use Rattle.cell_spots.proofs.Sets.{Contains-cons_cases, Contains-head, Contains-tail, Contains-nil}
+use Rattle.where_index.specs.declared.spot_sets.Spot.{Spot}
+use Rattle.where_index.proofs.Sets.{Contains-cons_cases, Contains-head, Contains-tail, Contains-nil}
 use Rattle.conflict_ledger.specs.Sight.{Sees}
 use Rattle.conflict_ledger.specs.Gathering.{IsStop, AreShowing, HasSeen}
 use Rattle.conflict_ledger.proofs.Gathers.{gathers_nothing, gathers_on}

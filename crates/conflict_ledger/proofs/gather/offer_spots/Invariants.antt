@@ -1,6 +1,6 @@
 use Rattle.std.proofs.Common.{◌⊎◌, Contains}
 use Rattle.plan_table.specs.Route.{Fleet}
-use Rattle.cell_spots.specs.declared.spot_sets.Spot.{Spot}
+use Rattle.where_index.specs.declared.spot_sets.Spot.{Spot}
 use Rattle.conflict_ledger.specs.Sight.{Sees}
 use Rattle.conflict_ledger.specs.Gathering.{Gathers, IsStop, IsAbout, AreShowing, HasSeen}
 use Rattle.conflict_ledger.proofs.gather.offer_spots.Given as goal

@@ -16,6 +16,6 @@ returns-clause-gathers c =
 pub returns-clause-behind : goal.returns-clause-behind
 returns-clause-behind c =
     on_ok_weaker c.offer_met.result (λ gives fleet shows is showing later. elim (c.place_of.ensures.behind later) [
-      | inl behind ↦ subst (λ (p : Place). HasMet fleet c.args.sight.now.agent c.args.stop.now.time p c.args.spot.now.agent c.offer_met.new.entries.items) (same_Some _ _ (sym c.in-Some.is ∙ behind)) (gives fleet shows is.goes)
+      | inl behind ↦ subst (λ (p : Place). HasMet fleet c.args.sight.now.agent c.args.stop.now.time p c.args.spot.now.step.agent c.offer_met.new.entries.items) (same_Some _ _ (sym c.in-Some.is ∙ behind)) (gives fleet shows is.goes)
       | inr now ↦ λ entry own at two apart met. absurd (behind_moves fleet _ _ _ _ _ is.goes entry own at two apart met (showing apart _ now))
     ]) c.offer_met.ensures.has

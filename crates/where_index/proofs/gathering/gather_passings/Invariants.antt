@@ -1,4 +1,4 @@
-use Rattle.where_index.specs.Spot.{passing_of}
+use Rattle.where_index.specs.Shown.{passing_of}
 use Rattle.where_index.proofs.Gathered.{Gathers}
 use Rattle.where_index.proofs.gathering.gather_passings.Given as goal
 

@@ -2,7 +2,7 @@ use Rattle.std.proofs.Common.{◌⊎◌, [], ◌∷◌, sym, subst}
 use Rattle.std.proofs.lemmas.Result.{IfOk-weaker}
 use Rattle.plan_table.specs.Order.{ListsAll}
 use Rattle.where_index.specs.declared.passings.Passing.{Passing}
-use Rattle.where_index.specs.Spot.{passing_of, HasPassing}
+use Rattle.where_index.specs.Shown.{passing_of, HasPassing}
 use Rattle.where_index.proofs.Gathered.{gathers_two, passings_ascend}
 use Rattle.where_index.proofs.gathering.passings_of.Goals as goal
 

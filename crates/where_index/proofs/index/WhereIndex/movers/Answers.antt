@@ -1,5 +1,4 @@
-use Rattle.std.proofs.Common.{◌≡◌, ℕ, ◌<◌, List, ◌∷◌, [], Contains, sym, ap, subst, arith}
-use mathlib.Core.Logic.{◌↔◌}
+use Rattle.std.proofs.Common.{◌≡◌, ℕ, ◌<◌, List, ◌∷◌, [], ap, arith}
 use Rattle.std.specs.List.{AllPairs}
 use Rattle.std.specs.Ordering.{nat_cmp, ordering_then}
 use Rattle.std.specs.declared.cmp.Ordering.TheVariants.{Less, Equal}
@@ -7,7 +6,8 @@ use Rattle.std.proofs.lemmas.Bool.Decides.{nat_tests}
 use Rattle.plan_table.specs.Order.{ComesBefore}
 use Rattle.where_index.specs.declared.moves.Move.{Move}
 use Rattle.where_index.specs.Moves.{AreByAgent}
-use Rattle.where_index.specs.Asked.{MovesFrom}
+use Rattle.where_index.specs.Records.{leg_at}
+use Rattle.where_index.specs.Index.{all_of}
 use Rattle.where_index.proofs.Positions.{movers_exact}
 use Rattle.where_index.proofs.index.WhereIndex.movers.Goals as goal
 
@@ -20,8 +20,9 @@ movers_ascend moves rise i j d lt within = ap (λ o. ordering_then o Equal) (les
 pub returns : goal.returns
 returns c = λ fleet has.
     let records = rw (← c.self.view_is) at has in
-    let is = rw c.number.ensures at c.at.ensures.is in
+    let told = rw c.number.ensures at c.movers.ensures.all in
+    let all = told (all_of leg_at fleet) (record { stands = records.stands; crowds = records.crowds; flows = records.flows }) in
     record {
-      ascending = movers_ascend c.at.result.now c.at.ensures.by_agent;
-      exact = λ m. subst (λ (l : List Move). Contains l m ↔ MovesFrom fleet c.args.step c.args.cell m) (sym is) (movers_exact c.self.inside.records.traffic.hops fleet c.args.cell c.args.step records.hops m);
+      ascending = movers_ascend c.movers.result.now c.movers.ensures.by_agent;
+      exact = λ m. let move = movers_exact fleet c.args.cell c.args.step m in ((λ h. move.0 ((all m).0 h)), (λ h. (all m).1 (move.1 h)));
     }

@@ -12,4 +12,4 @@ replace-changed-requires-clause-same_after c = λ t h.
 pub returns-clause-stands : goal.returns-clause-stands
 returns-clause-stands c = λ fleet has was.
     let g = rw (c.none.ensures, c.of-trail.ensures.is) at c.in-Ok.ensures in
-    stands_next fleet c.args.agent (Some (route_of c.args.track)) None was _ _ None (rw (← c.self.view_is) at has) g.stands g.tails g.traffic c.remove.ensures.updates.0 tt (omega arith) (omega arith)
+    stands_next fleet c.args.agent (Some (route_of c.args.track)) None was _ _ None (rw (← c.self.view_is) at has) g.traffic g.tails c.remove.ensures.updates.0 tt (omega arith) (omega arith)

@@ -1,9 +1,10 @@
-use Rattle.std.proofs.lemmas.Result.{IfOk-weaker}
-use Rattle.where_index.proofs.Changes.{fills_hop}
+use Rattle.std.proofs.lemmas.Result.{on_ok_weaker}
+use Rattle.where_index.proofs.Changes.{fills}
 use Rattle.where_index.proofs.traffic.Traffic.add.Goals as goal
 
 pub returns : goal.returns
-returns c = IfOk-weaker c.add-2.result _ _ (λ _ gains f has is. record {
-  hops = fills_hop c.args.self.now.hops c.add-2.new.self c.args.agent c.args.time c.args.hop f gains has.hops is;
+returns c = on_ok_weaker c.add-2.result (λ gains f has is. record {
+  stands = fills c.args.self.now.stands c.add-2.new.self c.args.agent c.args.time c.args.leg f gains has.stands is;
+  crowds = c.in_ok-crowd.ensures f has.crowds is (c.beside-beside.ensures f has.stands);
   flows = c.in_ok-add.ensures f has.flows is;
 }) c.add-2.ensures

@@ -1,2 +1,0 @@
-pub mod Spot
-pub mod Kept

@@ -1,0 +1,17 @@
+use Rattle.std.proofs.Common.{◌≡◌, sym, ap, ◌∙◌, arith}
+use Rattle.where_index.specs.Records.{stand_at, hop_at, leg_between, leg_at}
+use Rattle.where_index.specs.Changes.{set_at}
+use Rattle.where_index.proofs.Flowing.{HasTraffic-ext}
+use Rattle.where_index.proofs.Changes.{set_same}
+use Rattle.where_index.proofs.leg_changes.change_leg.Goals as goal
+
+pub returns-in_ok-set_leg-clause-set : goal.returns-in_ok-set_leg-clause-set
+returns-in_ok-set_leg-clause-set c = rw (c.leg.ensures, c.leg-then-count-gt0.ensures) at c.in_ok-set_leg.ensures.set
+
+pub returns-else-count-gt0-clause-set : goal.returns-else-count-gt0-clause-set
+returns-else-count-gt0-clause-set c = λ f has is.
+    let time = c.args.time in
+    let stands : stand_at c.args.old.now time ≡ stand_at c.args.new.now time = sym c.stand.ensures ∙ (c.count_of.ensures.none (omega (arith, c.if-count-gt0.false)) ∙ c.stand-2.ensures) in
+    let hops : hop_at c.args.old.now.path time ≡ hop_at c.args.new.now.path time = sym c.hop.ensures ∙ (c.count_of_hops.ensures.none (omega (arith, c.if-count-gt0.false)) ∙ c.hop-2.ensures) in
+    let same : leg_at c.args.old.now time ≡ leg_at c.args.new.now time = ap (λ o. leg_between o (hop_at c.args.old.now.path time)) stands ∙ ap (λ h. leg_between (stand_at c.args.new.now time) h) hops in
+    HasTraffic-ext c.args.traffic.now f (set_at f c.args.agent time (leg_at c.args.new.now time)) (set_same f c.args.agent time (leg_at c.args.new.now time) (is ∙ same)) has

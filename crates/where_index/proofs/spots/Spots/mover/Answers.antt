@@ -1,0 +1,47 @@
+use Rattle.std.proofs.Common.{◌≡◌, List, Contains, refl, sym, ap, ◌∙◌, subst, arith, inl, inr, not, Bool, true, false}
+use Rattle.where_index.specs.declared.spot_sets.Spot.{Spot}
+use Rattle.where_index.specs.Spots.{spot}
+use Rattle.where_index.specs.ByCell.{cell_eq}
+use Rattle.where_index.proofs.ByCell.{cell_exact, apart_from}
+use Rattle.where_index.proofs.Sets.{Contains-nil, Contains-head, Contains-tail, Contains-cons_cases}
+use Rattle.where_index.proofs.spots.Spots.mover.Goals as goal
+
+negated : (b : Bool) → not b ≡ true → b ≡ false
+negated true e = absurd (cc)
+negated false e = refl
+
+affirmed : (b : Bool) → not b ≡ false → b ≡ true
+affirmed true e = refl
+affirmed false e = absurd (cc)
+
+pub loop-spot-init : goal.loop-spot-init
+loop-spot-init c =
+    let all = c.into_iter-spot-iterator.ensures.into_iter_gives in
+    record {
+      only = λ s h. (c.between-spot-items.ensures s).0 (subst (λ (l : List Spot). Contains l s) all h);
+      left = λ step h. subst (λ (l : List Spot). Contains l (spot c.args.cell c.args.time step.agent step.to)) (sym all) ((c.between-spot-items.ensures (spot c.args.cell c.args.time step.agent step.to)).1 (h.0, refl, omega arith, omega arith));
+    }
+
+pub returns-then-ne-clause-some : goal.returns-then-ne-clause-some
+returns-then-ne-clause-some c =
+    let s = c.in-Some.spot.now in
+    let is = c.loop-spot.invariant.only s (subst (λ (l : List Spot). Contains l s) (sym c.in-Some.ensures.steps) (Contains-head s c.next.new.self)) in
+    let times : s.time ≡ c.args.time = omega arith in
+    let one : s ≡ spot c.args.cell c.args.time s.step.agent s.step.to = λ i. record { cell = is.1 i; time = times i; step = s.step } in
+    (subst (λ q. Contains c.args.self.now q) one is.0, apart_from s.step.to c.args.cell (negated (cell_eq s.step.to c.args.cell) (sym c.ne.ensures ∙ c.if-ne.true)))
+
+pub loop-spot-preserved : goal.loop-spot-preserved
+loop-spot-preserved c =
+    let s = c.in-Some.spot.now in
+    record {
+      only = λ q h. c.loop-spot.invariant.only q (subst (λ (l : List Spot). Contains l q) (sym c.in-Some.ensures.steps) (Contains-tail s c.next.new.self q h));
+      left = λ step h.
+          let q = spot c.args.cell c.args.time step.agent step.to in
+          elim (Contains-cons_cases s c.next.new.self q (subst (λ (l : List Spot). Contains l q) c.in-Some.ensures.steps (c.loop-spot.invariant.left step h))) [
+            | inl is ↦ absurd (h.1 (sym (cell_exact s.step.to c.args.cell (affirmed (cell_eq s.step.to c.args.cell) (sym c.ne.ensures ∙ c.if-ne.false))) ∙ ap (λ (v : Spot). v.step.to) is))
+            | inr later ↦ later
+          ];
+    }
+
+pub returns-clause-none : goal.returns-clause-none
+returns-clause-none c = λ step h. Contains-nil _ (subst (λ (l : List Spot). Contains l (spot c.args.cell c.args.time step.agent step.to)) c.in-None.ensures.steps.0 (c.loop-spot.invariant.left step h))

@@ -1,0 +1,52 @@
+-- Sets of spots, an agent in a cell at a time on its way to a cell: words for the program's own steps (this project's choice).
+use Rattle.std.specs.Prelude.{◌≡◌, ◌≢◌, ◌⊎◌, ◌↔◌, ℕ, ◌<◌, ◌≤◌, List, Contains}
+use Rattle.std.specs.Ordering.{nat_cmp, ordering_then}
+use Rattle.std.specs.declared.cmp.Ordering.{Ordering}
+use Rattle.grid_cells.specs.Cell.{Point}
+use Rattle.grid_cells.specs.declared.numbers.TheConstants.{MOST_AGENT}
+use Rattle.grid_cells.specs.declared.sizes.TheConstants.{MOST_SIDE}
+use Rattle.where_index.specs.declared.moves.Move.{Move}
+use Rattle.where_index.specs.declared.spot_sets.Spot.{Spot}
+
+-- the agent in the cell at the time, and one step later in another cell or the same
+abbrev pub spot : Point → ℕ → ℕ → Point → Spot
+spot cell time agent to = record { cell = cell; time = time; step = record { agent = agent; to = to } }
+
+-- the spot has an agent's number, and goes to a cell that a map can have
+abbrev pub IsWithin : Spot → Type 0
+IsWithin s = (s.step.agent ≤ MOST_AGENT) × (s.step.to.x < MOST_SIDE) × (s.step.to.y < MOST_SIDE)
+
+abbrev pub AreWithin : List Spot → Type 0
+AreWithin spots = (s : Spot) → Contains spots s → IsWithin s
+
+-- one of the spots is the agent's in that cell at that time
+abbrev pub HasAt : List Spot → Point → ℕ → ℕ → Type 0
+HasAt spots cell time agent = (to : Point) × Contains spots (spot cell time agent to)
+
+-- new has that element, and those of old
+abbrev pub Gains : {X : Type 0} → List X → List X → X → Type 0
+Gains {X} old new added = (x : X) → Contains new x ↔ (Contains old x ⊎ (x ≡ added))
+
+-- new has the elements of old but for that one
+abbrev pub Loses : {X : Type 0} → List X → List X → X → Type 0
+Loses {X} old new lost = (x : X) → Contains new x ↔ (Contains old x × (x ≡ lost → ⊥))
+
+-- one of the spots, at the cell and from one time to another
+abbrev pub IsBetween : List Spot → Point → ℕ → ℕ → Spot → Type 0
+IsBetween all cell from to s = Contains all s × (s.cell ≡ cell) × (from ≤ s.time) × (s.time ≤ to)
+
+-- the spots at the cell from one time to another
+abbrev pub AreBetween : List Spot → Point → ℕ → ℕ → List Spot → Type 0
+AreBetween all cell from to found = (s : Spot) → Contains found s ↔ IsBetween all cell from to s
+
+-- the agent of the step is in the cell at the time, and in another one step later
+abbrev pub IsMover : List Spot → Point → ℕ → Move → Type 0
+IsMover all cell time step = Contains all (spot cell time step.agent step.to) × (cell ≢ step.to)
+
+-- moves compare by agent, then the row and the column of the cell that it goes to
+abbrev pub move_cmp : Move → Move → Ordering
+move_cmp a b = ordering_then (nat_cmp a.agent b.agent) (ordering_then (nat_cmp a.to.y b.to.y) (nat_cmp a.to.x b.to.x))
+
+-- spots compare by the cell's row and column, then time, then agent and where it goes
+abbrev pub spot_cmp : Spot → Spot → Ordering
+spot_cmp a b = ordering_then (ordering_then (nat_cmp a.cell.y b.cell.y) (nat_cmp a.cell.x b.cell.x)) (ordering_then (nat_cmp a.time b.time) (move_cmp a.step b.step))

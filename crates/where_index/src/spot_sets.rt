@@ -1,0 +1,123 @@
+ghost use Rattle.std.specs.Prelude.{◌≡◌, ◌↔◌, ◌-◌, ◌≤◌, [], OnOk, OnErr, IsTrue};
+ghost use Rattle.std.specs.Bool.{OnTrue};
+ghost use Rattle.grid_cells.specs.Cell.{point};
+ghost use Rattle.grid_cells.specs.declared.sizes.TheConstants.{MOST_SIDE};
+ghost use Rattle.where_index.specs.Spots.{spot, Gains, Loses, AreBetween, HasAt};
+
+use crate::moves::Move;
+use grid_cells::{Agent, Cell, MOST_SIDE, OutOfMemory};
+use std::alloc::Global;
+use std::collections::BTreeSet;
+use std::collections::btree_set::Range;
+use std::marker::Model;
+
+/// A cell at a time, with the agent that is there then and where it is one step later: in the same
+/// cell, if it waits. Spots compare by cell, time, agent and the cell that the agent goes to.
+#[derive(Clone, Copy, Debug, PartialEq, Eq, PartialOrd, Ord)]
+pub struct Spot {
+    pub cell: Cell,
+    pub time: u32,
+    pub step: Move,
+}
+
+/// A set of spots, in their order.
+#[derive(Debug, Drop)]
+pub struct SpotSet {
+    spots: BTreeSet<Spot>,
+}
+
+impl Model for SpotSet {
+    ghost use Rattle.std.specs.Prelude.{List};
+    ghost use Rattle.where_index.specs.declared.spot_sets.Spot.{Spot};
+    ghost use Rattle.where_index.specs.Spots.{AreWithin};
+
+    ghost Value = { List Spot };
+
+    ghost view = { λ s. s.spots.keys };
+
+    ghost invariant = { λ s. AreWithin s.spots.keys };
+}
+
+impl SpotSet {
+    /// No spots.
+    pub fn new(alloc: Global) -> SpotSet
+        ensures { result ≡ [] }
+    {
+        SpotSet {
+            spots: BTreeSet::new(alloc),
+        }
+    }
+
+    /// Adds the spot.
+    pub fn add(&mut self, spot: Spot) -> Result<(), OutOfMemory>
+        ensures gains { OnOk result (Gains self.old self.new spot) }
+        ensures refused { OnErr result (self.new ≡ self.old) }
+    {
+        let step = spot.step;
+        let _number = step.agent.number();
+        let (_x, _y) = (step.to.x(), step.to.y());
+        self.spots.insert(spot)?;
+        Ok(())
+    }
+
+    /// Takes the spot out, if it is there, and answers whether none is left.
+    pub fn lose(&mut self, spot: &Spot) -> bool
+        ensures loses { Loses self.old self.new spot.now }
+        ensures empty { OnTrue result (self.new ≡ []) }
+    {
+        self.spots.remove(spot);
+        self.spots.is_empty()
+    }
+
+    /// Whether the agent is at the cell at the time.
+    pub fn has(&self, cell: Cell, time: u32, agent: Agent) -> bool
+        ensures { IsTrue result ↔ HasAt self.now cell time agent }
+    {
+        let _spots = &self.spots;
+        let low = spot_of(cell, time, agent, least_cell());
+        let high = spot_of(cell, time, agent, greatest_cell());
+        self.spots.range(low..=high).next().is_some()
+    }
+
+    /// The spots at the cell from one time to another, in order.
+    pub fn between(&self, cell: Cell, from: u32, to: u32) -> Range<'_, Spot>
+        requires { from ≤ to }
+        ensures { AreBetween self.now cell from to result }
+    {
+        let _spots = &self.spots;
+        let low = spot_of(cell, from, Agent::LEAST, least_cell());
+        let high = spot_of(cell, to, Agent::GREATEST, greatest_cell());
+        self.spots.range(low..=high)
+    }
+}
+
+// The agent at the cell at the time, on its way to another.
+fn spot_of(cell: Cell, time: u32, agent: Agent, to: Cell) -> Spot
+    ensures { result ≡ spot cell time agent to }
+{
+    Spot {
+        cell,
+        time,
+        step: Move { agent, to },
+    }
+}
+
+// The cell that no other comes before.
+fn least_cell() -> Cell
+    ensures { result ≡ point 0 0 }
+{
+    match Cell::new(0, 0) {
+        Some(cell) => cell,
+        None => unreachable!(),
+    }
+}
+
+// The cell that no other comes after.
+fn greatest_cell() -> Cell
+    ensures { result ≡ point (MOST_SIDE - 1) (MOST_SIDE - 1) }
+{
+    match Cell::new(MOST_SIDE - 1, MOST_SIDE - 1) {
+        Some(cell) => cell,
+        None => unreachable!(),
+    }
+}

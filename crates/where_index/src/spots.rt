@@ -1,0 +1,146 @@
+ghost use Rattle.std.specs.Prelude.{◌≡◌, ◌↔◌, ◌≤◌, [], OnOk, OnErr, IfSome, IfNone, IsTrue};
+ghost use Rattle.std.specs.Bool.{OnTrue};
+ghost use Rattle.where_index.specs.declared.moves.Move.{Move};
+ghost use Rattle.where_index.specs.Spots.{Gains, Loses, AreBetween, HasAt, IsMover, AreWithin};
+ghost use Rattle.where_index.specs.ByCell.{spots_at, GainsAt, LosesAt, HaveSame};
+
+use crate::moves::Move;
+use crate::spot_sets::{Spot, SpotSet};
+use grid_cells::{Agent, Cell, OutOfMemory};
+use std::alloc::Global;
+use std::collections::HashMap;
+use std::collections::btree_set::Range;
+use std::marker::Model;
+
+/// A set of spots. What is asked of a cell costs what follows the number of spots there.
+#[derive(Drop)]
+pub struct Spots {
+    alloc: Global,
+    none: SpotSet,
+    sets: HashMap<Cell, SpotSet>,
+}
+
+impl Model for Spots {
+    ghost use Rattle.std.specs.Prelude.{◌≡◌, List, []};
+    ghost use Rattle.where_index.specs.declared.spot_sets.Spot.{Spot};
+    ghost use Rattle.where_index.specs.ByCell.{all_of, AreByCell};
+
+    ghost Value = { List Spot };
+
+    ghost view = { λ s. all_of s.sets.entries };
+
+    ghost invariant = { λ s. (s.none ≡ []) × AreByCell s.sets.entries };
+}
+
+impl Spots {
+    /// No spots.
+    pub fn new(alloc: Global) -> Spots
+        ensures { result ≡ [] }
+    {
+        Spots {
+            alloc,
+            none: SpotSet::new(alloc),
+            sets: HashMap::new(alloc),
+        }
+    }
+
+    /// Adds the spot.
+    ///
+    /// # Errors
+    ///
+    /// Want of memory.
+    pub fn add(&mut self, spot: Spot) -> Result<(), OutOfMemory>
+        ensures { OnOk result (Gains self.old self.new spot) }
+    {
+        let step = spot.step;
+        let _number = step.agent.number();
+        let (_x, _y) = (step.to.x(), step.to.y());
+        add_in(&mut self.sets, self.alloc, spot)?;
+        Ok(())
+    }
+
+    /// Takes the spot out, if it is there.
+    pub fn lose(&mut self, spot: &Spot)
+        ensures { Loses self.old self.new spot.now }
+    {
+        if lose_in(&mut self.sets, spot) {
+            drop_set(&mut self.sets, spot.cell);
+        }
+    }
+
+    /// Whether the agent is at the cell at the time.
+    pub fn has(&self, cell: Cell, time: u32, agent: Agent) -> bool
+        ensures { IsTrue result ↔ HasAt self.now cell time agent }
+    {
+        set_at(&self.sets, &self.none, cell).has(cell, time, agent)
+    }
+
+    /// The spots are of agents that have a number, and of cells of a map.
+    pub fn are_within(&self)
+        ensures { AreWithin self.now }
+    {
+        let _sets = &self.sets;
+    }
+
+    /// The spots at the cell from one time to another, by time, then agent.
+    pub fn between(&self, cell: Cell, from: u32, to: u32) -> Range<'_, Spot>
+        requires { from ≤ to }
+        ensures { AreBetween self.now cell from to result }
+    {
+        set_at(&self.sets, &self.none, cell).between(cell, from, to)
+    }
+
+    /// A step out of the cell at the time, if any agent moves out of it.
+    pub fn mover(&self, cell: Cell, time: u32) -> Option<&Move>
+        ensures some { IfSome result (λ step. IsMover self.now cell time step.now) }
+        ensures none { IfNone result ((step : Move) → IsMover self.now cell time step → ⊥) }
+    {
+        for spot in self.between(cell, time, time) {
+            if spot.step.to != cell {
+                return Some(&spot.step);
+            }
+        }
+        None
+    }
+}
+
+// The spots at the cell, or none.
+fn set_at<'a>(sets: &'a HashMap<Cell, SpotSet>, none: &'a SpotSet, cell: Cell) -> &'a SpotSet
+    requires { none.now ≡ [] }
+    ensures { result.now ≡ spots_at sets.now.entries cell }
+{
+    sets.get(&cell).unwrap_or(none)
+}
+
+// Adds the spot to those at its cell.
+fn add_in(sets: &mut HashMap<Cell, SpotSet>, alloc: Global, spot: Spot) -> Result<(), OutOfMemory>
+    ensures gains { OnOk result (GainsAt sets.old.entries sets.new.entries spot) }
+    ensures refused { OnErr result (HaveSame sets.old.entries sets.new.entries) }
+{
+    if let Some(set) = sets.get_mut(&spot.cell) {
+        return set.add(spot);
+    }
+    let mut set = SpotSet::new(alloc);
+    set.add(spot)?;
+    sets.insert(spot.cell, set)?;
+    Ok(())
+}
+
+// Takes the spot out of those at its cell, and answers whether none is left there.
+fn lose_in(sets: &mut HashMap<Cell, SpotSet>, spot: &Spot) -> bool
+    ensures loses { LosesAt sets.old.entries sets.new.entries spot.now }
+    ensures empty { OnTrue result (spots_at sets.new.entries spot.now.cell ≡ []) }
+{
+    match sets.get_mut(&spot.cell) {
+        Some(set) => set.lose(spot),
+        None => false,
+    }
+}
+
+// Takes an empty set out.
+fn drop_set(sets: &mut HashMap<Cell, SpotSet>, cell: Cell)
+    requires { spots_at sets.old.entries cell ≡ [] }
+    ensures { HaveSame sets.old.entries sets.new.entries }
+{
+    let _ = sets.remove(&cell);
+}
