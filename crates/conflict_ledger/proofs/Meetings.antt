@@ -5,10 +5,10 @@ use Rattle.std.proofs.lemmas.Bool.{cases_lt}
 use Rattle.std.proofs.lemmas.Option.{same_Some}
 use Rattle.std.specs.Option.{unwrap_or}
 use Rattle.grid_cells.specs.Cell.{Point}
-use Rattle.plan_table.specs.Route.{Fleet, position_of}
+use Rattle.plan_table.specs.Route.{Fleet, position_of, last_of, Leaves}
 use Rattle.mapf_rules.specs.Entries.{IsVertex, IsParked, IsEdge, IsFollowing, IsSwapping}
 use Rattle.mapf_rules.specs.Naming.{Names, time_of}
-use Rattle.conflict_ledger.specs.Gathering.{IsAgents, IsWhere, IsMet, AreTogether}
+use Rattle.conflict_ledger.specs.Gathering.{IsAgents, IsWhere, IsMet, AreTogether, OnePasses}
 use Rattle.conflict_ledger.specs.declared.places.Place.TheVariants.{Beside, Ahead, Behind}
 use Rattle.mapf_rules.specs.declared.entries.Conflict.{Conflict}
 use Rattle.mapf_rules.specs.declared.entries.Conflict.TheVariants.{Vertex, Parked, Edge, Following, Swapping}
@@ -23,6 +23,18 @@ meet_once fleet time first second cell vertex parked = elim vertex.passes [
 module _ (one other : ℕ) where
   pub one_of : (first second : ℕ) → first ≡ min one other → second ≡ max one other → (first ≡ one) ⊎ (second ≡ one)
   one_of first second least most = elim (cases_lt other one) [ inl lower ↦ inr (omega arith) | inr higher ↦ inl (omega arith) ]
+
+  other_of : (first second : ℕ) → first ≡ min one other → second ≡ max one other → (first ≡ other) ⊎ (second ≡ other)
+  other_of first second least most = elim (cases_lt other one) [ inl lower ↦ inl (omega arith) | inr higher ↦ inr (omega arith) ]
+
+  -- where the other one passes, one of the two does
+  pub other_passes : (fleet : Fleet) (time first second : ℕ) → first ≡ min one other → second ≡ max one other → (time < last_of fleet other) ⊎ Leaves fleet other → OnePasses fleet time first second
+  other_passes fleet time first second least most how =
+      let P : ℕ → Type 0 = λ a. (time < last_of fleet a) ⊎ Leaves fleet a in
+      elim (other_of first second least most) [
+        | inl is ↦ elim (subst P (sym is) how) [ inl moving ↦ inl (omega arith) | inr leaves ↦ inr (inl leaves) ]
+        | inr is ↦ elim (subst P (sym is) how) [ inl moving ↦ inl (omega arith) | inr leaves ↦ inr (inr leaves) ]
+      ]
 
   -- the two agents that an entry names, in one order or the other
   both_named : (p q : ℕ) → (p ≡ one) ⊎ (q ≡ one) → (p ≡ other) ⊎ (q ≡ other) → other ≢ one → ((p ≡ one) × (q ≡ other)) ⊎ ((p ≡ other) × (q ≡ one))
@@ -63,6 +75,22 @@ module _ (fleet : Fleet) (agent other time : ℕ) (here next : Point) (place : I
       by_place : (o : Option Point) → position_of fleet agent (time + 1) ≡ o → position_of fleet agent (time + 1) ≡ Some next
       by_place None e = absurd (moves (ap (λ (o : Option Point). unwrap_or o here) (sym e) ∙ place.later))
       by_place (Some cell) e = e ∙ ap Some (at_later cell e)
+
+  -- one that is beside it shares its move just if it moves to the same cell
+  pub edge_beside : (first second : ℕ) → first ≡ min agent other → second ≡ max agent other → other ≢ agent → position_of fleet other time ≡ Some here → (here ≢ next) × (position_of fleet other (time + 1) ≡ Some next) → IsEdge fleet time first second here next
+  edge_beside first second least most apart there goes =
+      let now = together agent other fleet time here first second least most apart place.now there in
+      let later = together agent other fleet (time + 1) next first second least most apart (goes_on goes.0) goes.1 in
+      record { ordered = now.ordered; first_from = now.first_there; second_from = now.second_there; first_to = later.first_there; second_to = later.second_there; moves = goes.0 }
+
+  pub edge_goes : (first second : ℕ) → first ≡ min agent other → second ≡ max agent other → IsEdge fleet time first second here next → (here ≢ next) × (position_of fleet other (time + 1) ≡ Some next)
+  edge_goes first second least most edge = (
+    edge.moves,
+    elim (other_of agent other first second least most) [
+      | inl is ↦ subst (λ (a : ℕ). position_of fleet a (time + 1) ≡ Some next) is edge.first_to
+      | inr is ↦ subst (λ (a : ℕ). position_of fleet a (time + 1) ≡ Some next) is edge.second_to
+    ],
+  )
 
   module _ (first second : ℕ) (least : first ≡ min agent other) (most : second ≡ max agent other) (m e : Option Conflict)
       (vs : IsVertex fleet time first second here → m ≡ Some (Vertex time first second here)) (ps : IsParked fleet time first second here → m ≡ Some (Parked time first second here))

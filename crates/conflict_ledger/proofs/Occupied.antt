@@ -1,7 +1,7 @@
 -- Whom an index shows in a cell, and in which place the agent meets them.
-use Rattle.std.proofs.Common.{◌≡◌, ◌≢◌, inl, inr, ℕ, ◌+◌, ◌≤◌, Bool, true, false, List, Contains, Some, Option, refl, subst, arith}
+use Rattle.std.proofs.Common.{◌≡◌, ◌≢◌, inl, inr, ℕ, ◌+◌, ◌<◌, ◌≤◌, ◌⊎◌, Bool, true, false, List, Contains, Some, Option, refl, subst, arith}
 use Rattle.grid_cells.specs.Cell.{Point}
-use Rattle.plan_table.specs.Route.{Route, Fleet, position_of}
+use Rattle.plan_table.specs.Route.{Route, Fleet, position_of, last_of, Leaves}
 use Rattle.where_index.specs.Index.{Contents}
 use Rattle.where_index.specs.Spots.{spot}
 use Rattle.where_index.specs.Asked.{StandsIn, RestsIn, IsOccupant}
@@ -9,17 +9,18 @@ use Rattle.where_index.specs.declared.spot_sets.Spot.{Spot}
 use Rattle.mapf_rules.specs.Finding.{KeepsAll}
 use Rattle.mapf_rules.specs.declared.entries.Conflict.{Conflict}
 use Rattle.conflict_ledger.specs.Sight.{Shows}
-use Rattle.conflict_ledger.specs.Gathering.{AreShowing, IsShown, HasMet, HasSeen, HasSpots, HasStop, IsNear, seen_at, step_of}
+use Rattle.conflict_ledger.specs.Gathering.{AreShowing, IsShown, HasMet, HasSeen, HasSpots, HasStop, IsNear, Tells, seen_at, step_of}
 use Rattle.conflict_ledger.specs.declared.places.Place.{Place}
 use Rattle.conflict_ledger.specs.declared.places.Place.TheVariants.{Beside, Ahead, Behind}
 use Rattle.conflict_ledger.specs.declared.places.Stop.{Stop}
+use Rattle.conflict_ledger.proofs.Change.{ends, leaving}
 use Rattle.conflict_ledger.proofs.Late.{base_there, fleet_there}
 
 -- one that is in the cell as the step begins, or as it ends, is beside one there, or behind
-pub near_here : (place : Place) (fleet : Fleet) (other time : ℕ) (here next : Point) → place ≢ Ahead → position_of fleet other (seen_at place time) ≡ Some here → IsNear place fleet other time here next
-near_here Beside fleet other time here next not there = there
-near_here Ahead fleet other time here next not there = absurd (not refl)
-near_here Behind fleet other time here next not there = there
+pub near_here : (place : Place) (fleet : Fleet) (lasting : Bool) (s : Spot) (time : ℕ) (here next : Point) → place ≢ Ahead → Tells fleet here lasting s (seen_at place time) → IsNear place fleet lasting s time here next
+near_here Beside fleet lasting s time here next not tells = tells
+near_here Ahead fleet lasting s time here next not tells = absurd (not refl)
+near_here Behind fleet lasting s time here next not tells = tells
 
 -- what the spot shows in each place is all that it shows
 module _ (fleet : Fleet) (agent : ℕ) (stop : Stop) (lasting : Bool) (s : Spot) (mid entries : List Conflict) where
@@ -29,12 +30,36 @@ module _ (fleet : Fleet) (agent : ℕ) (stop : Stop) (lasting : Bool) (s : Spot)
   seen_all ahead keeps beside behind Ahead of is = λ entry own at two apart met. keeps entry (ahead of is entry own at two apart met)
   seen_all ahead keeps beside behind Behind of is = behind is
 
-module _ (index : Contents) (agent : ℕ) (route : Option Route) (fleet : Fleet) (shows : Shows index agent route fleet) where
-  pub stands_show : (cell : Point) (from to : ℕ) (stands : List Spot) → ((s : Spot) → Contains stands s → StandsIn shows.base cell from to s) → AreShowing fleet agent cell false stands
-  stands_show cell from to stands all s h apart time is = fleet_there index agent route fleet shows s.step.agent time cell apart (subst (λ (t : ℕ). position_of shows.base s.step.agent t ≡ Some cell) is (all s h).there)
+shown_by : (lasting : Bool) (s : Spot) (time : ℕ) → IsShown lasting s time → s.time ≤ time
+shown_by true s time is = is
+shown_by false s time is = omega (arith, is)
 
-  pub tails_show : (cell : Point) (to : ℕ) (tails : List Spot) → ((s : Spot) → Contains tails s → RestsIn shows.base cell to s) → AreShowing fleet agent cell true tails
-  tails_show cell to tails all s h apart time is = fleet_there index agent route fleet shows s.step.agent time cell apart ((all s h).there time is)
+last_seen : (stop : Stop) (place : Place) → stop.past ≤ stop.time → seen_at place (step_of stop place) ≤ stop.time + 1
+last_seen stop Beside order = omega arith
+last_seen stop Ahead order = omega (arith, order)
+last_seen stop Behind order = omega arith
+
+-- a spot from after the stop shows nothing there
+pub too_late : (fleet : Fleet) (agent : ℕ) (stop : Stop) (lasting : Bool) (s : Spot) (entries : List Conflict) → stop.past ≤ stop.time → stop.time + 1 < s.time → HasSeen fleet agent stop lasting entries s
+too_late fleet agent stop lasting s entries order late place of shown = absurd (omega (arith, late, shown_by lasting s (seen_at place (step_of stop place)) shown, last_seen stop place order))
+
+module _ (index : Contents) (agent : ℕ) (route : Option Route) (fleet : Fleet) (shows : Shows index agent route fleet) where
+  pub stands_show : (cell : Point) (from : ℕ) (stands : List Spot) → ((s : Spot) → Contains stands s → StandsIn shows.base cell from s) → AreShowing fleet agent cell false stands
+  stands_show cell from stands all s h apart time is =
+      let in_cell = all s h in
+      let moves_or_leaves : (s.time < last_of fleet s.step.agent) ⊎ Leaves fleet s.step.agent =
+      rw (← ends shows.base fleet agent shows.others s.step.agent apart, ← leaving shows.base fleet agent shows.others s.step.agent apart) in_cell.passes in
+      record {
+        there = fleet_there index agent route fleet shows s.step.agent time cell apart (subst (λ (t : ℕ). position_of shows.base s.step.agent t ≡ Some cell) is in_cell.there);
+        stays = λ e. absurd (cc);
+        passes = λ _. subst (λ (t : ℕ). (t < last_of fleet s.step.agent) ⊎ Leaves fleet s.step.agent) is moves_or_leaves;
+        goes = λ _ moves. fleet_there index agent route fleet shows s.step.agent (time + 1) s.step.to apart (subst (λ (t : ℕ). position_of shows.base s.step.agent (t + 1) ≡ Some s.step.to) is (in_cell.goes moves));
+      }
+
+  pub tails_show : (cell : Point) (tails : List Spot) → ((s : Spot) → Contains tails s → RestsIn shows.base cell s) → AreShowing fleet agent cell true tails
+  tails_show cell tails all s h apart time is =
+      let rests = λ (t : ℕ) (le : s.time ≤ t). fleet_there index agent route fleet shows s.step.agent t cell apart ((all s h).there t le) in
+      record { there = rests time is; stays = λ _. rests (time + 1) (omega arith); passes = λ e. absurd (cc); goes = λ e. absurd (cc) }
 
   -- what was offered of all whom both lists show has the entries with each who is at the stop
   module _ (stop : Stop) (stands tails : List Spot) (mid entries : List Conflict) (order : stop.past ≤ stop.time) (stood : HasSpots fleet agent stop false stands mid) (keeps : KeepsAll mid entries) (rested : HasSpots fleet agent stop true tails entries) where
@@ -43,15 +68,10 @@ module _ (index : Contents) (agent : ℕ) (route : Option Route) (fleet : Fleet)
     from_past Ahead = omega arith
     from_past Behind = omega (arith, order)
 
-    until_later : (place : Place) → seen_at place (step_of stop place) ≤ stop.time + 1
-    until_later Beside = omega arith
-    until_later Ahead = omega (arith, order)
-    until_later Behind = omega arith
-
-    pub stop_has : ((a time : ℕ) → stop.past ≤ time → time ≤ stop.time + 1 → position_of shows.base a time ≡ Some stop.here → IsOccupant stop.here time a stands tails) → HasStop fleet agent stop entries
+    pub stop_has : ((a time : ℕ) → stop.past ≤ time → position_of shows.base a time ≡ Some stop.here → IsOccupant stop.here time a stands tails) → HasStop fleet agent stop entries
     stop_has all place of other apart there =
         let seen : ℕ = seen_at place (step_of stop place) in
-        elim (all other seen (from_past place) (until_later place) (base_there index agent route fleet shows other seen stop.here apart there)) [
+        elim (all other seen (from_past place) (base_there index agent route fleet shows other seen stop.here apart there)) [
           | inl h ↦ λ entry own at two _ met. keeps entry (stood (spot stop.here seen other h.0) h.1 place of refl entry own at two apart met)
           | inr (s, h, who, le) ↦ subst (λ (a : ℕ). HasMet fleet agent (step_of stop place) place a entries) who (rested s h place of le)
         ]

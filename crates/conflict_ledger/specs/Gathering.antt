@@ -2,10 +2,13 @@
 use Rattle.std.specs.Prelude.{◌≡◌, ◌≢◌, ◌⊎◌, ℕ, ◌+◌, ◌<◌, ◌≤◌, Bool, true, false, Some, List, Contains}
 use Rattle.std.specs.Option.{unwrap_or}
 use Rattle.grid_cells.specs.Cell.{Point}
-use Rattle.plan_table.specs.Route.{Fleet, position_of}
+use Rattle.plan_table.specs.Route.{Fleet, position_of, last_of, Leaves}
+use Rattle.mapf_rules.specs.Entries.{both_end_by}
 use Rattle.mapf_rules.specs.ConflictList.{Stands}
 use Rattle.mapf_rules.specs.Naming.{IsPair, Names, time_of}
 use Rattle.mapf_rules.specs.Finding.{KeepsAll}
+use Rattle.conflict_ledger.specs.Sight.{Sees}
+use Rattle.conflict_ledger.specs.declared.sight.Sight.{Sight}
 use Rattle.conflict_ledger.specs.Spans.{IsIn}
 use Rattle.conflict_ledger.specs.declared.spans.Span.{Span}
 use Rattle.mapf_rules.specs.declared.entries.Conflict.{Conflict}
@@ -42,11 +45,23 @@ pub record AreTogether (fleet : Fleet) (time first second : ℕ) (cell : Point) 
   pub first_there : position_of fleet first time ≡ Some cell
   pub second_there : position_of fleet second time ≡ Some cell
 
--- the other agent is in that place, where one goes from here to the next cell in the step that begins at the time
-abbrev pub IsNear : Place → Fleet → ℕ → ℕ → Point → Point → Type 0
-IsNear Beside fleet other time here next = position_of fleet other time ≡ Some here
-IsNear Ahead fleet other time here next = (here ≢ next) × (position_of fleet other time ≡ Some next)
-IsNear Behind fleet other time here next = position_of fleet other (time + 1) ≡ Some here
+-- one of the two agents still moves at the time, or is to leave
+abbrev pub OnePasses : Fleet → ℕ → ℕ → ℕ → Type 0
+OnePasses fleet time first second = (time < both_end_by fleet first second) ⊎ (Leaves fleet first ⊎ Leaves fleet second)
+
+-- what a spot tells of its agent, which it shows in the cell at the time: one that lasts, that the agent stays; another one,
+-- that the agent still moves or is to leave, and where it goes, if that is another cell
+pub record Tells (fleet : Fleet) (cell : Point) (lasting : Bool) (s : Spot) (time : ℕ) : Type 0 where
+  pub there : position_of fleet s.step.agent time ≡ Some cell
+  pub stays : lasting ≡ true → position_of fleet s.step.agent (time + 1) ≡ Some cell
+  pub passes : lasting ≡ false → (time < last_of fleet s.step.agent) ⊎ Leaves fleet s.step.agent
+  pub goes : lasting ≡ false → cell ≢ s.step.to → position_of fleet s.step.agent (time + 1) ≡ Some s.step.to
+
+-- the spot shows its agent in that place, where one goes from here to the next cell in the step that begins at the time
+abbrev pub IsNear : Place → Fleet → Bool → Spot → ℕ → Point → Point → Type 0
+IsNear Beside fleet lasting s time here next = Tells fleet here lasting s time
+IsNear Ahead fleet lasting s time here next = (here ≢ next) × Tells fleet next lasting s time
+IsNear Behind fleet lasting s time here next = Tells fleet here lasting s (time + 1)
 
 -- the stop is one of the agent's: it came from the cell before, if that is another one, and goes on to the next one
 pub record IsStop (fleet : Fleet) (agent : ℕ) (stop : Stop) : Type 0 where
@@ -82,9 +97,9 @@ abbrev pub IsShown : Bool → Spot → ℕ → Type 0
 IsShown true s time = s.time ≤ time
 IsShown false s time = s.time ≡ time
 
--- the agent of the spot, if it is another one, is in the cell whenever the spot shows it
+-- the spot tells of its agent, if that is another one, whenever it shows it in the cell
 abbrev pub IsShowing : Fleet → ℕ → Point → Bool → Spot → Type 0
-IsShowing fleet agent cell lasting s = s.step.agent ≢ agent → (time : ℕ) → IsShown lasting s time → position_of fleet s.step.agent time ≡ Some cell
+IsShowing fleet agent cell lasting s = s.step.agent ≢ agent → (time : ℕ) → IsShown lasting s time → Tells fleet cell lasting s time
 
 -- and so for each of the spots
 abbrev pub AreShowing : Fleet → ℕ → Point → Bool → List Spot → Type 0
@@ -104,6 +119,20 @@ IsMet place entry agent = ⊥
 abbrev pub HasMet : Fleet → ℕ → ℕ → Place → ℕ → List Conflict → Type 0
 HasMet fleet agent time place other entries =
     (entry : Conflict) → IsAgents fleet agent entry → time_of entry ≡ time → Names entry other → other ≢ agent → IsMet place entry agent → Contains entries entry
+
+-- so it is in each fleet that the sight shows in which its agent goes from here to the next cell in the step that begins at
+-- the time, and the spot shows another one in that place
+abbrev pub WhereMet : Sight → Place → Bool → Spot → ℕ → Point → Point → (Fleet → Type 0) → Type 0
+WhereMet sight place lasting s time here next holds =
+    (fleet : Fleet) → Sees sight fleet → IsWhere fleet sight.agent time here next → (s.step.agent ≢ sight.agent → IsNear place fleet lasting s time here next) → holds fleet
+
+-- what is new there are entries of the agent in that step
+abbrev pub GathersMet : Sight → Place → Bool → Spot → ℕ → Point → Point → List Conflict → List Conflict → Type 0
+GathersMet sight place lasting s time here next old new = WhereMet sight place lasting s time here next (λ fleet. Gathers fleet sight.agent (λ t. t ≡ time) old new)
+
+-- and each that it has with the one of the spot there is among them
+abbrev pub HasAllMet : Sight → Place → Bool → Spot → ℕ → Point → Point → List Conflict → Type 0
+HasAllMet sight place lasting s time here next entries = WhereMet sight place lasting s time here next (λ fleet. HasMet fleet sight.agent time place s.step.agent entries)
 
 -- each entry of the agent at the stop with the one whom the spot shows is there
 abbrev pub HasSeen : Fleet → ℕ → Stop → Bool → List Conflict → Spot → Type 0

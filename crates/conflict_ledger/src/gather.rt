@@ -1,5 +1,6 @@
 ghost use Rattle.std.specs.Prelude.{◌≡◌, ℕ, ◌+◌, ◌<◌, ◌≤◌, OnOk, IfOk};
 ghost use Rattle.plan_table.specs.Route.{Fleet, last_of};
+ghost use Rattle.where_index.specs.Spots.{AreRising};
 ghost use Rattle.mapf_rules.specs.declared.entries.Conflict.{Conflict};
 ghost use Rattle.conflict_ledger.specs.declared.places.Place.{Place};
 ghost use Rattle.conflict_ledger.specs.Sight.{Sees};
@@ -18,7 +19,7 @@ use std::collections::btree_set::Range;
 use where_index::Spot;
 
 // Adds the entries that the agent has at the stop with each whom the spots show, once or, if they last,
-// from then on.
+// from then on. Those that show theirs only after it are not gone over.
 fn offer_spots(
     sight: &Sight<'_>,
     entries: &mut Vec<Conflict>,
@@ -28,9 +29,12 @@ fn offer_spots(
 ) -> Result<(), OutOfMemory>
     requires { (stop.now.past ≤ stop.now.time) × (stop.now.time < u32.MAX) }
     ensures gathers { OnOk result ((fleet : Fleet) → Sees sight.now fleet → IsStop fleet sight.now.agent stop.now → AreShowing fleet sight.now.agent stop.now.here lasting spots.entry → Gathers fleet sight.now.agent (IsAbout stop.now) entries.old.items entries.new.items) }
-    ensures has { OnOk result ((fleet : Fleet) → Sees sight.now fleet → IsStop fleet sight.now.agent stop.now → AreShowing fleet sight.now.agent stop.now.here lasting spots.entry → HasSpots fleet sight.now.agent stop.now lasting spots.entry entries.new.items) }
+    ensures has { OnOk result ((fleet : Fleet) → Sees sight.now fleet → IsStop fleet sight.now.agent stop.now → AreShowing fleet sight.now.agent stop.now.here lasting spots.entry → AreRising spots.entry → HasSpots fleet sight.now.agent stop.now lasting spots.entry entries.new.items) }
 {
     for spot in spots {
+        if spot.time > stop.time + 1 {
+            return Ok(());
+        }
         offer_ahead(sight, entries, stop, lasting, spot)?;
         offer_here(sight, entries, stop, lasting, spot)?;
     }
@@ -48,9 +52,7 @@ fn gather_stop(
     ensures gathers { OnOk result ((fleet : Fleet) → Sees sight.now fleet → IsStop fleet sight.now.agent stop.now → Gathers fleet sight.now.agent (IsAbout stop.now) entries.old.items entries.new.items) }
     ensures has { OnOk result ((fleet : Fleet) → Sees sight.now fleet → IsStop fleet sight.now.agent stop.now → HasStop fleet sight.now.agent stop.now entries.new.items) }
 {
-    let found = sight
-        .index
-        .occupants(stop.here, Step::new(stop.past), Step::new(stop.time + 1));
+    let found = sight.index.occupants(stop.here, Step::new(stop.past));
     offer_spots(sight, entries, stop, false, found.stands)?;
     offer_spots(sight, entries, stop, true, found.tails)?;
     Ok(())

@@ -13,6 +13,7 @@ mod places;
 mod resting;
 mod sight;
 mod spans;
+mod told;
 mod turns;
 
 pub use ledger::ConflictLedger;

@@ -2,49 +2,71 @@ ghost use Rattle.std.specs.Prelude.{◌≡◌, ◌≢◌, ℕ, ◌+◌, ◌<◌,
 ghost use Rattle.plan_table.specs.Route.{Fleet};
 ghost use Rattle.conflict_ledger.specs.declared.places.Place.{Place};
 ghost use Rattle.conflict_ledger.specs.Sight.{Sees};
-ghost use Rattle.conflict_ledger.specs.Gathering.{Gathers, IsWhere, IsNear, IsStop, IsAbout, IsShown, IsShowing, HasMet};
+ghost use Rattle.conflict_ledger.specs.Gathering.{Gathers, GathersMet, IsStop, IsAbout, IsShown, IsShowing, HasMet, HasAllMet};
 
-use crate::places::{
-    Place, Stop, edge_of, following_of, in_order, is_shown, meeting_of, place_of, swapping_of,
-};
+use crate::places::{Place, Stop, edge_of, following_of, in_order, meeting_of, swapping_of};
 use crate::sight::Sight;
-use grid_cells::{Agent, Cell, OutOfMemory};
+use crate::told::{goes_on, goes_to, is_shown, place_of};
+use grid_cells::{Cell, OutOfMemory};
 use mapf_rules::{Conflict, offer};
 use where_index::Spot;
 
-// Adds the entries that the agent has in that step with the other one where they meet in that place.
+// Adds the entries that the agent has in that step with the other one of the spot, which is beside it.
+fn offer_beside(
+    sight: &Sight<'_>,
+    entries: &mut Vec<Conflict>,
+    time: u32,
+    lasting: bool,
+    spot: &Spot,
+    here: Cell,
+    next: Cell,
+) -> Result<(), OutOfMemory>
+    requires { (time < u32.MAX) × (spot.now.step.agent ≢ sight.now.agent) }
+    ensures gathers { OnOk result (GathersMet sight.now Place.Beside lasting spot.now time here next entries.old.items entries.new.items) }
+    ensures has { OnOk result (HasAllMet sight.now Place.Beside lasting spot.now time here next entries.new.items) }
+{
+    let (first, second) = in_order(sight.agent, spot.step.agent);
+    let met = meeting_of(sight, !lasting, time, first, second, here);
+    offer(entries, met)?;
+    let shares = goes_to(sight, lasting, spot, time, here, next);
+    offer(entries, edge_of(shares, time, first, second, here, next))?;
+    Ok(())
+}
+
+// Adds the entries that the agent has in that step with the one of the spot, which shows it in that
+// place. What the spot tells of that one is not looked up.
 fn offer_met(
     sight: &Sight<'_>,
     entries: &mut Vec<Conflict>,
     time: u32,
     place: Place,
-    other: Agent,
+    lasting: bool,
+    spot: &Spot,
     here: Cell,
     next: Cell,
 ) -> Result<(), OutOfMemory>
     requires { time < u32.MAX }
-    ensures gathers { OnOk result ((fleet : Fleet) → Sees sight.now fleet → IsWhere fleet sight.now.agent time here next → (other ≢ sight.now.agent → IsNear place fleet other time here next) → Gathers fleet sight.now.agent (λ t. t ≡ time) entries.old.items entries.new.items) }
-    ensures has { OnOk result ((fleet : Fleet) → Sees sight.now fleet → IsWhere fleet sight.now.agent time here next → HasMet fleet sight.now.agent time place other entries.new.items) }
+    ensures gathers { OnOk result (GathersMet sight.now place lasting spot.now time here next entries.old.items entries.new.items) }
+    ensures has { OnOk result (HasAllMet sight.now place lasting spot.now time here next entries.new.items) }
 {
     let agent = sight.agent;
+    let other = spot.step.agent;
     if other == agent {
         return Ok(());
     }
     match place {
-        Place::Beside => {
-            let (first, second) = in_order(agent, other);
-            offer(entries, meeting_of(sight, time, first, second, here))?;
-            offer(entries, edge_of(sight, time, first, second, here, next))?;
-            Ok(())
-        }
+        Place::Beside => offer_beside(sight, entries, time, lasting, spot, here, next),
         Place::Ahead => {
-            offer(entries, following_of(sight, time, agent, other, next))?;
-            offer(entries, swapping_of(sight, time, agent, other, here, next))?;
-            offer(entries, swapping_of(sight, time, other, agent, next, here))?;
+            let goes = goes_on(lasting, spot, next);
+            offer(entries, following_of(sight, goes, time, agent, other, next))?;
+            let swaps = goes_to(sight, lasting, spot, time, next, here);
+            offer(entries, swapping_of(swaps, time, agent, other, here, next))?;
+            offer(entries, swapping_of(swaps, time, other, agent, next, here))?;
             Ok(())
         }
         Place::Behind => {
-            offer(entries, following_of(sight, time, other, agent, here))?;
+            let met = following_of(sight, false, time, other, agent, here);
+            offer(entries, met)?;
             Ok(())
         }
     }
@@ -61,7 +83,7 @@ pub(crate) fn offer_ahead(
 ) -> Result<(), OutOfMemory>
     requires { (stop.now.past ≤ stop.now.time) × (stop.now.time < u32.MAX) }
     ensures gathers { OnOk result ((fleet : Fleet) → Sees sight.now fleet → IsStop fleet sight.now.agent stop.now → IsShowing fleet sight.now.agent stop.now.here lasting spot.now → Gathers fleet sight.now.agent (IsAbout stop.now) entries.old.items entries.new.items) }
-    ensures has { OnOk result ((fleet : Fleet) → Sees sight.now fleet → IsStop fleet sight.now.agent stop.now → stop.now.before ≢ stop.now.here → IsShown lasting spot.now stop.now.past → HasMet fleet sight.now.agent stop.now.past Place.Ahead spot.now.step.agent entries.new.items) }
+    ensures has { OnOk result ((fleet : Fleet) → Sees sight.now fleet → IsStop fleet sight.now.agent stop.now → IsShowing fleet sight.now.agent stop.now.here lasting spot.now → stop.now.before ≢ stop.now.here → IsShown lasting spot.now stop.now.past → HasMet fleet sight.now.agent stop.now.past Place.Ahead spot.now.step.agent entries.new.items) }
 {
     if stop.before == stop.here || !is_shown(lasting, spot, stop.past) {
         return Ok(());
@@ -72,7 +94,8 @@ pub(crate) fn offer_ahead(
         entries,
         stop.past,
         place,
-        spot.step.agent,
+        lasting,
+        spot,
         stop.before,
         stop.here,
     )
@@ -89,13 +112,13 @@ pub(crate) fn offer_here(
 ) -> Result<(), OutOfMemory>
     requires { (stop.now.past ≤ stop.now.time) × (stop.now.time < u32.MAX) }
     ensures gathers { OnOk result ((fleet : Fleet) → Sees sight.now fleet → IsStop fleet sight.now.agent stop.now → IsShowing fleet sight.now.agent stop.now.here lasting spot.now → Gathers fleet sight.now.agent (IsAbout stop.now) entries.old.items entries.new.items) }
-    ensures beside { OnOk result ((fleet : Fleet) → Sees sight.now fleet → IsStop fleet sight.now.agent stop.now → IsShown lasting spot.now stop.now.time → HasMet fleet sight.now.agent stop.now.time Place.Beside spot.now.step.agent entries.new.items) }
+    ensures beside { OnOk result ((fleet : Fleet) → Sees sight.now fleet → IsStop fleet sight.now.agent stop.now → IsShowing fleet sight.now.agent stop.now.here lasting spot.now → IsShown lasting spot.now stop.now.time → HasMet fleet sight.now.agent stop.now.time Place.Beside spot.now.step.agent entries.new.items) }
     ensures behind { OnOk result ((fleet : Fleet) → Sees sight.now fleet → IsStop fleet sight.now.agent stop.now → IsShowing fleet sight.now.agent stop.now.here lasting spot.now → IsShown lasting spot.now (stop.now.time + 1) → HasMet fleet sight.now.agent stop.now.time Place.Behind spot.now.step.agent entries.new.items) }
 {
     let Some(place) = place_of(lasting, spot, stop.time) else {
         return Ok(());
     };
     offer_met(
-        sight, entries, stop.time, place, spot.step.agent, stop.here, stop.next,
+        sight, entries, stop.time, place, lasting, spot, stop.here, stop.next,
     )
 }

@@ -1,17 +1,15 @@
-ghost use Rattle.std.specs.Prelude.{◌≡◌, ◌≢◌, ◌⊎◌, ◌↔◌, ℕ, ◌+◌, ◌<◌, min, max, Some, IfSome, IsTrue};
+ghost use Rattle.std.specs.Prelude.{◌≡◌, ◌≢◌, ◌+◌, ◌<◌, min, max, Some, IfSome, IsTrue};
 ghost use Rattle.plan_table.specs.Route.{Fleet, position_of};
 ghost use Rattle.mapf_rules.specs.declared.entries.Conflict.{Conflict};
 ghost use Rattle.mapf_rules.specs.Entries.{IsVertex, IsParked, IsEdge, IsFollowing, IsSwapping};
 ghost use Rattle.mapf_rules.specs.ConflictList.{Stands};
 ghost use Rattle.mapf_rules.specs.Naming.{IsOfPair};
 ghost use Rattle.conflict_ledger.specs.Sight.{Sees};
-ghost use Rattle.conflict_ledger.specs.declared.places.Place.{Place};
-ghost use Rattle.conflict_ledger.specs.Gathering.{AreTogether, IsShown, seen_at};
+ghost use Rattle.conflict_ledger.specs.Gathering.{AreTogether, OnePasses};
 
 use crate::sight::Sight;
 use grid_cells::{Agent, Cell, Step};
 use mapf_rules::Conflict;
-use where_index::Spot;
 
 // Where the agent meets the other one of an entry: beside it as the step begins, ahead of it then, or
 // behind it as the step ends. What is known of the two by the place is not looked up again below.
@@ -34,34 +32,6 @@ pub struct Stop {
     pub next: Cell,
 }
 
-// Whether the spot shows its agent at the time: one that lasts does so from its own time on.
-pub(crate) fn is_shown(lasting: bool, spot: &Spot, time: u32) -> bool
-    ensures { IsTrue result ↔ IsShown lasting spot.now time }
-{
-    if lasting {
-        spot.time <= time
-    } else {
-        spot.time == time
-    }
-}
-
-// In which place the spot shows its agent to one that is in its cell as the step begins, if it does:
-// behind only if not beside.
-pub(crate) fn place_of(lasting: bool, spot: &Spot, time: u32) -> Option<Place>
-    requires { time < u32.MAX }
-    ensures beside { IsShown lasting spot.now time → result ≡ Some Place.Beside }
-    ensures behind { IsShown lasting spot.now (time + 1) → (result ≡ Some Place.Behind) ⊎ IsShown lasting spot.now time }
-    ensures shown { IfSome result (λ place. (place ≢ Place.Ahead) × IsShown lasting spot.now (seen_at place time)) }
-{
-    if is_shown(lasting, spot, time) {
-        Some(Place::Beside)
-    } else if is_shown(lasting, spot, time + 1) {
-        Some(Place::Behind)
-    } else {
-        None
-    }
-}
-
 // The lesser and the greater of two agents.
 pub(crate) fn in_order(one: Agent, other: Agent) -> (Agent, Agent)
     ensures { (result.0 ≡ min one other) × (result.1 ≡ max one other) }
@@ -73,20 +43,22 @@ pub(crate) fn in_order(one: Agent, other: Agent) -> (Agent, Agent)
     }
 }
 
-// The entry of two agents that are in the cell at the time: Vertex or Parked, and never both.
+// The entry of two agents that are in the cell at the time: Vertex or Parked, and never both. Where one
+// of them is known to pass, nothing is looked up.
 pub(crate) fn meeting_of(
     sight: &Sight<'_>,
+    passing: bool,
     time: u32,
     first: Agent,
     second: Agent,
     cell: Cell,
 ) -> Option<Conflict>
-    ensures stands { (fleet : Fleet) → Sees sight.now fleet → AreTogether fleet time first second cell → IfSome result (Stands fleet) }
+    ensures stands { (fleet : Fleet) → Sees sight.now fleet → (IsTrue passing → OnePasses fleet time first second) → AreTogether fleet time first second cell → IfSome result (Stands fleet) }
     ensures pair { IfSome result (λ entry. IsOfPair entry time first second) }
     ensures vertex { (fleet : Fleet) → Sees sight.now fleet → IsVertex fleet time first second cell → result ≡ Some (Conflict.Vertex time first second cell) }
-    ensures parked { (fleet : Fleet) → Sees sight.now fleet → IsParked fleet time first second cell → result ≡ Some (Conflict.Parked time first second cell) }
+    ensures parked { (fleet : Fleet) → Sees sight.now fleet → (IsTrue passing → OnePasses fleet time first second) → IsParked fleet time first second cell → result ≡ Some (Conflict.Parked time first second cell) }
 {
-    if sight.passes(time, first, second) {
+    if passing || sight.passes(time, first, second) {
         return Some(Conflict::Vertex {
             time: Step::new(time),
             first,
@@ -106,21 +78,20 @@ pub(crate) fn meeting_of(
     }
 }
 
-// The Edge entry of two agents that are in the cell at the time.
+// The Edge entry of two agents, if they share the move from the cell to the next.
 pub(crate) fn edge_of(
-    sight: &Sight<'_>,
+    shares: bool,
     time: u32,
     first: Agent,
     second: Agent,
     cell: Cell,
     next: Cell,
 ) -> Option<Conflict>
-    requires { time < u32.MAX }
-    ensures stands { (fleet : Fleet) → Sees sight.now fleet → AreTogether fleet time first second cell → IfSome result (Stands fleet) }
+    ensures stands { (fleet : Fleet) → (IsTrue shares → IsEdge fleet time first second cell next) → IfSome result (Stands fleet) }
     ensures pair { IfSome result (λ entry. IsOfPair entry time first second) }
-    ensures found { (fleet : Fleet) → Sees sight.now fleet → IsEdge fleet time first second cell next → result ≡ Some (Conflict.Edge time first second cell next) }
+    ensures found { IsTrue shares → result ≡ Some (Conflict.Edge time first second cell next) }
 {
-    if cell != next && sight.is_at(first, time + 1, next) && sight.is_at(second, time + 1, next) {
+    if shares {
         Some(Conflict::Edge {
             time: Step::new(time),
             first,
@@ -134,20 +105,23 @@ pub(crate) fn edge_of(
 }
 
 // The Following entry of two agents, of whom the leader is in the cell at the time, and the follower
-// one step later.
+// one step later. Where it is known to stand, nothing is looked up.
 pub(crate) fn following_of(
     sight: &Sight<'_>,
+    known: bool,
     time: u32,
     follower: Agent,
     leader: Agent,
     cell: Cell,
 ) -> Option<Conflict>
     requires { time < u32.MAX }
-    ensures stands { (fleet : Fleet) → Sees sight.now fleet → follower ≢ leader → position_of fleet leader time ≡ Some cell → position_of fleet follower (time + 1) ≡ Some cell → IfSome result (Stands fleet) }
+    ensures stands { (fleet : Fleet) → Sees sight.now fleet → (IsTrue known → IsFollowing fleet time follower leader cell) → follower ≢ leader → position_of fleet leader time ≡ Some cell → position_of fleet follower (time + 1) ≡ Some cell → IfSome result (Stands fleet) }
     ensures pair { IfSome result (λ entry. IsOfPair entry time follower leader) }
     ensures found { (fleet : Fleet) → Sees sight.now fleet → IsFollowing fleet time follower leader cell → result ≡ Some (Conflict.Following time follower leader cell) }
 {
-    if !sight.is_at(follower, time, cell) && sight.has_position(leader, time + 1) {
+    let follows = known
+        || (!sight.is_at(follower, time, cell) && sight.has_position(leader, time + 1));
+    if follows {
         Some(Conflict::Following {
             time: Step::new(time),
             follower,
@@ -159,24 +133,21 @@ pub(crate) fn following_of(
     }
 }
 
-// The Swapping entry of two agents in this order, each in its own cell at the time.
+// The Swapping entry of two agents in this order, each in its own cell at the time, if they change
+// places.
 pub(crate) fn swapping_of(
-    sight: &Sight<'_>,
+    swaps: bool,
     time: u32,
     first: Agent,
     second: Agent,
     cell: Cell,
     other: Cell,
 ) -> Option<Conflict>
-    requires { time < u32.MAX }
-    ensures stands { (fleet : Fleet) → Sees sight.now fleet → cell ≢ other → position_of fleet first time ≡ Some cell → position_of fleet second time ≡ Some other → IfSome result (Stands fleet) }
+    ensures stands { (fleet : Fleet) → (IsTrue swaps → first < second → IsSwapping fleet time first second cell other) → IfSome result (Stands fleet) }
     ensures pair { IfSome result (λ entry. IsOfPair entry time first second) }
-    ensures found { (fleet : Fleet) → Sees sight.now fleet → IsSwapping fleet time first second cell other → result ≡ Some (Conflict.Swapping time first second cell other) }
+    ensures found { IsTrue swaps → first < second → result ≡ Some (Conflict.Swapping time first second cell other) }
 {
-    if first < second
-        && sight.is_at(first, time + 1, other)
-        && sight.is_at(second, time + 1, cell)
-    {
+    if swaps && first < second {
         Some(Conflict::Swapping {
             time: Step::new(time),
             first,

@@ -23,11 +23,11 @@ fn offer_passing(
         return Ok(());
     }
     let (first, second) = in_order(sight.agent, other);
-    offer(entries, meeting_of(sight, time, first, second, rest))?;
+    offer(entries, meeting_of(sight, false, time, first, second, rest))?;
     if time > 0 {
         offer(
             entries,
-            following_of(sight, time - 1, other, sight.agent, rest),
+            following_of(sight, false, time - 1, other, sight.agent, rest),
         )?;
     }
     Ok(())

@@ -1,22 +1,18 @@
 -- What a set gathers from spots, and the ascending list of it.
-use Rattle.std.proofs.Common.{◌≡◌, ◌⊎◌, inl, inr, ℕ, List, [], ◌∷◌, get_or, Contains, refl, sym, ap, ◌∙◌, subst, arith}
+use Rattle.std.proofs.Common.{◌≡◌, ◌⊎◌, inl, inr, ℕ, List, [], ◌∷◌, get_or, Contains, sym, ap, ◌∙◌, subst}
 use mathlib.Core.Logic.{◌↔◌}
 use Rattle.std.specs.List.{AllPairs}
 use Rattle.std.specs.List.Sorted.{IsStrictlySortedBy}
 use Rattle.std.specs.Ordering.{nat_cmp, ordering_then}
-use Rattle.std.specs.declared.cmp.Ordering.{Ordering}
-use Rattle.std.specs.declared.cmp.Ordering.TheVariants.{Less, Equal, Greater}
 use Rattle.std.specs.Cmp.{IsTotalOrder}
 use Rattle.std.proofs.lemmas.Cmp.{nat_cmp_total, on_total, then_total}
 use Rattle.std.proofs.lemmas.Map.Lookups.{CmpEqualImpliesEq, exact_unsigned}
-use Rattle.std.proofs.lemmas.List.Elements.{All-from_recursion}
-use Rattle.std.proofs.lemmas.List.Kept.{AllPairs-cons}
 use Rattle.plan_table.specs.Order.{ComesBefore}
 use Rattle.where_index.specs.declared.spot_sets.Spot.{Spot}
 use Rattle.where_index.specs.declared.passings.Passing.{Passing}
 use Rattle.where_index.specs.Shown.{passing_cmp}
 use Rattle.where_index.proofs.Sets.{Contains-nil, Contains-head, Contains-tail, Contains-cons_cases}
-use Rattle.where_index.proofs.SpotOrder.{then_equal}
+use Rattle.where_index.proofs.SpotOrder.{then_equal, then_end, ascends}
 
 pub passing_total : IsTotalOrder passing_cmp
 passing_total = then_total (on_total (λ (p : Passing). p.time) nat_cmp_total) (on_total (λ (p : Passing). p.agent) nat_cmp_total)
@@ -74,16 +70,6 @@ module _ {K : Type 0} (f : Spot → K) where
   )
 
 -- ---- strictly sorted lists ascend
-pub ascends : {X : Type 0} (R : X → X → Ordering) (xs : List X) → IsStrictlySortedBy R xs → AllPairs (λ a b. R a b ≡ Less) xs
-unfolding IsStrictlySortedBy
-ascends R [] sorted = λ i j d lt within. absurd (omega arith)
-ascends R (x ∷ xs) sorted = AllPairs-cons (λ a b. R a b ≡ Less) x xs (All-from_recursion (λ y. R x y ≡ Less) xs sorted.0) (ascends R xs sorted.1)
-
-then_end : (o : Ordering) → ordering_then o Equal ≡ o
-then_end Less = refl
-then_end Equal = refl
-then_end Greater = refl
-
 pub agents_ascend : (agents : List ℕ) → IsStrictlySortedBy nat_cmp agents → AllPairs (λ a b. ComesBefore (a ∷ []) (b ∷ [])) agents
 agents_ascend agents sorted i j d lt within = then_end _ ∙ ascends nat_cmp agents sorted i j d lt within
 

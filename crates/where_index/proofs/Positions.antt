@@ -1,5 +1,5 @@
 -- Where an agent is, by its records.
-use Rattle.std.proofs.Common.{◌≡◌, ◌≢◌, ◌⊎◌, inl, inr, ℕ, zero, suc, ◌+◌, min, ◌<◌, ◌≤◌, nat_lt, List, [], ◌∷◌, length, slice_get, Contains, Option, Some, None, Bool, true, false, cond, ◌&&◌, ◌||◌, ◌==◌, not, refl, sym, ap, ◌∙◌, subst, arith}
+use Rattle.std.proofs.Common.{◌≡◌, ◌≢◌, ◌⊎◌, inl, inr, ℕ, zero, suc, ◌+◌, ◌-◌, min, ◌<◌, ◌≤◌, nat_lt, List, [], ◌∷◌, length, slice_get, Contains, Option, Some, None, Bool, true, false, cond, ◌&&◌, ◌||◌, ◌==◌, not, IsTrue, refl, sym, ap, ◌∙◌, subst, arith}
 use mathlib.Core.Logic.{◌↔◌}
 use Rattle.std.specs.Option.{option_and_then, option_map, unwrap_or, IsSome}
 use Rattle.std.proofs.lemmas.Bool.Decides.{nat_tests}
@@ -8,7 +8,7 @@ use Rattle.grid_cells.specs.Cell.{Point}
 use Rattle.plan_table.specs.Path.{last_index, place}
 use Rattle.plan_table.specs.Route.{Route, Fleet, position, position_of, last_of}
 use Rattle.where_index.specs.declared.spot_sets.Spot.{Spot}
-use Rattle.where_index.specs.Spots.{AreBetween, spot, HasAt}
+use Rattle.where_index.specs.Spots.{AreBetween, AreFrom, AreRising, spot, HasAt}
 use Rattle.where_index.specs.Shown.{HasAgent, HasPassing}
 use Rattle.where_index.specs.Records.{route, stand_at, tail_at, hop_at, hop_between, hop, leg_between, leg_at, rest_at, same_point}
 use Rattle.where_index.specs.Changes.{HasSpots}
@@ -141,24 +141,23 @@ standing_exact stands tails s1 s2 fleet cell time has_s has_r b1 b2 a = (
   ]),
 )
 
-pub occupants_exact : (stands tails : List Spot) (fleet : Fleet) (cell : Point) (from to : ℕ) → ShowCells stands (all_of stand_at fleet) → ShowCells tails (all_of tail_at fleet) → (found : Occupants) → AreBetween stands cell from to found.stands → AreBetween tails cell 0 to found.tails → AreOccupants fleet cell from to found
-occupants_exact stands tails fleet cell from to has_s has_r found b1 b2 = record {
-  standing = λ s within. let inside = (b1 s).0 within in
-      record { place = inside.1; not_before = inside.2; not_after = inside.3; there = stands_is s.time cell (fleet s.step.agent) (same_record (all_of stand_at fleet) s s.step.agent s.time cell refl refl inside.1 (has_s.0 s inside.0)) };
-  resting = λ s within. let inside = (b2 s).0 within in
-      record { place = inside.1; not_after = inside.3; there = λ t h. rests_is t cell s.time h (fleet s.step.agent) (same_record (all_of tail_at fleet) s s.step.agent s.time cell refl refl inside.1 (has_r.0 s inside.0)) };
-  all = λ a t h k at. elim (either_is t cell (fleet a) at) [
-    | inl stood ↦ let v = has_s.1 cell t a stood in inl (v.0, (b1 (spot cell t a v.0)).1 (v.1, refl, h, k))
-    | inr w ↦ let v = has_r.1 cell w.0 a w.2 in inr (spot cell w.0 a v.0, (b2 (spot cell w.0 a v.0)).1 (v.1, refl, omega arith, omega (arith, w.1, k)), refl, w.1)
-  ];
-}
-
 -- ---- a record Stand or Tail is no later than the last index
 stand_early : (o : Option Route) (t : ℕ) (cell : Point) → option_and_then (λ r. stand_at r t) o ≡ Some cell → t ≤ unwrap_or (option_map (λ (r : Route). last_index r.path) o) 0
 stand_early None t cell e = absurd (cc)
 stand_early (Some r) t cell e =
     let within = slice_get_within r.path t cell (guarded _ _ _ e).1 in
     omega arith
+
+before_last : (n t : ℕ) → (nat_lt (t + 1) n || false) ≡ true → t < n - 1
+before_last n t is = grind (arith, nat_tests)
+
+-- and before it, where its agent doesn't leave
+stand_passes : (o : Option Route) (t : ℕ) (cell : Point) → option_and_then (λ r. stand_at r t) o ≡ Some cell → (t < unwrap_or (option_map (λ (r : Route). last_index r.path) o) 0) ⊎ IsTrue (unwrap_or (option_map (λ (r : Route). r.leaves) o) false)
+stand_passes None t cell e = absurd (cc)
+stand_passes (Some r) t cell e = go r.leaves refl (guarded _ _ _ e).0 where
+  go : (v : Bool) → r.leaves ≡ v → (nat_lt (t + 1) (length r.path) || (v && (t + 1 == length r.path))) ≡ true → (t < last_index r.path) ⊎ IsTrue r.leaves
+  go true leaves is = inr leaves
+  go false leaves is = inl (before_last (length r.path) t is)
 
 tail_last : (o : Option Route) (t : ℕ) (cell : Point) → option_and_then (λ r. tail_at r t) o ≡ Some cell → t ≡ unwrap_or (option_map (λ (r : Route). last_index r.path) o) 0
 tail_last None t cell e = absurd (cc)
@@ -167,8 +166,8 @@ tail_last (Some r) t cell e = go r.leaves (guarded _ _ _ e).0 where
   go true is = absurd (cc)
   go false is = let end = end_test (t + 1) (length r.path) is in omega arith
 
-pub passing_exact : (stands tails s1 s2 : List Spot) (fleet : Fleet) (cell : Point) (from to : ℕ) → ShowCells stands (all_of stand_at fleet) → ShowCells tails (all_of tail_at fleet) → ((a : ℕ) → last_of fleet a ≤ to) → AreBetween stands cell from to s1 → AreBetween tails cell from to s2 → (p : Passing) → (HasPassing s1 p ⊎ HasPassing s2 p) ↔ Passes fleet cell from p
-passing_exact stands tails s1 s2 fleet cell from to has_s has_r most b1 b2 p = (
+pub passing_exact : (stands tails s1 s2 : List Spot) (fleet : Fleet) (cell : Point) (from : ℕ) → ShowCells stands (all_of stand_at fleet) → ShowCells tails (all_of tail_at fleet) → AreFrom stands cell from s1 → AreFrom tails cell from s2 → (p : Passing) → (HasPassing s1 p ⊎ HasPassing s2 p) ↔ Passes fleet cell from p
+passing_exact stands tails s1 s2 fleet cell from has_s has_r b1 b2 p = (
   (λ h. elim h [
     | inl (s, within, is) ↦
         let inside = (b1 s).0 within in
@@ -196,14 +195,14 @@ passing_exact stands tails s1 s2 fleet cell from to has_s has_r most b1 b2 p = (
     | inl stood ↦
         let v = has_s.1 cell p.time p.agent stood in
         let s = spot cell p.time p.agent v.0 in
-        inl (s, (b1 s).1 (v.1, refl, h.not_before, omega (arith, most p.agent, h.not_after)), refl)
+        inl (s, (b1 s).1 (v.1, refl, h.not_before), refl)
     | inr w ↦
         let last : w.0 ≡ last_of fleet p.agent = tail_last (fleet p.agent) w.0 cell w.2 in
         let now : w.0 ≡ p.time = omega (arith, last, w.1, h.not_after) in
         let rested : all_of tail_at fleet p.agent p.time ≡ Some cell = subst (λ q. all_of tail_at fleet p.agent q ≡ Some cell) now w.2 in
         let v = has_r.1 cell p.time p.agent rested in
         let s = spot cell p.time p.agent v.0 in
-        inr (s, (b2 s).1 (v.1, refl, h.not_before, omega (arith, most p.agent, h.not_after)), refl)
+        inr (s, (b2 s).1 (v.1, refl, h.not_before), refl)
   ]),
 )
 
@@ -373,3 +372,32 @@ movers_exact fleet cell time m = (
   (λ h. let parts = hop_of (fleet m.agent) time (hop cell m.to) (leg_hop (fleet m.agent) time cell m.to h.1 h.0) in record { starts = parts.0; arrives = parts.1; moves = parts.2 }),
   (λ h. (hop_leg (fleet m.agent) time (hop cell m.to) (of_hop (fleet m.agent) time cell m.to h.starts h.arrives h.moves), h.moves)),
 )
+
+pub occupants_exact : (stands tails : List Spot) (fleet : Fleet) (cell : Point) (from : ℕ) → HasSpots stands (all_of leg_at fleet) → HasSpots tails (all_of rest_at fleet) → (found : Occupants) → AreFrom stands cell from found.stands → AreRising found.stands → AreFrom tails cell 0 found.tails → AreRising found.tails → AreOccupants fleet cell from found
+occupants_exact stands tails fleet cell from legs rests found b1 rise1 b2 rise2 = record {
+  standing = λ s within.
+      let inside = (b1 s).0 within in
+      let stood = same_record (all_of stand_at fleet) s s.step.agent s.time cell refl refl inside.1 (has_s.0 s inside.0) in
+      record {
+        place = inside.1;
+        not_before = inside.2;
+        there = stands_is s.time cell (fleet s.step.agent) stood;
+        passes = stand_passes (fleet s.step.agent) s.time cell stood;
+        goes = λ moves.
+            let apart : s.cell ≢ s.step.to = λ is. moves (sym inside.1 ∙ is) in
+            (hop_of (fleet s.step.agent) s.time (hop s.cell s.step.to) (leg_hop (fleet s.step.agent) s.time s.cell s.step.to apart ((legs s).0 inside.0))).1;
+      };
+  resting = λ s within. let inside = (b2 s).0 within in
+      record { place = inside.1; there = λ t h. rests_is t cell s.time h (fleet s.step.agent) (same_record (all_of tail_at fleet) s s.step.agent s.time cell refl refl inside.1 (has_r.0 s inside.0)) };
+  all = λ a t h at. elim (either_is t cell (fleet a) at) [
+    | inl stood ↦ let v = has_s.1 cell t a stood in inl (v.0, (b1 (spot cell t a v.0)).1 (v.1, refl, h))
+    | inr w ↦ let v = has_r.1 cell w.0 a w.2 in inr (spot cell w.0 a v.0, (b2 (spot cell w.0 a v.0)).1 (v.1, refl, omega arith), refl, w.1)
+  ];
+  stands_rise = rise1;
+  tails_rise = rise2;
+} where
+  has_s : ShowCells stands (all_of stand_at fleet)
+  has_s = stands_show stands fleet legs
+
+  has_r : ShowCells tails (all_of tail_at fleet)
+  has_r = tails_show tails fleet rests

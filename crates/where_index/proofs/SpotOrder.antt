@@ -1,15 +1,20 @@
 -- The order of spots.
-use Rattle.std.proofs.Common.{◌≡◌, ◌≤◌, ◌<◌, ◌-◌, ◌⊎◌, ℕ, refl, sym, ap, ◌∙◌, subst, List, Contains, Bool, true, false, ◌&&◌, not, arith, inl, inr}
+use Rattle.std.proofs.Common.{◌≡◌, ◌≤◌, ◌<◌, ◌-◌, ◌⊎◌, ℕ, suc, refl, sym, ap, ◌∙◌, subst, List, [], ◌∷◌, length, get_or, Contains, Bool, true, false, ◌&&◌, not, arith, inl, inr}
 use mathlib.Core.Logic.{◌↔◌}
 use Rattle.std.specs.List.{filter}
 use Rattle.std.specs.Ordering.{is_lt, is_le}
 use Rattle.grid_cells.specs.Cell.{Point}
+use Rattle.std.specs.List.{AllPairs}
+use Rattle.std.specs.List.Sorted.{IsStrictlySortedBy}
+use Rattle.std.proofs.lemmas.List.Elements.{All-from_recursion}
+use Rattle.std.proofs.lemmas.List.Kept.{AllPairs-cons, IsStrictlySortedBy-filter}
+use Rattle.std.proofs.lemmas.List.{get_or_default}
 use Rattle.std.specs.BTreeMap.Range.{range_contains}
-use Rattle.std.specs.declared.ops.Bound.TheVariants.{Included}
-use Rattle.std.proofs.lemmas.Cmp.{ranked}
+use Rattle.std.specs.declared.ops.Bound.TheVariants.{Included, Unbounded}
+use Rattle.std.proofs.lemmas.Cmp.{ranked, tied_itself}
 use Rattle.std.specs.Ordering.{MatchOrdering}
 use Rattle.std.specs.Cmp.{IsTotalOrder}
-use Rattle.std.specs.Ordering.{nat_cmp, ordering_then}
+use Rattle.std.specs.Ordering.{nat_cmp, ordering_then, ordering_reverse}
 use Rattle.std.specs.declared.cmp.Ordering.{Ordering}
 use Rattle.std.specs.declared.cmp.Ordering.TheVariants.{Less, Equal, Greater}
 use Rattle.std.proofs.lemmas.Map.Lookups.{CmpEqualImpliesEq, exact_unsigned}
@@ -17,8 +22,8 @@ use Rattle.std.proofs.lemmas.Cmp.{nat_cmp_total, on_total, then_total}
 use Rattle.grid_cells.specs.Cell.{point}
 use Rattle.grid_cells.specs.declared.sizes.TheConstants.{MOST_SIDE}
 use Rattle.where_index.specs.declared.moves.Move.{Move}
-use Rattle.where_index.specs.Spots.{spot, move_cmp, spot_cmp, IsWithin, AreWithin, AreBetween}
-use Rattle.where_index.proofs.Sets.{filter_keeps}
+use Rattle.where_index.specs.Spots.{spot, move_cmp, spot_cmp, IsWithin, AreWithin, AreBetween, starts, IsFrom, AreFrom, AreRising, HasAt}
+use Rattle.where_index.proofs.Sets.{filter_keeps, Contains-nil, Contains-head, Contains-cons_cases}
 use Rattle.grid_cells.specs.declared.numbers.TheConstants.{MOST_AGENT}
 use Rattle.where_index.specs.declared.spot_sets.Spot.{Spot}
 
@@ -161,7 +166,7 @@ not_lt_then a b o h e = elim (cases3 (nat_cmp a b)) [
   ]
 ]
 
-then_end : (o : Ordering) → ordering_then o Equal ≡ o
+pub then_end : (o : Ordering) → ordering_then o Equal ≡ o
 then_end Less = refl
 then_end Equal = refl
 then_end Greater = refl
@@ -198,15 +203,86 @@ between_bounds all found cell from to few is s =
       (λ h. keeps.1 (h.0, into_bounds cell from to 0 MOST_AGENT s (omega arith) (few s h.0).0 (few s h.0) h.1 h.2 h.3)),
     )
 
--- the part of a set that is one agent's at one place
-pub at_place : (all found : List Spot) (cell : Point) (time agent : ℕ) → AreWithin all → found ≡ filter (bounded cell time time agent agent) all → (s : Spot) → Contains found s ↔ (Contains all s × (s ≡ spot cell time agent s.step.to))
-at_place all found cell time agent few is s =
-    let keeps = filter_keeps (bounded cell time time agent agent) all s in
-    subst (λ (l : List Spot). Contains l s ↔ (Contains all s × (s ≡ spot cell time agent s.step.to))) (sym is) (
-      (λ h. let inside = at_bounds (spot cell time agent (point 0 0)) (spot cell time agent (point (MOST_SIDE - 1) (MOST_SIDE - 1))) s cell refl refl time agent refl refl refl refl (keeps.0 h).1 in
-          ((keeps.0 h).0, λ i. record { cell = inside.0 i; time = sym inside.1 i; step = record { agent = sym inside.2 i; to = s.step.to } })),
-      (λ h.
-          let times = ap (λ (q : Spot). q.time) h.1 in
-          let agents = ap (λ (q : Spot). q.step.agent) h.1 in
-          keeps.1 (h.0, into_bounds cell time time agent agent s (omega arith) (omega arith) (few s h.0) (ap (λ (q : Spot). q.cell) h.1) (omega arith) (omega arith))),
-    )
+-- ---- from a time on
+pub ascends : {X : Type 0} (R : X → X → Ordering) (xs : List X) → IsStrictlySortedBy R xs → AllPairs (λ a b. R a b ≡ Less) xs
+unfolding IsStrictlySortedBy
+ascends R [] sorted = λ i j d lt within. absurd (omega arith)
+ascends R (x ∷ xs) sorted = AllPairs-cons (λ a b. R a b ≡ Less) x xs (All-from_recursion (λ y. R x y ≡ Less) xs sorted.0) (ascends R xs sorted.1)
+
+-- a spot that isn't before another one in the same cell isn't earlier
+later : (low s : Spot) → low.cell ≡ s.cell → is_le (spot_cmp low s) ≡ true → low.time ≤ s.time
+later low s is e =
+    let rest : Ordering = ordering_then (nat_cmp low.time s.time) (move_cmp low.step s.step) in
+    let both : is_le (ordering_then (ordering_then (nat_cmp low.cell.y s.cell.y) (nat_cmp low.cell.x s.cell.x)) rest) ≡ true = e in
+    let ys : nat_cmp low.cell.y s.cell.y ≡ Equal = subst (λ (p : Point). nat_cmp p.y s.cell.y ≡ Equal) (sym is) (tied_itself nat_cmp_total s.cell.y) in
+    let xs : nat_cmp low.cell.x s.cell.x ≡ Equal = subst (λ (p : Point). nat_cmp p.x s.cell.x ≡ Equal) (sym is) (tied_itself nat_cmp_total s.cell.x) in
+    let same : ordering_then (nat_cmp low.cell.y s.cell.y) (nat_cmp low.cell.x s.cell.x) ≡ Equal = ap (λ o. ordering_then o (nat_cmp low.cell.x s.cell.x)) ys ∙ xs in
+    from_le low.time s.time (move_cmp low.step s.step) (subst (λ o. is_le (ordering_then o rest) ≡ true) same both)
+
+starts_there : (cell : Point) (from : ℕ) (s : Spot) → s.cell ≡ cell → from ≤ s.time → starts cell from s ≡ true
+starts_there cell from s is lower =
+    let y : cell.y ≡ s.cell.y = sym (ap (λ (p : Point). p.y) is) in
+    let x : cell.x ≡ s.cell.x = sym (ap (λ (p : Point). p.x) is) in
+    let one : is_le (move_cmp (record { agent = 0; to = point 0 0 }) s.step) ≡ true = le_then 0 s.step.agent _ (omega arith) (le_then 0 s.step.to.y _ (omega arith) (le_end 0 s.step.to.x (omega arith))) in
+    sym (ap is_le (sym (assoc (nat_cmp cell.y s.cell.y) (nat_cmp cell.x s.cell.x) _))) ∙ le_then cell.y s.cell.y _ (omega arith) (le_then cell.x s.cell.x _ (omega arith) (le_then from s.time _ lower one))
+
+not_less : (o : Ordering) → o ≡ Less → is_le o ≡ true
+not_less o e = ap is_le e
+
+module _ (all found : List Spot) (cell : Point) (from : ℕ) (here : (s : Spot) → Contains all s → s.cell ≡ cell) (is : IsFrom all cell from found) where
+  pub are_from : AreFrom all cell from found
+  are_from s =
+      let keeps = filter_keeps (starts cell from) all s in
+      subst (λ (l : List Spot). Contains l s ↔ (Contains all s × (s.cell ≡ cell) × (from ≤ s.time))) (sym is.is) (
+        (λ h. let kept = keeps.0 h in (kept.0, here s kept.0, later (spot cell from 0 (point 0 0)) s (sym (here s kept.0)) kept.1)),
+        (λ h. keeps.1 (h.0, starts_there cell from s h.1 h.2)),
+      )
+
+  pub are_rising : AreRising found
+  are_rising i j d lt within =
+      let rest = filter (starts cell from) all in
+      let inside : j < length rest = subst (λ (l : List Spot). j < length l) is.is within in
+      let a = get_or rest i d in
+      let b = get_or rest j d in
+      let less : spot_cmp a b ≡ Less = ascends spot_cmp rest (IsStrictlySortedBy-filter spot_cmp (starts cell from) all is.ordered) i j d lt inside in
+      let in_all : (k : ℕ) → k < length rest → Contains all (get_or rest k d) = λ k h. ((filter_keeps (starts cell from) all (get_or rest k d)).0 (k, h, get_or_default rest k _ _ h)).0 in
+      subst (λ (l : List Spot). (get_or l i d).time ≤ (get_or l j d).time) (sym is.is)
+      (later a b (here a (in_all i (omega arith)) ∙ sym (here b (in_all j inside))) (not_less (spot_cmp a b) less))
+
+-- ---- the first one from an agent's place on
+module _ (all : List Spot) (cell : Point) (time agent : ℕ) where
+  abbrev pub from_place : Spot → Bool
+  from_place = λ v. is_le (spot_cmp (spot cell time agent (point 0 0)) v)
+
+  place_from : (to : Point) → from_place (spot cell time agent to) ≡ true
+  place_from to =
+      let one : is_le (move_cmp (record { agent = agent; to = point 0 0 }) (record { agent = agent; to = to })) ≡ true = le_then agent agent _ (omega arith) (le_then 0 to.y _ (omega arith) (le_end 0 to.x (omega arith))) in
+      sym (ap is_le (sym (assoc (nat_cmp cell.y cell.y) (nat_cmp cell.x cell.x) _))) ∙ le_then cell.y cell.y _ (omega arith) (le_then cell.x cell.x _ (omega arith) (le_then time time _ (omega arith) one))
+
+  pub none_there : filter from_place all ≡ [] → HasAt all cell time agent → ⊥
+  none_there steps w =
+      let v = spot cell time agent w.0 in
+      Contains-nil v (subst (λ (l : List Spot). Contains l v) steps ((filter_keeps from_place all v).1 (w.1, place_from w.0)))
+
+  -- it is the agent's there, if any is
+  pub first_there : (s : Spot) (rest : List Spot) → IsStrictlySortedBy spot_cmp all → filter from_place all ≡ s ∷ rest → HasAt all cell time agent → (s.cell ≡ cell) × (time ≡ s.time) × (agent ≡ s.step.agent)
+  first_there s rest sorted steps w =
+      let v = spot cell time agent w.0 in
+      let among = subst (λ (l : List Spot). Contains l v) steps ((filter_keeps from_place all v).1 (w.1, place_from w.0)) in
+      let least = ((filter_keeps from_place all s).0 (subst (λ (l : List Spot). Contains l s) (sym steps) (Contains-head s rest))).1 in
+      elim (Contains-cons_cases s rest v among) [
+        | inl is ↦ (ap (λ (q : Spot). q.cell) is, sym (ap (λ (q : Spot). q.time) is), sym (ap (λ (q : Spot). q.step.agent) is))
+        | inr (k, within, at) ↦
+            let rises = subst (λ (l : List Spot). AllPairs (λ a b. spot_cmp a b ≡ Less) l) steps (ascends spot_cmp (filter from_place all) (IsStrictlySortedBy-filter spot_cmp from_place all sorted)) in
+            let less : spot_cmp s v ≡ Less = subst (λ q. spot_cmp s q ≡ Less) at (rises 0 (suc k) v (omega arith) (omega (arith, within))) in
+            let high : is_lt (spot_cmp v s) ≡ false = ap is_lt (spot_total.antisymm v s ∙ ap ordering_reverse less) in
+            at_bounds (spot cell time agent (point 0 0)) v s cell refl refl time agent refl refl refl refl (and_true _ _ least high)
+      ]
+
+and_end : (b : Bool) → (b && true) ≡ b
+and_end true = refl
+and_end false = refl
+
+-- what a search with no end finds
+pub unbounded : (low : Spot) (all : List Spot) → filter (range_contains spot_cmp (Included low) Unbounded) all ≡ filter (λ s. is_le (spot_cmp low s)) all
+unbounded low all = λ i. filter (λ s. and_end (is_le (spot_cmp low s)) i) all

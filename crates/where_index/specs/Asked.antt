@@ -3,14 +3,14 @@
 use Rattle.std.specs.Prelude.{◌≡◌, ◌≢◌, ◌⊎◌, ◌↔◌, ℕ, ◌+◌, ◌<◌, ◌≤◌, Some, IsSome, IsTrue, List, [], ◌∷◌, length, Contains, AllPairs}
 use Rattle.grid_cells.specs.Cell.{Point}
 use Rattle.plan_table.specs.Order.{ListsAll}
-use Rattle.plan_table.specs.Route.{Fleet, position_of, last_of}
+use Rattle.plan_table.specs.Route.{Fleet, position_of, last_of, Leaves}
 use Rattle.where_index.specs.declared.moves.Move.{Move}
 use Rattle.where_index.specs.declared.passings.Passing.{Passing}
 use Rattle.where_index.specs.declared.spot_sets.Spot.{Spot}
 use Rattle.where_index.specs.declared.occupants.Occupants.{Occupants}
 use Rattle.where_index.specs.declared.ways.Way.{Way}
 use Rattle.where_index.specs.Flows.{leads}
-use Rattle.where_index.specs.Spots.{HasAt}
+use Rattle.where_index.specs.Spots.{HasAt, AreRising}
 
 -- the agents whose position at that time is the cell, ascending
 abbrev pub AreStandingAt : Fleet → ℕ → Point → List ℕ → Type 0
@@ -45,28 +45,31 @@ pub record Passes (fleet : Fleet) (cell : Point) (from : ℕ) (passing : Passing
 abbrev pub ArePassing : Fleet → Point → ℕ → List Passing → Type 0
 ArePassing fleet cell from passings = ListsAll (λ passing. passing.time ∷ passing.agent ∷ []) (Passes fleet cell from) passings
 
--- the agent is in the cell at the time, which is one from one to another
-pub record StandsIn (fleet : Fleet) (cell : Point) (from to : ℕ) (s : Spot) : Type 0 where
+-- the agent is in the cell at the time, which is one from one on, and does not rest there yet, or is to leave; where its step
+-- leads to another cell, it is in that one next
+pub record StandsIn (fleet : Fleet) (cell : Point) (from : ℕ) (s : Spot) : Type 0 where
   pub place : s.cell ≡ cell
   pub not_before : from ≤ s.time
-  pub not_after : s.time ≤ to
   pub there : position_of fleet s.step.agent s.time ≡ Some cell
+  pub passes : (s.time < last_of fleet s.step.agent) ⊎ Leaves fleet s.step.agent
+  pub goes : cell ≢ s.step.to → position_of fleet s.step.agent (s.time + 1) ≡ Some s.step.to
 
--- the agent is in the cell from that time on, which is no later than another
-pub record RestsIn (fleet : Fleet) (cell : Point) (to : ℕ) (s : Spot) : Type 0 where
+-- the agent is in the cell from that time on
+pub record RestsIn (fleet : Fleet) (cell : Point) (s : Spot) : Type 0 where
   pub place : s.cell ≡ cell
-  pub not_after : s.time ≤ to
   pub there : (time : ℕ) → s.time ≤ time → position_of fleet s.step.agent time ≡ Some cell
 
 -- an agent that is in the cell at a time stands there, or has come to rest there
 abbrev pub IsOccupant : Point → ℕ → ℕ → List Spot → List Spot → Type 0
 IsOccupant cell time agent stands tails = HasAt stands cell time agent ⊎ ((s : Spot) × Contains tails s × (s.step.agent ≡ agent) × (s.time ≤ time))
 
--- those who are in the cell at times from one to another
-pub record AreOccupants (fleet : Fleet) (cell : Point) (from to : ℕ) (found : Occupants) : Type 0 where
-  pub standing : (s : Spot) → Contains found.stands s → StandsIn fleet cell from to s
-  pub resting : (s : Spot) → Contains found.tails s → RestsIn fleet cell to s
-  pub all : (agent time : ℕ) → from ≤ time → time ≤ to → position_of fleet agent time ≡ Some cell → IsOccupant cell time agent found.stands found.tails
+-- those who are in the cell at times from one on, the earliest first
+pub record AreOccupants (fleet : Fleet) (cell : Point) (from : ℕ) (found : Occupants) : Type 0 where
+  pub standing : (s : Spot) → Contains found.stands s → StandsIn fleet cell from s
+  pub resting : (s : Spot) → Contains found.tails s → RestsIn fleet cell s
+  pub all : (agent time : ℕ) → from ≤ time → position_of fleet agent time ≡ Some cell → IsOccupant cell time agent found.stands found.tails
+  pub stands_rise : AreRising found.stands
+  pub tails_rise : AreRising found.tails
 
 -- so many agents have a route
 pub record CountsAgents (fleet : Fleet) (count : ℕ) : Type 0 where

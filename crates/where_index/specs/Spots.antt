@@ -1,8 +1,10 @@
 -- Sets of spots, an agent in a cell at a time on its way to a cell: words for the program's own steps (this project's choice).
-use Rattle.std.specs.Prelude.{◌≡◌, ◌≢◌, ◌⊎◌, ◌↔◌, ℕ, ◌<◌, ◌≤◌, List, Contains}
-use Rattle.std.specs.Ordering.{nat_cmp, ordering_then}
+use Rattle.std.specs.Prelude.{Bool, ◌≡◌, ◌≢◌, ◌⊎◌, ◌↔◌, ℕ, ◌<◌, ◌≤◌, List, Contains}
+use Rattle.std.specs.List.{filter, AllPairs}
+use Rattle.std.specs.List.Sorted.{IsStrictlySortedBy}
+use Rattle.std.specs.Ordering.{nat_cmp, ordering_then, is_le}
 use Rattle.std.specs.declared.cmp.Ordering.{Ordering}
-use Rattle.grid_cells.specs.Cell.{Point}
+use Rattle.grid_cells.specs.Cell.{Point, point}
 use Rattle.grid_cells.specs.declared.numbers.TheConstants.{MOST_AGENT}
 use Rattle.grid_cells.specs.declared.sizes.TheConstants.{MOST_SIDE}
 use Rattle.where_index.specs.declared.moves.Move.{Move}
@@ -11,6 +13,14 @@ use Rattle.where_index.specs.declared.spot_sets.Spot.{Spot}
 -- the agent in the cell at the time, and one step later in another cell or the same
 abbrev pub spot : Point → ℕ → ℕ → Point → Spot
 spot cell time agent to = record { cell = cell; time = time; step = record { agent = agent; to = to } }
+
+-- moves compare by agent, then the row and the column of the cell that it goes to
+abbrev pub move_cmp : Move → Move → Ordering
+move_cmp a b = ordering_then (nat_cmp a.agent b.agent) (ordering_then (nat_cmp a.to.y b.to.y) (nat_cmp a.to.x b.to.x))
+
+-- spots compare by the cell's row and column, then time, then agent and where it goes
+abbrev pub spot_cmp : Spot → Spot → Ordering
+spot_cmp a b = ordering_then (ordering_then (nat_cmp a.cell.y b.cell.y) (nat_cmp a.cell.x b.cell.x)) (ordering_then (nat_cmp a.time b.time) (move_cmp a.step b.step))
 
 -- the spot has an agent's number, and goes to a cell that a map can have
 abbrev pub IsWithin : Spot → Type 0
@@ -39,14 +49,22 @@ IsBetween all cell from to s = Contains all s × (s.cell ≡ cell) × (from ≤ 
 abbrev pub AreBetween : List Spot → Point → ℕ → ℕ → List Spot → Type 0
 AreBetween all cell from to found = (s : Spot) → Contains found s ↔ IsBetween all cell from to s
 
+-- of those in order, the ones from that cell and time on
+abbrev pub starts : Point → ℕ → Spot → Bool
+starts cell time s = is_le (spot_cmp (spot cell time 0 (point 0 0)) s)
+
+pub record IsFrom (all : List Spot) (cell : Point) (time : ℕ) (found : List Spot) : Type 0 where
+  pub is : found ≡ filter (starts cell time) all
+  pub ordered : IsStrictlySortedBy spot_cmp all
+
+-- the spots at the cell from a time on
+abbrev pub AreFrom : List Spot → Point → ℕ → List Spot → Type 0
+AreFrom all cell from found = (s : Spot) → Contains found s ↔ (Contains all s × (s.cell ≡ cell) × (from ≤ s.time))
+
+-- no spot is earlier than one before it
+abbrev pub AreRising : List Spot → Type 0
+AreRising spots = AllPairs (λ a b. a.time ≤ b.time) spots
+
 -- the agent of the step is in the cell at the time, and in another one step later
 abbrev pub IsMover : List Spot → Point → ℕ → Move → Type 0
 IsMover all cell time step = Contains all (spot cell time step.agent step.to) × (cell ≢ step.to)
-
--- moves compare by agent, then the row and the column of the cell that it goes to
-abbrev pub move_cmp : Move → Move → Ordering
-move_cmp a b = ordering_then (nat_cmp a.agent b.agent) (ordering_then (nat_cmp a.to.y b.to.y) (nat_cmp a.to.x b.to.x))
-
--- spots compare by the cell's row and column, then time, then agent and where it goes
-abbrev pub spot_cmp : Spot → Spot → Ordering
-spot_cmp a b = ordering_then (ordering_then (nat_cmp a.cell.y b.cell.y) (nat_cmp a.cell.x b.cell.x)) (ordering_then (nat_cmp a.time b.time) (move_cmp a.step b.step))

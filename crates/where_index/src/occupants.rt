@@ -1,7 +1,7 @@
 use crate::spot_sets::Spot;
 use std::collections::btree_set::Range;
 
-/// Who is in one cell at steps from one to another. Both parts go by time, then agent.
+/// Who is in one cell at steps from one on. Both parts go by time, then agent.
 #[derive(Drop)]
 pub struct Occupants<'a> {
     /// Agents that are in the cell at the time of their spot.

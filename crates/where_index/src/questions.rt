@@ -25,16 +25,13 @@ impl WhereIndex {
         agents_of(self.alloc, stands, tails)
     }
 
-    /// Who is in the cell at some step from one to another, both of them included. It takes no memory.
-    pub fn occupants(&self, cell: Cell, from: Step, to: Step) -> Occupants<'_>
-        requires { from ≤ to }
-        ensures { (fleet : Fleet) → StandsFor self.now fleet → AreOccupants fleet cell from to result }
+    /// Who is in the cell at some step from one on. It takes no memory.
+    pub fn occupants(&self, cell: Cell, from: Step) -> Occupants<'_>
+        ensures { (fleet : Fleet) → StandsFor self.now fleet → AreOccupants fleet cell from result }
     {
-        let first = from.number();
-        let last = to.number();
         Occupants {
-            stands: self.records.traffic.stands.between(cell, first, last),
-            tails: self.records.tails.between(cell, 0, last),
+            stands: self.records.traffic.stands.from(cell, from.number()),
+            tails: self.records.tails.from(cell, 0),
         }
     }
 
@@ -59,9 +56,8 @@ impl WhereIndex {
         ensures { IfOk result (λ passings. (fleet : Fleet) → StandsFor self.now fleet → ArePassing fleet cell from passings) }
     {
         let time = from.number();
-        let to = self.horizon.max(time);
-        let stands = self.records.traffic.stands.between(cell, time, to);
-        let tails = self.records.tails.between(cell, time, to);
+        let stands = self.records.traffic.stands.from(cell, time);
+        let tails = self.records.tails.from(cell, time);
         passings_of(self.alloc, stands, tails)
     }
 

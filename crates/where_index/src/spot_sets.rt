@@ -2,7 +2,7 @@ ghost use Rattle.std.specs.Prelude.{◌≡◌, ◌↔◌, ◌-◌, ◌≤◌, []
 ghost use Rattle.std.specs.Bool.{OnTrue};
 ghost use Rattle.grid_cells.specs.Cell.{point};
 ghost use Rattle.grid_cells.specs.declared.sizes.TheConstants.{MOST_SIDE};
-ghost use Rattle.where_index.specs.Spots.{spot, Gains, Loses, AreBetween, HasAt};
+ghost use Rattle.where_index.specs.Spots.{spot, Gains, Loses, AreBetween, IsFrom, HasAt};
 
 use crate::moves::Move;
 use grid_cells::{Agent, Cell, MOST_SIDE, OutOfMemory};
@@ -73,10 +73,19 @@ impl SpotSet {
     pub fn has(&self, cell: Cell, time: u32, agent: Agent) -> bool
         ensures { IsTrue result ↔ HasAt self.now cell time agent }
     {
-        let _spots = &self.spots;
         let low = spot_of(cell, time, agent, least_cell());
-        let high = spot_of(cell, time, agent, greatest_cell());
-        self.spots.range(low..=high).next().is_some()
+        match self.spots.range(low..).next() {
+            Some(first) => is_there(first, cell, time, agent),
+            None => false,
+        }
+    }
+
+    /// The spots from that cell and time on, in order.
+    pub fn from(&self, cell: Cell, time: u32) -> Range<'_, Spot>
+        ensures { IsFrom self.now cell time result }
+    {
+        self.spots
+            .range(spot_of(cell, time, Agent::LEAST, least_cell())..)
     }
 
     /// The spots at the cell from one time to another, in order.
@@ -100,6 +109,13 @@ fn spot_of(cell: Cell, time: u32, agent: Agent, to: Cell) -> Spot
         time,
         step: Move { agent, to },
     }
+}
+
+// Whether the one that was found is the agent's in that cell at that time.
+fn is_there(found: &Spot, cell: Cell, time: u32, agent: Agent) -> bool
+    ensures { IsTrue result ↔ (found.now ≡ spot cell time agent found.now.step.to) }
+{
+    found.cell == cell && found.time == time && found.step.agent == agent
 }
 
 // The cell that no other comes before.

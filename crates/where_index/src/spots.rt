@@ -1,7 +1,7 @@
 ghost use Rattle.std.specs.Prelude.{◌≡◌, ◌↔◌, ◌≤◌, [], OnOk, OnErr, IfSome, IfNone, IsTrue};
 ghost use Rattle.std.specs.Bool.{OnTrue};
 ghost use Rattle.where_index.specs.declared.moves.Move.{Move};
-ghost use Rattle.where_index.specs.Spots.{Gains, Loses, AreBetween, HasAt, IsMover, AreWithin};
+ghost use Rattle.where_index.specs.Spots.{Gains, Loses, AreBetween, AreFrom, AreRising, HasAt, IsMover, AreWithin};
 ghost use Rattle.where_index.specs.ByCell.{spots_at, GainsAt, LosesAt, HaveSame};
 
 use crate::moves::Move;
@@ -90,12 +90,23 @@ impl Spots {
         set_at(&self.sets, &self.none, cell).between(cell, from, to)
     }
 
+    /// The spots at the cell from one time on, by time, then agent.
+    pub fn from(&self, cell: Cell, time: u32) -> Range<'_, Spot>
+        ensures all { AreFrom self.now cell time result }
+        ensures rising { AreRising result }
+    {
+        set_at(&self.sets, &self.none, cell).from(cell, time)
+    }
+
     /// A step out of the cell at the time, if any agent moves out of it.
     pub fn mover(&self, cell: Cell, time: u32) -> Option<&Move>
         ensures some { IfSome result (λ step. IsMover self.now cell time step.now) }
         ensures none { IfNone result ((step : Move) → IsMover self.now cell time step → ⊥) }
     {
-        for spot in self.between(cell, time, time) {
+        for spot in self.from(cell, time) {
+            if spot.time != time {
+                return None;
+            }
             if spot.step.to != cell {
                 return Some(&spot.step);
             }

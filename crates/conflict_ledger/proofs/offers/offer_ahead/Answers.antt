@@ -9,3 +9,8 @@ returns-clause-gathers c =
     let moves : c.args.stop.now.before ≢ c.args.stop.now.here = search rules in
     let shown : IsShown c.args.lasting c.args.spot.now c.args.stop.now.past = search rules in
     on_ok_weaker c.offer_met.result (λ gives fleet shows is showing. gathers_at fleet _ _ _ _ _ (λ t at. (omega (arith, at), omega (arith, at, c.requires.0))) (gives fleet shows (is.came moves) (λ apart. (moves, showing apart c.args.stop.now.past shown)))) c.offer_met.ensures.gathers
+
+pub returns-clause-has : goal.returns-clause-has
+returns-clause-has c =
+    let shown : IsShown c.args.lasting c.args.spot.now c.args.stop.now.past = search rules in
+    on_ok_weaker c.offer_met.result (λ gives fleet shows is showing moves _. gives fleet shows (is.came moves) (λ apart. (moves, showing apart c.args.stop.now.past shown))) c.offer_met.ensures.has

@@ -12,7 +12,7 @@ use Rattle.std.proofs.lemmas.Map.Views.{btree_map_contains_key_iff}
 use Rattle.plan_table.specs.Route.{Route}
 use Rattle.where_index.specs.declared.ends.End.{End}
 use Rattle.where_index.specs.Ends.{IsEndOf}
-use Rattle.where_index.proofs.Gathered.{ascends}
+use Rattle.where_index.proofs.SpotOrder.{ascends}
 use Rattle.where_index.proofs.index.WhereIndex.count.Goals as goal
 
 lesser : (a b : ℕ) → nat_cmp a b ≡ Less → a < b
