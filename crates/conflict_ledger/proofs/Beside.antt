@@ -1,49 +1,69 @@
 -- The times at which a change of one route can change entries, and the others.
-use Rattle.std.proofs.Common.{◌≡◌, ◌⊎◌, inl, inr, ℕ, ◌+◌, ◌<◌, ◌≤◌, ◌%◌, List, length, Option, Some, None, sym, ap, subst, ◌∙◌, arith}
+use Rattle.std.proofs.Common.{◌≡◌, ◌⊎◌, inl, inr, ℕ, ◌+◌, ◌<◌, ◌≤◌, ◌%◌, List, length, Option, Some, None, refl, sym, ap, subst, ◌∙◌, arith}
 use Rattle.std.specs.Prelude.{IsSome, IfSome, IsTrue, slice_index, false}
 use Rattle.std.specs.Option.{option_and_then, option_map, unwrap_or}
 use Rattle.std.proofs.lemmas.Bool.{cases_lt}
 use Rattle.grid_cells.specs.Cell.{Point}
 use Rattle.plan_table.specs.Path.{last_index}
-use Rattle.plan_table.specs.Route.{Route, Fleet, position, position_of, last_of, leaves_of, Leaves}
+use Rattle.plan_table.specs.Route.{Route, Fleet, route_of, position, position_of, last_of, leaves_of, Leaves}
 use Rattle.mapf_rules.specs.Entries.{both_end_by, IsFollowing}
 use Rattle.mapf_rules.specs.Cycles.{MovesOut, IsRing}
 use Rattle.mapf_rules.specs.ConflictList.{Stands}
 use Rattle.mapf_rules.specs.Naming.{time_of}
 use Rattle.conflict_ledger.specs.Change.{SameBut}
 use Rattle.conflict_ledger.specs.Kept.{HasEntries}
-use Rattle.conflict_ledger.specs.Spans.{IsIn, Fits, AreSameAt, HasEntriesIn, SameBeside}
+use Rattle.conflict_ledger.specs.Spans.{IsIn, Fits, AreApartAt, AreSameAt, HasEntriesIn, SameBeside}
 use Rattle.conflict_ledger.specs.declared.spans.Span.{Span}
+use Rattle.conflict_ledger.specs.declared.spans.Tracks.{Tracks}
 use Rattle.mapf_rules.specs.declared.entries.Conflict.{Conflict}
 use Rattle.mapf_rules.specs.declared.entries.Conflict.TheVariants.{Vertex, Parked, Edge, Following, Swapping, Cycle}
 use Rattle.conflict_ledger.proofs.Change.{there, ends, leaving}
+use Rattle.conflict_ledger.proofs.Turning.{at_or_not}
 use Rattle.mapf_rules.proofs.Walks.{same_or_not}
 
-until_or_not : (o : Option ℕ) (t : ℕ) → IfSome o (λ until. t ≤ until) ⊎ (IfSome o (λ until. t ≤ until) → ⊥)
-until_or_not None t = inl tt
-until_or_not (Some u) t = elim (cases_lt u t) [ inl past ↦ inr (λ le. omega arith) | inr le ↦ inl (omega arith) ]
+-- two routes are at different places at a time, or not
+apart_or_not : (old new : Route) (t : ℕ) → AreApartAt old new t ⊎ (position old t ≡ position new t)
+apart_or_not old new t = by_place (position new t) refl
+  where
+    nowhere : (o : Option Point) → position old t ≡ o → position new t ≡ None → AreApartAt old new t ⊎ (position old t ≡ position new t)
+    nowhere None was is = inr (was ∙ sym is)
+    nowhere (Some cell) was is = inl (λ e. cc)
+
+    by_place : (o : Option Point) → position new t ≡ o → AreApartAt old new t ⊎ (position old t ≡ position new t)
+    by_place (Some cell) is = elim (at_or_not (position old t) cell) [ inl at ↦ inr (at ∙ sym is) | inr not ↦ inl (λ e. not (e ∙ is)) ]
+    by_place None is = nowhere (position old t) refl is
+
+tracks_or_not : (o : Option Tracks) (t : ℕ) → let apart = IfSome o (λ both. AreApartAt (route_of both.old) (route_of both.new) t ⊎ AreApartAt (route_of both.old) (route_of both.new) (t + 1)) in apart ⊎ (apart → ⊥)
+tracks_or_not None t = inl tt
+tracks_or_not (Some both) t = elim (apart_or_not (route_of both.old) (route_of both.new) t) [
+  | inl now ↦ inl (inl now)
+  | inr same ↦ elim (apart_or_not (route_of both.old) (route_of both.new) (t + 1)) [
+    | inl later ↦ inl (inr later)
+    | inr alike ↦ inr (λ w. elim w [ inl now ↦ now same | inr later ↦ later alike ])
+  ]
+]
 
 pub in_or_not : (span : Span) (t : ℕ) → IsIn span t ⊎ (IsIn span t → ⊥)
 in_or_not span t = elim (cases_lt t span.from) [
   | inl before ↦ inr (λ is. let from : span.from ≤ t = is.not_before in omega arith)
-  | inr from ↦ elim (until_or_not span.until t) [
-    | inl until ↦ inl (record { not_before = omega arith; not_after = until })
-    | inr past ↦ inr (λ is. past is.not_after)
+  | inr from ↦ elim (tracks_or_not span.tracks t) [
+    | inl apart ↦ inl (record { not_before = omega arith; apart = apart })
+    | inr same ↦ inr (λ is. same is.apart)
   ]
 ]
 
 -- all times are those of the whole span, which fits each end
-pub all_in : (span : Span) → span.from ≡ 0 → span.until ≡ None → (t : ℕ) → IsIn span t
-all_in span from until t = record { not_before = omega (arith, from); not_after = rw until tt }
+pub all_in : (span : Span) → span.from ≡ 0 → span.tracks ≡ None → (t : ℕ) → IsIn span t
+all_in span from none t = record { not_before = omega (arith, from); apart = rw none tt }
 
-pub whole_fits : (span : Span) → span.from ≡ 0 → span.until ≡ None → (last : ℕ) → Fits span last
-whole_fits span from until last = record { begins = omega (arith, from); ends = rw until tt }
+pub whole_fits : (span : Span) → span.from ≡ 0 → span.tracks ≡ None → (last : ℕ) → Fits span last
+whole_fits span from none last = record { begins = omega (arith, from); ends = rw none tt }
 
-pub whole_before : (span : Span) → span.from ≡ 0 → span.until ≡ None → (kept : List Conflict) (fleet : Fleet) → HasEntries kept fleet → HasEntriesIn span kept fleet
-whole_before span from until kept fleet has entry is = has entry
+pub whole_before : (span : Span) → span.from ≡ 0 → span.tracks ≡ None → (kept : List Conflict) (fleet : Fleet) → HasEntries kept fleet → HasEntriesIn span kept fleet
+whole_before span from none kept fleet has entry is = has entry
 
-pub whole_after : (span : Span) → span.from ≡ 0 → span.until ≡ None → (kept : List Conflict) (fleet : Fleet) → HasEntriesIn span kept fleet → HasEntries kept fleet
-whole_after span from until kept fleet has entry = has entry (all_in span from until (time_of entry))
+pub whole_after : (span : Span) → span.from ≡ 0 → span.tracks ≡ None → (kept : List Conflict) (fleet : Fleet) → HasEntriesIn span kept fleet → HasEntries kept fleet
+whole_after span from none kept fleet has entry = has entry (all_in span from none (time_of entry))
 
 turned : (old new : Route) (t : ℕ) → AreSameAt old new t → AreSameAt new old t
 turned old new t at = record {

@@ -1,12 +1,13 @@
 -- What a search beside one agent's track gathers.
-use Rattle.std.proofs.Common.{◌≡◌, ◌⊎◌, inl, inr, ℕ, ◌≤◌, ◌<◌, List, [], Contains, Option, Some, None, refl, subst, arith}
+use Rattle.std.proofs.Common.{◌≡◌, ◌⊎◌, inl, inr, ℕ, ◌+◌, ◌≤◌, ◌<◌, List, [], Contains, Option, Some, None, refl, subst, arith}
 use Rattle.std.proofs.lemmas.Bool.{cases_lt}
 use Rattle.plan_table.proofs.Order.{Contains-nil}
-use Rattle.conflict_ledger.specs.Spans.{Fits}
+use Rattle.conflict_ledger.specs.Spans.{IsIn, Fits, AreApartAt}
+use Rattle.conflict_ledger.specs.declared.spans.Tracks.{Tracks}
 use Rattle.conflict_ledger.specs.declared.spans.Span.{Span}
 use Rattle.std.specs.Prelude.{IfSome}
 use Rattle.std.proofs.lemmas.Option.{MatchOption-at_some}
-use Rattle.plan_table.specs.Route.{Fleet, last_of}
+use Rattle.plan_table.specs.Route.{Fleet, last_of, position, route_of}
 use Rattle.mapf_rules.specs.ConflictList.{Stands}
 use Rattle.mapf_rules.specs.Naming.{IsOfPair, IsPair, Names, time_of}
 use Rattle.conflict_ledger.specs.Gathering.{Gathers, IsAgents, AreAgents, HasPlace, HasTime}
@@ -64,33 +65,35 @@ gathers_offer fleet agent time first second old new found who stands pair offers
   ];
 }
 
--- the entries gathered on the path, and after it where the span doesn't end there, are those of the span's times
+-- a span of two tracks has no time after their end
+before_end : (o : Option Tracks) (both : Tracks) (last t : ℕ) → o ≡ Some both → IfSome o (λ both. (time : ℕ) → last ≤ time → position (route_of both.old) time ≡ position (route_of both.new) time)
+    → IfSome o (λ both. AreApartAt (route_of both.old) (route_of both.new) t ⊎ AreApartAt (route_of both.old) (route_of both.new) (t + 1)) → t ≤ last
+before_end None both last t is same apart = absurd (cc)
+before_end (Some both) other last t is same apart = elim (cases_lt last t) [
+  | inl past ↦ elim apart [ inl now ↦ absurd (now (same t (omega arith))) | inr later ↦ absurd (later (same (t + 1) (omega arith))) ]
+  | inr up_to ↦ up_to
+]
+
+-- the entries gathered on the path, and after it where the span has no two tracks, are those of the span's times
 module _ (fleet : Fleet) (agent : ℕ) (span : Span) (last : ℕ) (is_last : last ≡ last_of fleet agent) (fits : Fits span (last_of fleet agent)) (none path : List Conflict) (empty : none ≡ [])
-    (gathers : Gathers fleet agent (λ t. (span.from ≤ t) × (t ≤ last)) none path) (has : (t : ℕ) → span.from ≤ t → t ≤ last → HasTime fleet agent t path) where
-  on_path : (entry : Conflict) → Contains path entry → IsAgents fleet agent entry × ((span.from ≤ time_of entry) × (time_of entry ≤ last))
-  on_path entry h = elim (gathers.only entry h) [ inl old ↦ absurd (Contains-nil entry (subst (λ (l : List Conflict). Contains l entry) empty old)) | inr is ↦ is ]
+    (gathers : Gathers fleet agent (λ t. IsIn span t × (t ≤ last)) none path) (has : (t : ℕ) → IsIn span t → t ≤ last → HasTime fleet agent t path) where
+  on_path : (entry : Conflict) → Contains path entry → IsAgents fleet agent entry × IsIn span (time_of entry)
+  on_path entry h = elim (gathers.only entry h) [ inl old ↦ absurd (Contains-nil entry (subst (λ (l : List Conflict). Contains l entry) empty old)) | inr is ↦ (is.0, is.1.0) ]
 
-  pub gathered_until : (until : ℕ) → span.until ≡ Some until → AreAgents fleet agent span path
-  gathered_until until ends =
-      let at_end : until ≡ last_of fleet agent = subst (λ (o : Option ℕ). IfSome o (λ u. u ≡ last_of fleet agent)) ends fits.ends in
-      record {
-        only = λ entry h.
-            let is = on_path entry h in
-            let low : time_of entry ≤ until = omega (arith, is.1.1) in
-            (is.0, record { not_before = is.1.0; not_after = rw ends low });
-        has = λ entry is inside.
-            let low : time_of entry ≤ until = subst (λ (o : Option ℕ). IfSome o (λ u. time_of entry ≤ u)) ends inside.not_after in
-            has (time_of entry) inside.not_before (omega arith) entry is refl;
-      }
+  pub gathered_apart : (both : Tracks) → span.tracks ≡ Some both → AreAgents fleet agent span path
+  gathered_apart both is_apart = record {
+    only = on_path;
+    has = λ entry is inside. has (time_of entry) inside (omega (arith, is_last, before_end span.tracks both (last_of fleet agent) (time_of entry) is_apart fits.ends inside.apart)) entry is refl;
+  }
 
-  pub gathered_all : span.until ≡ None → (all : List Conflict) → Gathers fleet agent (λ t. last ≤ t) path all → ((t : ℕ) → last < t → HasTime fleet agent t all) → AreAgents fleet agent span all
+  pub gathered_all : span.tracks ≡ None → (all : List Conflict) → Gathers fleet agent (λ t. last ≤ t) path all → ((t : ℕ) → last < t → HasTime fleet agent t all) → AreAgents fleet agent span all
   gathered_all endless all late has_late = record {
     only = λ entry h. elim (late.only entry h) [
-      | inl early ↦ let is = on_path entry early in (is.0, record { not_before = is.1.0; not_after = rw endless tt })
-      | inr is ↦ (is.0, record { not_before = omega (arith, is.1, fits.begins); not_after = rw endless tt })
+      | inl early ↦ on_path entry early
+      | inr is ↦ (is.0, record { not_before = omega (arith, is.1, fits.begins); apart = rw endless tt })
     ];
     has = λ entry is inside. elim (cases_lt last (time_of entry)) [
       | inl after ↦ has_late (time_of entry) after entry is refl
-      | inr before ↦ late.keeps entry (has (time_of entry) inside.not_before (omega arith) entry is refl)
+      | inr before ↦ late.keeps entry (has (time_of entry) inside (omega arith) entry is refl)
     ];
   }

@@ -1,5 +1,6 @@
 -- Whom an index shows in a cell, and in which place the agent meets them.
 use Rattle.std.proofs.Common.{◌≡◌, ◌≢◌, inl, inr, ℕ, ◌+◌, ◌<◌, ◌≤◌, ◌⊎◌, Bool, true, false, List, Contains, Some, Option, refl, subst, arith}
+use Rattle.std.specs.Prelude.{IsTrue}
 use Rattle.grid_cells.specs.Cell.{Point}
 use Rattle.plan_table.specs.Route.{Route, Fleet, position_of, last_of, Leaves}
 use Rattle.where_index.specs.Index.{Contents}
@@ -25,10 +26,10 @@ near_here Behind fleet lasting s time here next not tells = tells
 -- what the spot shows in each place is all that it shows
 module _ (fleet : Fleet) (agent : ℕ) (stop : Stop) (lasting : Bool) (s : Spot) (mid entries : List Conflict) where
   pub seen_all : (stop.before ≢ stop.here → IsShown lasting s stop.past → HasMet fleet agent stop.past Ahead s.step.agent mid) → KeepsAll mid entries
-      → (IsShown lasting s stop.time → HasMet fleet agent stop.time Beside s.step.agent entries) → (IsShown lasting s (stop.time + 1) → HasMet fleet agent stop.time Behind s.step.agent entries) → HasSeen fleet agent stop lasting entries s
-  seen_all ahead keeps beside behind Beside of is = beside is
+      → (IsTrue stop.goes → IsShown lasting s stop.time → HasMet fleet agent stop.time Beside s.step.agent entries) → (IsTrue stop.goes → IsShown lasting s (stop.time + 1) → HasMet fleet agent stop.time Behind s.step.agent entries) → HasSeen fleet agent stop lasting entries s
+  seen_all ahead keeps beside behind Beside of is = beside of is
   seen_all ahead keeps beside behind Ahead of is = λ entry own at two apart met. keeps entry (ahead of is entry own at two apart met)
-  seen_all ahead keeps beside behind Behind of is = behind is
+  seen_all ahead keeps beside behind Behind of is = behind of is
 
 shown_by : (lasting : Bool) (s : Spot) (time : ℕ) → IsShown lasting s time → s.time ≤ time
 shown_by true s time is = is

@@ -1,7 +1,7 @@
 -- The stops of one agent's route, and whom it meets there.
 use Rattle.std.proofs.Common.{◌≡◌, inl, inr, ℕ, ◌+◌, ◌≤◌, List, Some, None, Option, refl, sym, ap, subst, ◌∙◌, arith}
 use mathlib.Core.Bool.{false≢true}
-use Rattle.std.specs.Prelude.{IsSome}
+use Rattle.std.specs.Prelude.{IsSome, IsTrue}
 use Rattle.std.proofs.lemmas.Bool.{cases_lt}
 use Rattle.std.specs.Option.{unwrap_or}
 use Rattle.grid_cells.specs.Cell.{Point}
@@ -38,22 +38,26 @@ module _ (index : Contents) (agent : ℕ) (route : Option Route) (fleet : Fleet)
           absurd (false≢true (subst IsSome (own_there past ∙ e) sooner))
       by_place (Some cell) e = own_there past ∙ e ∙ ap Some (sym (is_before ∙ ap (λ (o : Option Point). unwrap_or o here) e))
 
+  -- where nothing is asked of the step before, the cell before is the stop's own
+  pub still_before : (stop : Stop) → stop.past ≡ stop.time → own_place route stop.time ≡ Some stop.here → stop.before ≡ unwrap_or (own_place route stop.past) stop.here → stop.before ≡ stop.here
+  still_before stop same at is_before = is_before ∙ ap (λ (o : Option Point). unwrap_or o stop.here) (subst (λ (t : ℕ). own_place route t ≡ Some stop.here) (sym same) at)
+
   -- so the cells of the route are a stop of the agent's
   pub stop_own : (stop : Stop) → stop.past ≤ stop.time → stop.time ≤ stop.past + 1 → own_place route stop.time ≡ Some stop.here → stop.before ≡ unwrap_or (own_place route stop.past) stop.here → stop.next ≡ unwrap_or (own_place route (stop.time + 1)) stop.here → IsStop fleet agent stop
   stop_own stop order near at is_before is_next = record {
     came = λ moves. elim (cases_lt stop.past stop.time) [
       | inl sooner ↦ came_own stop.past stop.time stop.before stop.here (omega arith) at is_before
-      | inr same ↦ absurd (moves (is_before ∙ ap (λ (o : Option Point). unwrap_or o stop.here) (subst (λ (t : ℕ). own_place route t ≡ Some stop.here) (omega arith) at)))
+      | inr same ↦ absurd (moves (still_before stop (omega arith) at is_before))
     ];
     goes = where_own stop.time stop.here stop.next at is_next;
   }
 
   -- who is there at a stop is met in its place
   module _ (stop : Stop) (entries : List Conflict) (has : HasStop fleet agent stop entries) where
-    pub stop_here : IsStop fleet agent stop → HasHere fleet agent stop.time entries
-    stop_here is Beside _ other cell apart own at = has Beside tt other apart (at ∙ ap Some (at_now fleet agent other stop.time stop.here stop.next is.goes cell own))
-    stop_here is Ahead not other cell apart own at = absurd (not refl)
-    stop_here is Behind _ other cell apart own at = has Behind tt other apart (at ∙ ap Some (at_now fleet agent other stop.time stop.here stop.next is.goes cell own))
+    pub stop_here : IsStop fleet agent stop → IsTrue stop.goes → HasHere fleet agent stop.time entries
+    stop_here is goes Beside _ other cell apart own at = has Beside goes other apart (at ∙ ap Some (at_now fleet agent other stop.time stop.here stop.next is.goes cell own))
+    stop_here is goes Ahead not other cell apart own at = absurd (not refl)
+    stop_here is goes Behind _ other cell apart own at = has Behind goes other apart (at ∙ ap Some (at_now fleet agent other stop.time stop.here stop.next is.goes cell own))
 
     pub stop_ahead : IsWhere fleet agent stop.past stop.before stop.here → HasPlace fleet agent stop.past Ahead entries
     stop_ahead came other cell apart own there entry is at two _ met =

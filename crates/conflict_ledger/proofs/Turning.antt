@@ -66,7 +66,7 @@ same_point a b = elim (same_or_not a.x b.x) [
   | inr not_x ↦ inr (λ e. not_x (ap (λ (p : Point). p.x) e))
 ]
 
-at_or_not : (o : Option Point) (cell : Point) → (o ≡ Some cell) ⊎ (o ≡ Some cell → ⊥)
+pub at_or_not : (o : Option Point) (cell : Point) → (o ≡ Some cell) ⊎ (o ≡ Some cell → ⊥)
 at_or_not None cell = inr (λ e. cc)
 at_or_not (Some here) cell = elim (same_point here cell) [ inl e ↦ inl (ap Some e) | inr apart ↦ inr (λ e. apart (same_Some here cell e)) ]
 

@@ -1,5 +1,5 @@
 -- What a search beside one agent's track has gathered: words for the ledger's own steps (this project's choice).
-use Rattle.std.specs.Prelude.{◌≡◌, ◌≢◌, ◌⊎◌, ℕ, ◌+◌, ◌<◌, ◌≤◌, Bool, true, false, Some, List, Contains}
+use Rattle.std.specs.Prelude.{◌≡◌, ◌≢◌, ◌⊎◌, ℕ, ◌+◌, ◌<◌, ◌≤◌, Bool, true, false, Some, List, Contains, IsTrue}
 use Rattle.std.specs.Option.{unwrap_or}
 use Rattle.grid_cells.specs.Cell.{Point}
 use Rattle.plan_table.specs.Route.{Fleet, position_of, last_of, Leaves}
@@ -68,9 +68,13 @@ pub record IsStop (fleet : Fleet) (agent : ℕ) (stop : Stop) : Type 0 where
   pub came : stop.before ≢ stop.here → IsWhere fleet agent stop.past stop.before stop.here
   pub goes : IsWhere fleet agent stop.time stop.here stop.next
 
--- the step that begins at the time leads to the stop, or on from it
+-- the step that begins at the time leads to the stop from elsewhere, or on from it, if that one is asked about
 abbrev pub IsAbout : Stop → ℕ → Type 0
-IsAbout stop time = (stop.past ≤ time) × (time ≤ stop.time)
+IsAbout stop time = ((time ≡ stop.past) × (stop.before ≢ stop.here)) ⊎ ((time ≡ stop.time) × IsTrue stop.goes)
+
+-- the step that begins at one time leads to where the agent is at another, if it came by it, or on from there, if it goes by it
+abbrev pub IsStepOf : ℕ → Bool → Bool → ℕ → Type 0
+IsStepOf time came goes past = ((past + 1 ≡ time) × IsTrue came) ⊎ ((past ≡ time) × IsTrue goes)
 
 -- when the step begins in which others are met at the stop in that place: ahead as one comes, else as one goes on
 abbrev pub step_of : Stop → Place → ℕ
@@ -87,10 +91,11 @@ abbrev pub own_at : Place → ℕ → ℕ
 own_at Ahead time = time + 1
 own_at place time = time
 
--- the stop has that place: nobody is ahead of an agent that did not come from elsewhere
+-- the stop has that place: nobody is ahead of an agent that did not come from elsewhere; those beside it and behind it are
+-- met as it goes on
 abbrev pub IsPlaceOf : Stop → Place → Type 0
 IsPlaceOf stop Ahead = stop.before ≢ stop.here
-IsPlaceOf stop place = Unit {0}
+IsPlaceOf stop place = IsTrue stop.goes
 
 -- the spot shows its agent at the time: one that lasts does so from its own time on
 abbrev pub IsShown : Bool → Spot → ℕ → Type 0

@@ -1,21 +1,25 @@
 -- The times at which a change of one route can change entries: words for the ledger's own steps (this project's choice).
-use Rattle.std.specs.Prelude.{◌≡◌, ◌⊎◌, ◌↔◌, ℕ, ◌+◌, ◌<◌, ◌≤◌, List, Contains, IfSome}
+use Rattle.std.specs.Prelude.{◌≡◌, ◌≢◌, ◌⊎◌, ◌↔◌, ℕ, ◌+◌, ◌<◌, ◌≤◌, List, Contains, IfSome}
 use Rattle.plan_table.specs.Path.{last_index}
-use Rattle.plan_table.specs.Route.{Route, Fleet, position}
+use Rattle.plan_table.specs.Route.{Route, Fleet, position, route_of}
 use Rattle.mapf_rules.specs.ConflictList.{Stands}
 use Rattle.mapf_rules.specs.Naming.{time_of}
 use Rattle.mapf_rules.specs.declared.entries.Conflict.{Conflict}
 use Rattle.conflict_ledger.specs.declared.spans.Span.{Span}
 
--- the time is one of the span's
+-- the two routes are at different places at the time
+abbrev pub AreApartAt : Route → Route → ℕ → Type 0
+AreApartAt old new time = position old time ≢ position new time
+
+-- the time is one of the span's: where two tracks end alike, one at which they are apart, or one step before such a one
 pub record IsIn (span : Span) (time : ℕ) : Type 0 where
   pub not_before : span.from ≤ time
-  pub not_after : IfSome span.until (λ until. time ≤ until)
+  pub apart : IfSome span.tracks (λ both. AreApartAt (route_of both.old) (route_of both.new) time ⊎ AreApartAt (route_of both.old) (route_of both.new) (time + 1))
 
--- the span begins by that last index, and ends at it, if anywhere
+-- the span begins by that last index, and its two tracks, if it has them, are never apart from it on
 pub record Fits (span : Span) (last : ℕ) : Type 0 where
   pub begins : span.from ≤ last
-  pub ends : IfSome span.until (λ until. until ≡ last)
+  pub ends : IfSome span.tracks (λ both. (time : ℕ) → last ≤ time → position (route_of both.old) time ≡ position (route_of both.new) time)
 
 -- the two routes are the same in the step that begins at the time: both go on after it, or both end alike
 pub record AreSameAt (old new : Route) (time : ℕ) : Type 0 where

@@ -22,11 +22,11 @@ impl KeptEntries {
         alloc: Global,
         agent: Agent,
         track: Track<'x>,
-        span: Span,
+        span: &Span<'x>,
         index: &'x WhereIndex,
     ) -> Result<(), OutOfMemory>
-        ensures mends { OnOk result ((before after : Fleet) → Shows index.now agent None before → Shows index.now agent (Some (route_of track.entry)) after → SameBut before after agent → Fits span (last_index track.entry.plan.now) → HasEntriesIn span self.old before → HasEntriesIn span self.new after) }
-        ensures beside { OnOk result ((after : Fleet) → Shows index.now agent (Some (route_of track.entry)) after → Fits span (last_index track.entry.plan.now) → SameBeside span self.old self.new) }
+        ensures mends { OnOk result ((before after : Fleet) → Shows index.now agent None before → Shows index.now agent (Some (route_of track.entry)) after → SameBut before after agent → Fits span.now (last_index track.entry.plan.now) → HasEntriesIn span.now self.old before → HasEntriesIn span.now self.new after) }
+        ensures beside { OnOk result ((after : Fleet) → Shows index.now agent (Some (route_of track.entry)) after → Fits span.now (last_index track.entry.plan.now) → SameBeside span.now self.old self.new) }
     {
         let without = Sight {
             index,
@@ -53,11 +53,11 @@ impl KeptEntries {
         alloc: Global,
         agent: Agent,
         track: Track<'x>,
-        span: Span,
+        span: &Span<'x>,
         index: &'x WhereIndex,
     ) -> Result<(), OutOfMemory>
-        ensures mends { OnOk result ((before after : Fleet) → Shows index.now agent (Some (route_of track.entry)) before → Shows index.now agent None after → SameBut after before agent → Fits span (last_index track.entry.plan.now) → HasEntriesIn span self.old before → HasEntriesIn span self.new after) }
-        ensures beside { OnOk result ((before : Fleet) → Shows index.now agent (Some (route_of track.entry)) before → Fits span (last_index track.entry.plan.now) → SameBeside span self.old self.new) }
+        ensures mends { OnOk result ((before after : Fleet) → Shows index.now agent (Some (route_of track.entry)) before → Shows index.now agent None after → SameBut after before agent → Fits span.now (last_index track.entry.plan.now) → HasEntriesIn span.now self.old before → HasEntriesIn span.now self.new after) }
+        ensures beside { OnOk result ((before : Fleet) → Shows index.now agent (Some (route_of track.entry)) before → Fits span.now (last_index track.entry.plan.now) → SameBeside span.now self.old self.new) }
     {
         let without = Sight {
             index,

@@ -1,11 +1,11 @@
-ghost use Rattle.std.specs.Prelude.{◌≡◌, ℕ, ◌+◌, ◌<◌, ◌≤◌, OnOk, IfOk};
+ghost use Rattle.std.specs.Prelude.{◌≡◌, ◌⊎◌, ℕ, ◌+◌, ◌<◌, ◌≤◌, false, OnOk, IfOk, IsTrue};
 ghost use Rattle.plan_table.specs.Route.{Fleet, last_of};
 ghost use Rattle.where_index.specs.Spots.{AreRising};
 ghost use Rattle.mapf_rules.specs.declared.entries.Conflict.{Conflict};
 ghost use Rattle.conflict_ledger.specs.declared.places.Place.{Place};
 ghost use Rattle.conflict_ledger.specs.Sight.{Sees};
-ghost use Rattle.conflict_ledger.specs.Gathering.{Gathers, AreAgents, IsStop, IsAbout, AreShowing, HasSpots, HasStop, HasPlace, HasHere, HasTime};
-ghost use Rattle.conflict_ledger.specs.Spans.{Fits};
+ghost use Rattle.conflict_ledger.specs.Gathering.{Gathers, AreAgents, IsStop, IsStepOf, IsAbout, AreShowing, HasSpots, HasStop, HasPlace, HasHere, HasTime};
+ghost use Rattle.conflict_ledger.specs.Spans.{IsIn, Fits};
 
 use crate::offers::{offer_ahead, offer_here};
 use crate::places::Stop;
@@ -58,22 +58,37 @@ fn gather_stop(
     Ok(())
 }
 
+// When the step before the time begins, if the agent came by it; else the time.
+fn past_of(came: bool, time: u32) -> u32
+    requires { IsTrue came → 0 < time }
+    ensures is { ((result + 1 ≡ time) × IsTrue came) ⊎ ((result ≡ time) × (came ≡ false)) }
+    ensures order { (result ≤ time) × (time ≤ result + 1) }
+{
+    if came { time - 1 } else { time }
+}
+
 // Adds the entries of the agent with those whom it meets where it is at the time: ahead of it in the
-// step before, if that begins at `past`, and beside it and behind it in the step that begins then.
+// step before, where it came by one of the span's, and beside it and behind it in the step that begins
+// then, where it goes by one of them.
 fn gather_at(
     sight: &Sight<'_>,
     entries: &mut Vec<Conflict>,
-    past: u32,
     time: u32,
+    came: bool,
+    goes: bool,
 ) -> Result<(), OutOfMemory>
-    requires { (past ≤ time) × (time < u32.MAX) }
-    ensures gathers { OnOk result ((fleet : Fleet) → Sees sight.now fleet → time ≤ past + 1 → Gathers fleet sight.now.agent (λ t. (past ≤ t) × (t ≤ time)) entries.old.items entries.new.items) }
-    ensures ahead { OnOk result ((fleet : Fleet) → Sees sight.now fleet → past + 1 ≡ time → HasPlace fleet sight.now.agent past Place.Ahead entries.new.items) }
-    ensures here { OnOk result ((fleet : Fleet) → Sees sight.now fleet → time ≤ past + 1 → HasHere fleet sight.now.agent time entries.new.items) }
+    requires { (IsTrue came → 0 < time) × (time < u32.MAX) }
+    ensures gathers { OnOk result ((fleet : Fleet) → Sees sight.now fleet → Gathers fleet sight.now.agent (IsStepOf time came goes) entries.old.items entries.new.items) }
+    ensures ahead { OnOk result ((fleet : Fleet) → Sees sight.now fleet → (past : ℕ) → past + 1 ≡ time → IsTrue came → HasPlace fleet sight.now.agent past Place.Ahead entries.new.items) }
+    ensures here { OnOk result ((fleet : Fleet) → Sees sight.now fleet → IsTrue goes → HasHere fleet sight.now.agent time entries.new.items) }
 {
+    if !came && !goes {
+        return Ok(());
+    }
     let Some(here) = sight.own(time) else {
         return Ok(());
     };
+    let past = past_of(came, time);
     let before = sight.own(past).unwrap_or(here);
     let next = sight.own(time + 1).unwrap_or(here);
     let stop = Stop {
@@ -82,24 +97,27 @@ fn gather_at(
         before,
         here,
         next,
+        goes,
     };
     gather_stop(sight, entries, &stop)
 }
 
-// Adds the entries of the agent from one time on, up to the last index of its path.
+// Adds the entries of the agent at the span's times, up to the last index of its path.
 fn gather_path(
     sight: &Sight<'_>,
     entries: &mut Vec<Conflict>,
-    from: u32,
+    span: &Span<'_>,
     last: u32,
 ) -> Result<(), OutOfMemory>
     requires { last < u32.MAX }
-    ensures gathers { OnOk result ((fleet : Fleet) → Sees sight.now fleet → from ≤ last → Gathers fleet sight.now.agent (λ t. (from ≤ t) × (t ≤ last)) entries.old.items entries.new.items) }
-    ensures has { OnOk result ((fleet : Fleet) → Sees sight.now fleet → last ≡ last_of fleet sight.now.agent → (time : ℕ) → from ≤ time → time ≤ last → HasTime fleet sight.now.agent time entries.new.items) }
+    ensures gathers { OnOk result ((fleet : Fleet) → Sees sight.now fleet → span.now.from ≤ last → Gathers fleet sight.now.agent (λ t. IsIn span.now t × (t ≤ last)) entries.old.items entries.new.items) }
+    ensures has { OnOk result ((fleet : Fleet) → Sees sight.now fleet → last ≡ last_of fleet sight.now.agent → (time : ℕ) → IsIn span.now time → time ≤ last → HasTime fleet sight.now.agent time entries.new.items) }
 {
-    for time in from..last + 1 {
-        let past = time.saturating_sub(1).max(from);
-        gather_at(sight, entries, past, time)?;
+    let mut came = false;
+    for time in span.from..last + 1 {
+        let goes = span.has(time);
+        gather_at(sight, entries, time, came, goes)?;
+        came = goes;
     }
     Ok(())
 }
@@ -109,14 +127,14 @@ fn gather_path(
 pub(crate) fn gather(
     alloc: Global,
     sight: &Sight<'_>,
-    span: Span,
+    span: &Span<'_>,
 ) -> Result<Vec<Conflict>, OutOfMemory>
-    ensures { IfOk result (λ entries. (fleet : Fleet) → Sees sight.now fleet → Fits span (last_of fleet sight.now.agent) → AreAgents fleet sight.now.agent span entries.items) }
+    ensures { IfOk result (λ entries. (fleet : Fleet) → Sees sight.now fleet → Fits span.now (last_of fleet sight.now.agent) → AreAgents fleet sight.now.agent span.now entries.items) }
 {
     let mut entries = Vec::new(alloc);
     let last = sight.own_last();
-    gather_path(sight, &mut entries, span.from, last)?;
-    if let Some(_until) = span.until {
+    gather_path(sight, &mut entries, span, last)?;
+    if let Some(_tracks) = span.tracks {
         return Ok(entries);
     }
     gather_late(sight, &mut entries, last)?;

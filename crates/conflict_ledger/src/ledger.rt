@@ -57,7 +57,7 @@ impl ConflictLedger {
         ensures { IfOk result (λ ledger. (fleet : Fleet) → StandsFor index.now fleet → fleet agent ≡ Some (route_of track.entry) → HasEntries self (with_route fleet agent None) → HasEntries ledger fleet) }
     {
         self.kept
-            .enter(self.alloc, agent, track, Span::whole(), index)?;
+            .enter(self.alloc, agent, track, &Span::whole(), index)?;
         Ok(self)
     }
 
@@ -76,7 +76,7 @@ impl ConflictLedger {
         ensures { IfOk result (λ ledger. (fleet : Fleet) → StandsFor index.now fleet → fleet agent ≡ None → HasEntries self (with_route fleet agent (Some (route_of track.entry))) → HasEntries ledger fleet) }
     {
         self.kept
-            .leave(self.alloc, agent, track, Span::whole(), index)?;
+            .leave(self.alloc, agent, track, &Span::whole(), index)?;
         Ok(self)
     }
 
@@ -100,8 +100,8 @@ impl ConflictLedger {
         ensures { IfOk result (λ ledger. (fleet : Fleet) → StandsFor index.now fleet → fleet agent ≡ Some (route_of new.entry) → HasEntries self (with_route fleet agent (Some (route_of old.entry))) → HasEntries ledger fleet) }
     {
         let span = Span::apart(old, new, since);
-        self.kept.leave(self.alloc, agent, old, span, index)?;
-        self.kept.enter(self.alloc, agent, new, span, index)?;
+        self.kept.leave(self.alloc, agent, old, &span, index)?;
+        self.kept.enter(self.alloc, agent, new, &span, index)?;
         Ok(self)
     }
 

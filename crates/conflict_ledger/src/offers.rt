@@ -1,4 +1,4 @@
-ghost use Rattle.std.specs.Prelude.{◌≡◌, ◌≢◌, ℕ, ◌+◌, ◌<◌, ◌≤◌, OnOk};
+ghost use Rattle.std.specs.Prelude.{◌≡◌, ◌≢◌, ℕ, ◌+◌, ◌<◌, ◌≤◌, OnOk, IsTrue};
 ghost use Rattle.plan_table.specs.Route.{Fleet};
 ghost use Rattle.conflict_ledger.specs.declared.places.Place.{Place};
 ghost use Rattle.conflict_ledger.specs.Sight.{Sees};
@@ -112,9 +112,12 @@ pub(crate) fn offer_here(
 ) -> Result<(), OutOfMemory>
     requires { (stop.now.past ≤ stop.now.time) × (stop.now.time < u32.MAX) }
     ensures gathers { OnOk result ((fleet : Fleet) → Sees sight.now fleet → IsStop fleet sight.now.agent stop.now → IsShowing fleet sight.now.agent stop.now.here lasting spot.now → Gathers fleet sight.now.agent (IsAbout stop.now) entries.old.items entries.new.items) }
-    ensures beside { OnOk result ((fleet : Fleet) → Sees sight.now fleet → IsStop fleet sight.now.agent stop.now → IsShowing fleet sight.now.agent stop.now.here lasting spot.now → IsShown lasting spot.now stop.now.time → HasMet fleet sight.now.agent stop.now.time Place.Beside spot.now.step.agent entries.new.items) }
-    ensures behind { OnOk result ((fleet : Fleet) → Sees sight.now fleet → IsStop fleet sight.now.agent stop.now → IsShowing fleet sight.now.agent stop.now.here lasting spot.now → IsShown lasting spot.now (stop.now.time + 1) → HasMet fleet sight.now.agent stop.now.time Place.Behind spot.now.step.agent entries.new.items) }
+    ensures beside { OnOk result ((fleet : Fleet) → Sees sight.now fleet → IsStop fleet sight.now.agent stop.now → IsShowing fleet sight.now.agent stop.now.here lasting spot.now → IsTrue stop.now.goes → IsShown lasting spot.now stop.now.time → HasMet fleet sight.now.agent stop.now.time Place.Beside spot.now.step.agent entries.new.items) }
+    ensures behind { OnOk result ((fleet : Fleet) → Sees sight.now fleet → IsStop fleet sight.now.agent stop.now → IsShowing fleet sight.now.agent stop.now.here lasting spot.now → IsTrue stop.now.goes → IsShown lasting spot.now (stop.now.time + 1) → HasMet fleet sight.now.agent stop.now.time Place.Behind spot.now.step.agent entries.new.items) }
 {
+    if !stop.goes {
+        return Ok(());
+    }
     let Some(place) = place_of(lasting, spot, stop.time) else {
         return Ok(());
     };

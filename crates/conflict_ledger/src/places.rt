@@ -22,7 +22,7 @@ pub enum Place {
 
 // A position of the agent's path: it is here at the time, comes from the cell before in the step that
 // begins at `past`, and goes on to the next one. Where the step that leads here is not asked about,
-// `past` is the time, and `before` is here.
+// `past` is the time, and `before` is here; `goes` tells whether the step on from here is.
 #[derive(Clone, Copy)]
 pub struct Stop {
     pub past: u32,
@@ -30,6 +30,7 @@ pub struct Stop {
     pub before: Cell,
     pub here: Cell,
     pub next: Cell,
+    pub goes: bool,
 }
 
 // The lesser and the greater of two agents.

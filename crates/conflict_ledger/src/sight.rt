@@ -18,7 +18,7 @@ pub(crate) struct Sight<'a> {
 }
 
 // The position on the track at the time, if there is one.
-fn position_on(track: &Track<'_>, time: u32) -> Option<Cell>
+pub(crate) fn position_on(track: &Track<'_>, time: u32) -> Option<Cell>
     ensures { result ≡ position (route_of track.now) time }
 {
     if track.leaves && time > track.plan.last() {

@@ -1,33 +1,51 @@
-ghost use Rattle.std.specs.Prelude.{◌≡◌, ℕ, ◌<◌, None};
+ghost use Rattle.std.specs.Prelude.{◌≡◌, ◌≢◌, ◌↔◌, ℕ, ◌+◌, ◌<◌, None, IsTrue};
 ghost use Rattle.plan_table.specs.Path.{last_index};
 ghost use Rattle.plan_table.specs.Route.{position, route_of};
-ghost use Rattle.conflict_ledger.specs.Spans.{IsIn, Fits, AreSameAt};
+ghost use Rattle.conflict_ledger.specs.Spans.{IsIn, Fits, AreApartAt, AreSameAt};
 
+use crate::sight::position_on;
 use grid_cells::Step;
 use plan_table::Track;
 
-// The times at which a change of one track can change entries: from one on, up to another if any.
+// Two tracks of an agent that end alike.
 #[derive(Clone, Copy)]
-pub(crate) struct Span {
-    pub from: u32,
-    pub until: Option<u32>,
+pub(crate) struct Tracks<'a> {
+    pub old: Track<'a>,
+    pub new: Track<'a>,
 }
 
-impl Span {
+// The times at which a change of one track can change entries: from one on; where the two tracks end
+// alike, only those at which they are apart, or one step later.
+#[derive(Clone, Copy)]
+pub(crate) struct Span<'a> {
+    pub from: u32,
+    pub tracks: Option<Tracks<'a>>,
+}
+
+impl Tracks<'_> {
+    // Whether the two tracks are in different places at the time.
+    fn are_apart(&self, time: u32) -> bool
+        ensures { IsTrue result ↔ AreApartAt (route_of self.now.old) (route_of self.now.new) time }
+    {
+        position_on(&self.old, time) != position_on(&self.new, time)
+    }
+}
+
+impl<'a> Span<'a> {
     // All times.
-    pub fn whole() -> Span
+    pub fn whole() -> Span<'a>
         ensures from { result.from ≡ 0 }
-        ensures until { result.until ≡ None }
+        ensures tracks { result.tracks ≡ None }
     {
         Span {
             from: 0,
-            until: None,
+            tracks: None,
         }
     }
 
     // The times that tell the two tracks apart, which are equal below `since`: from one step before
-    // that, or before the earlier end, on, and not after the end where both end alike.
-    pub fn apart(old: Track<'_>, new: Track<'_>, since: u32) -> Span
+    // that, or before the earlier end, on, and only those at which they differ where both end alike.
+    pub fn apart(old: Track<'a>, new: Track<'a>, since: u32) -> Span<'a>
         requires { (t : ℕ) → t < since → position (route_of old) t ≡ position (route_of new) t }
         ensures old { Fits result (last_index old.entry.plan.now) }
         ensures new { Fits result (last_index new.entry.plan.now) }
@@ -37,7 +55,23 @@ impl Span {
         let from = since.min(last).min(end).saturating_sub(1);
         let cells = (old.plan.at(Step::new(last)), new.plan.at(Step::new(end)));
         let alike = last == end && cells.0 == cells.1 && old.leaves == new.leaves;
-        let until = if alike { Some(end) } else { None };
-        Span { from, until }
+        let tracks = if alike {
+            Some(Tracks { old, new })
+        } else {
+            None
+        };
+        Span { from, tracks }
+    }
+
+    // Whether the time is one of the span's.
+    pub fn has(&self, time: u32) -> bool
+        requires { time < u32.MAX }
+        ensures { IsTrue result ↔ IsIn self.now time }
+    {
+        let apart = match &self.tracks {
+            Some(tracks) => tracks.are_apart(time) || tracks.are_apart(time + 1),
+            None => true,
+        };
+        self.from <= time && apart
     }
 }

@@ -1,39 +1,51 @@
-use Rattle.std.proofs.Common.{◌≡◌, ◌+◌, ◌≤◌, Option, ap, sym, ◌∙◌, arith}
+use Rattle.std.proofs.Common.{◌≡◌, ◌+◌, ℕ, Option, inl, inr, ap, sym, subst, ◌∙◌, arith}
+use mathlib.Core.Bool.{false≢true}
 use Rattle.std.specs.Option.{unwrap_or}
 use Rattle.grid_cells.specs.Cell.{Point}
 use Rattle.std.proofs.lemmas.Result.{on_ok_weaker}
 use Rattle.plan_table.specs.Route.{Fleet}
 use Rattle.conflict_ledger.specs.Sight.{Sees}
-use Rattle.conflict_ledger.specs.Gathering.{IsWhere, IsStop}
+use Rattle.conflict_ledger.specs.Gathering.{IsWhere, IsStop, IsAbout, IsStepOf, HasPlace}
 use Rattle.conflict_ledger.specs.declared.places.Stop.{Stop}
 use Rattle.conflict_ledger.specs.declared.places.Place.TheVariants.{Ahead}
-use Rattle.conflict_ledger.proofs.Stops.{came_own, nowhere_place, nowhere_here, stop_own, stop_ahead, stop_here}
+use Rattle.conflict_ledger.proofs.Gathers.{gathers_at}
+use Rattle.conflict_ledger.proofs.Stops.{came_own, nowhere_place, nowhere_here, still_before, stop_own, stop_ahead, stop_here}
 use Rattle.conflict_ledger.proofs.gather.gather_at.Goals as goal
 
 pub returns-in_default-clause-ahead : goal.returns-in_default-clause-ahead
-returns-in_default-clause-ahead c fleet shows next = nowhere_place _ _ _ fleet shows Ahead c.args.past _ (rw next (sym c.own.ensures ∙ c.in_default.is))
+returns-in_default-clause-ahead c fleet shows past next came = nowhere_place _ _ _ fleet shows Ahead past _ (rw next (sym c.own.ensures ∙ c.in_default.is))
 
 pub returns-in_default-clause-here : goal.returns-in_default-clause-here
-returns-in_default-clause-here c fleet shows near = nowhere_here _ _ _ fleet shows c.args.time _ (sym c.own.ensures ∙ c.in_default.is)
+returns-in_default-clause-here c fleet shows goes = nowhere_here _ _ _ fleet shows c.args.time _ (sym c.own.ensures ∙ c.in_default.is)
 
 module _ (c : goal.After-gather_stop) (fleet : Fleet) (shows : Sees c.args.sight.now fleet) where
   abbrev stop : Stop
-  stop = record { past = c.args.past; time = c.args.time; before = c.unwrap_or-before.result; here = c.in-Some.here; next = c.unwrap_or-next.result }
+  stop = record { past = c.past_of-past.result; time = c.args.time; before = c.unwrap_or-before.result; here = c.in-Some.here; next = c.unwrap_or-next.result; goes = c.args.goes }
 
   from_here : (o own : Option Point) → o ≡ own → unwrap_or o c.in-Some.here ≡ unwrap_or own c.in-Some.here
   from_here o own e = ap (λ (o : Option Point). unwrap_or o c.in-Some.here) e
 
-  came : c.args.past + 1 ≡ c.args.time → IsWhere fleet c.args.sight.now.agent c.args.past c.unwrap_or-before.result c.in-Some.here
-  came next = came_own _ _ _ fleet shows c.args.past c.args.time _ _ next (sym c.own.ensures ∙ c.in-Some.is) (c.unwrap_or-before.ensures ∙ from_here _ _ c.own-2.ensures)
+  came : c.past_of-past.result + 1 ≡ c.args.time → IsWhere fleet c.args.sight.now.agent c.past_of-past.result c.unwrap_or-before.result c.in-Some.here
+  came next = came_own _ _ _ fleet shows c.past_of-past.result c.args.time _ _ next (sym c.own.ensures ∙ c.in-Some.is) (c.unwrap_or-before.ensures ∙ from_here _ _ c.own-2.ensures)
 
-  is_stop : c.args.time ≤ c.args.past + 1 → IsStop fleet c.args.sight.now.agent stop
-  is_stop near = stop_own _ _ _ fleet shows stop c.requires.0 near (sym c.own.ensures ∙ c.in-Some.is) (c.unwrap_or-before.ensures ∙ from_here _ _ c.own-2.ensures) (c.unwrap_or-next.ensures ∙ from_here _ _ c.own-3.ensures)
+  is_stop : IsStop fleet c.args.sight.now.agent stop
+  is_stop = stop_own _ _ _ fleet shows stop c.past_of-past.ensures.order.0 c.past_of-past.ensures.order.1 (sym c.own.ensures ∙ c.in-Some.is) (c.unwrap_or-before.ensures ∙ from_here _ _ c.own-2.ensures) (c.unwrap_or-next.ensures ∙ from_here _ _ c.own-3.ensures)
+
+  is_step : (t : ℕ) → IsAbout stop t → IsStepOf c.args.time c.args.came c.args.goes t
+  is_step t (inr on) = inr on
+  is_step t (inl before) = elim c.past_of-past.ensures.is [
+    | inl past ↦ inl (omega (arith, before.0, past.0), past.1)
+    | inr still ↦ absurd (before.1 (still_before _ _ _ fleet shows stop still.0 (sym c.own.ensures ∙ c.in-Some.is) (c.unwrap_or-before.ensures ∙ from_here _ _ c.own-2.ensures)))
+  ]
 
 pub returns-clause-gathers : goal.returns-clause-gathers
-returns-clause-gathers c = on_ok_weaker c.gather_stop.result (λ gives fleet shows near. gives fleet shows (is_stop c fleet shows near)) c.gather_stop.ensures.gathers
+returns-clause-gathers c = on_ok_weaker c.gather_stop.result (λ gives fleet shows. gathers_at fleet _ _ _ _ _ (is_step c fleet shows) (gives fleet shows (is_stop c fleet shows))) c.gather_stop.ensures.gathers
 
 pub returns-clause-ahead : goal.returns-clause-ahead
-returns-clause-ahead c = on_ok_weaker c.gather_stop.result (λ gives fleet shows next. stop_ahead _ _ _ fleet shows (stop c fleet shows) _ (gives fleet shows (is_stop c fleet shows (omega arith))) (came c fleet shows next)) c.gather_stop.ensures.has
+returns-clause-ahead c = on_ok_weaker c.gather_stop.result (λ gives fleet shows past next is_came. elim c.past_of-past.ensures.is [
+  | inr still ↦ absurd (false≢true (sym still.1 ∙ is_came))
+  | inl before ↦ subst (λ (t : ℕ). HasPlace fleet c.args.sight.now.agent t Ahead c.gather_stop.new.entries.items) (omega (arith, before.0, next)) (stop_ahead _ _ _ fleet shows (stop c fleet shows) _ (gives fleet shows (is_stop c fleet shows)) (came c fleet shows before.0))
+]) c.gather_stop.ensures.has
 
 pub returns-clause-here : goal.returns-clause-here
-returns-clause-here c = on_ok_weaker c.gather_stop.result (λ gives fleet shows near. stop_here _ _ _ fleet shows (stop c fleet shows) _ (gives fleet shows (is_stop c fleet shows near)) (is_stop c fleet shows near)) c.gather_stop.ensures.has
+returns-clause-here c = on_ok_weaker c.gather_stop.result (λ gives fleet shows goes. stop_here _ _ _ fleet shows (stop c fleet shows) _ (gives fleet shows (is_stop c fleet shows)) (is_stop c fleet shows) goes) c.gather_stop.ensures.has

@@ -1,4 +1,4 @@
-use Rattle.std.proofs.Common.{◌≢◌, sym, subst, ◌∙◌, inl, inr, arith}
+use Rattle.std.proofs.Common.{◌≢◌, sym, subst, ◌∙◌, inl, inr, rules}
 use Rattle.std.proofs.lemmas.Option.{same_Some}
 use Rattle.std.proofs.lemmas.Result.{on_ok_weaker}
 use Rattle.plan_table.specs.Route.{Fleet}
@@ -18,15 +18,15 @@ HasIn c fleet place = HasMet fleet c.args.sight.now.agent c.args.stop.now.time p
 
 pub returns-clause-gathers : goal.returns-clause-gathers
 returns-clause-gathers c =
-    on_ok_weaker c.offer_met.result (λ gives fleet shows is showing. gathers_at fleet _ _ _ _ _ (λ t at. (omega (arith, at, c.requires.0), omega (arith, at))) (gives fleet shows is.goes (near c fleet showing))) c.offer_met.ensures.gathers
+    on_ok_weaker c.offer_met.result (λ gives fleet shows is showing. gathers_at fleet _ _ _ _ _ (λ t at. inr (at, search rules)) (gives fleet shows is.goes (near c fleet showing))) c.offer_met.ensures.gathers
 
 pub returns-clause-beside : goal.returns-clause-beside
 returns-clause-beside c =
-    on_ok_weaker c.offer_met.result (λ gives fleet shows is showing now. subst (HasIn c fleet) (same_Some _ _ (sym c.in-Some.is ∙ c.place_of.ensures.beside now)) (gives fleet shows is.goes (near c fleet showing))) c.offer_met.ensures.has
+    on_ok_weaker c.offer_met.result (λ gives fleet shows is showing _ now. subst (HasIn c fleet) (same_Some _ _ (sym c.in-Some.is ∙ c.place_of.ensures.beside now)) (gives fleet shows is.goes (near c fleet showing))) c.offer_met.ensures.has
 
 pub returns-clause-behind : goal.returns-clause-behind
 returns-clause-behind c =
-    on_ok_weaker c.offer_met.result (λ gives fleet shows is showing later. elim (c.place_of.ensures.behind later) [
+    on_ok_weaker c.offer_met.result (λ gives fleet shows is showing _ later. elim (c.place_of.ensures.behind later) [
       | inl behind ↦ subst (HasIn c fleet) (same_Some _ _ (sym c.in-Some.is ∙ behind)) (gives fleet shows is.goes (near c fleet showing))
       | inr now ↦ λ entry own at two apart met. absurd (behind_moves fleet _ _ _ _ _ is.goes entry own at two apart met (showing apart _ now).there)
     ]) c.offer_met.ensures.has

@@ -7,8 +7,8 @@ use Rattle.conflict_ledger.proofs.kept.KeptEntries.leave.Goals as goal
 
 pub returns-clause-mends : goal.returns-clause-mends
 returns-clause-mends c before after shows hides same fits has =
-    leave_law _ _ _ after before hides shows same c.in_ok-broken.broken.items c.in_ok-joined.joined.items c.in_ok-entries.entries.items c.args.span
-    (c.in_ok-entries.ensures before shows (subst (Fits c.args.span) (last_shown _ _ (route_of c.args.track) before shows) fits))
+    leave_law _ _ _ after before hides shows same c.in_ok-broken.broken.items c.in_ok-joined.joined.items c.in_ok-entries.entries.items c.args.span.now
+    (c.in_ok-entries.ensures before shows (subst (Fits c.args.span.now) (last_shown _ _ (route_of c.args.track) before shows) fits))
     (rw c.deref.ensures.value at (c.in_ok-broken.ensures.only after hides)) (rw c.deref.ensures.value at (c.in_ok-broken.ensures.has after before hides shows))
     (rw c.deref-2.ensures.value at (c.in_ok-joined.ensures.only before shows)) (rw c.deref-2.ensures.value at (c.in_ok-joined.ensures.has before before shows shows))
     c.args.self.now c.lose_all.new.self c.lose_all-2.new.self c.put_all.new.self
@@ -19,8 +19,8 @@ pub returns-clause-beside : goal.returns-clause-beside
 returns-clause-beside c before shows fits =
     let after = with_route before c.args.agent None in
     let hides = hidden _ _ _ before shows in
-    leave_beside _ _ _ after before hides shows (but_hidden before c.args.agent) c.in_ok-broken.broken.items c.in_ok-joined.joined.items c.in_ok-entries.entries.items c.args.span
-    (c.in_ok-entries.ensures before shows (subst (Fits c.args.span) (last_shown _ _ (route_of c.args.track) before shows) fits))
+    leave_beside _ _ _ after before hides shows (but_hidden before c.args.agent) c.in_ok-broken.broken.items c.in_ok-joined.joined.items c.in_ok-entries.entries.items c.args.span.now
+    (c.in_ok-entries.ensures before shows (subst (Fits c.args.span.now) (last_shown _ _ (route_of c.args.track) before shows) fits))
     (rw c.deref.ensures.value at (c.in_ok-broken.ensures.only after hides)) (rw c.deref.ensures.value at (c.in_ok-broken.ensures.has after before hides shows))
     (rw c.deref-2.ensures.value at (c.in_ok-joined.ensures.only before shows)) (rw c.deref-2.ensures.value at (c.in_ok-joined.ensures.has before before shows shows))
     c.args.self.now c.lose_all.new.self c.lose_all-2.new.self c.put_all.new.self
