@@ -1,4 +1,4 @@
-//! Fleets of four kinds, each with one agent that is given another path and its own again. All agents
+//! Fleets of five kinds, each with one agent that is given another path and its own again. All agents
 //! rest at the ends of their paths. How many entries each fleet has, and then with the other path:
 //!
 //! - Convoy: in each of 64 steps each agent but the first of the lane steps into the cell that the next
@@ -6,12 +6,14 @@
 //!   follows it only in that step, is with it at the 64 times after it (Vertex) and goes with it in 63
 //!   steps (Edge), the one behind these two follows it in 63 steps, and it follows nobody: it had 64
 //!   and 64 entries with its neighbours and now has 1 + 64 + 63 + 63, which is 64 (n - 1) + 63 in all.
+//! - Rows: convoys of the same kind, each in a row of its own and as many as there are rows: so
+//!   64 (n - 1) Following in each, and 63 entries more with the other path.
 //! - Crowd: found by a program that goes over all pairs at all times, written apart from this one:
 //!   60 agents on 16 x 16 have 319 and 317, 800 on 64 x 64 have 17,137 and 17,187.
 //! - Long: the cells 0,0 and 1,0 are nobody else's: none. With the end in 2,0, where another rests,
 //!   there are two: the agent follows that one in the last step, and they are parked in one cell.
 //! - Apart: each agent has two cells to itself, so none, also where it waits first.
-use crate::lanes::{STEPS, after_wait, along_lane, shortest, to_and_fro, with_end};
+use crate::lanes::{STEPS, after_wait, along_lane, along_row, shortest, to_and_fro, with_end};
 use plan_table::Plan;
 use std::alloc::Global;
 use test_support::Chain;
@@ -21,6 +23,8 @@ use test_support::Chain;
 pub enum Shape {
     /// So many agents head to tail along a lane, who all step on 64 times.
     Convoy { agents: u32 },
+    /// So many agents head to tail along each of so many rows, who all step on 64 times.
+    Rows { rows: u32, agents: u32 },
     /// So many agents on shortest paths between cells by chance of a square map of that side.
     Crowd { agents: u32, side: u32 },
     /// One agent whose path has so many cells, among 100 that rest elsewhere.
@@ -34,6 +38,7 @@ impl Shape {
     pub fn name(self) -> &'static str {
         match self {
             Shape::Convoy { .. } => "convoy",
+            Shape::Rows { .. } => "rows",
             Shape::Crowd { .. } => "crowd",
             Shape::Long { .. } => "long",
             Shape::Apart { .. } => "apart",
@@ -56,6 +61,7 @@ const RESTING: u32 = 100;
 pub fn fleet_of(alloc: Global, shape: Shape) -> anyhow::Result<Fleet> {
     match shape {
         Shape::Convoy { agents } => convoy(alloc, agents),
+        Shape::Rows { rows, agents } => convoys(alloc, rows, agents),
         Shape::Crowd { agents, side } => crowd(alloc, agents, side),
         Shape::Long { cells } => long(alloc, cells),
         Shape::Apart { agents } => apart(alloc, agents),
@@ -69,6 +75,23 @@ fn convoy(alloc: Global, agents: u32) -> anyhow::Result<Fleet> {
     }
     let edited = agents / 2;
     let other = after_wait(alloc, &along_lane(alloc, edited)?)?;
+    Ok(Fleet {
+        plans,
+        edited,
+        other,
+    })
+}
+
+// The edited agent is in the middle of the upper row.
+fn convoys(alloc: Global, rows: u32, agents: u32) -> anyhow::Result<Fleet> {
+    let mut plans = Vec::new(alloc);
+    for row in 0..rows {
+        for column in 0..agents {
+            plans.push(along_row(alloc, (column, row))?)?;
+        }
+    }
+    let edited = agents / 2;
+    let other = after_wait(alloc, &along_row(alloc, (edited, 0))?)?;
     Ok(Fleet {
         plans,
         edited,

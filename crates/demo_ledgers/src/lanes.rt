@@ -46,6 +46,15 @@ pub fn along_lane(alloc: Global, place: u32) -> anyhow::Result<Plan> {
     plan_of(cells)
 }
 
+/// A plan that goes on along the row from that cell, to the right.
+pub fn along_row(alloc: Global, (x, y): (u32, u32)) -> anyhow::Result<Plan> {
+    let mut cells = Vec::new(alloc);
+    for step in 0..=STEPS {
+        cells.push(cell(x.wrapping_add(step), y)?)?;
+    }
+    plan_of(cells)
+}
+
 /// A plan of so many cells, to and fro between that cell and the one at its right.
 pub fn to_and_fro(alloc: Global, (x, y): (u32, u32), many: u32) -> anyhow::Result<Plan> {
     let mut cells = Vec::new(alloc);

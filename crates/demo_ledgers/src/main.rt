@@ -1,4 +1,4 @@
-//! Times the index and the ledger of conflicts alone, no desk round them, on four kinds of fleets. The
+//! Times the index and the ledger of conflicts alone, no desk round them, on five kinds of fleets. The
 //! word `full` asks for the sizes that docs/SPEED.md tells, any other for small ones; a kind's name,
 //! as `convoy`, for that kind alone.
 //!
@@ -20,9 +20,17 @@ use std::rt::{Clock, Files};
 use std::{env, io};
 
 // The fleets of the small runs.
-const SMALL: [Shape; 5] = [
+const SMALL: [Shape; 7] = [
     Shape::Convoy { agents: 64 },
     Shape::Convoy { agents: 256 },
+    Shape::Rows {
+        rows: 1,
+        agents: 64,
+    },
+    Shape::Rows {
+        rows: 4,
+        agents: 64,
+    },
     Shape::Crowd {
         agents: 60,
         side: 16,
@@ -32,9 +40,17 @@ const SMALL: [Shape; 5] = [
 ];
 
 // The fleets of the full runs.
-const FULL: [Shape; 5] = [
+const FULL: [Shape; 7] = [
     Shape::Convoy { agents: 1_024 },
     Shape::Convoy { agents: 4_096 },
+    Shape::Rows {
+        rows: 1,
+        agents: 1_024,
+    },
+    Shape::Rows {
+        rows: 4,
+        agents: 1_024,
+    },
     Shape::Crowd {
         agents: 800,
         side: 64,
