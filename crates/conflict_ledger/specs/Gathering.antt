@@ -3,16 +3,17 @@ use Rattle.std.specs.Prelude.{◌≡◌, ◌≢◌, ◌⊎◌, ℕ, ◌+◌, ◌
 use Rattle.std.specs.Option.{unwrap_or}
 use Rattle.grid_cells.specs.Cell.{Point}
 use Rattle.plan_table.specs.Route.{Fleet, position_of, last_of, Leaves}
-use Rattle.mapf_rules.specs.Entries.{both_end_by}
+use Rattle.mapf_rules.specs.Entries.{both_end_by, IsFollowing}
 use Rattle.mapf_rules.specs.ConflictList.{Stands}
 use Rattle.mapf_rules.specs.Naming.{IsPair, Names, time_of}
 use Rattle.mapf_rules.specs.Finding.{KeepsAll}
 use Rattle.conflict_ledger.specs.Sight.{Sees}
 use Rattle.conflict_ledger.specs.declared.sight.Sight.{Sight}
-use Rattle.conflict_ledger.specs.Spans.{IsIn}
+use Rattle.conflict_ledger.specs.Spans.{IsIn, Fits}
 use Rattle.conflict_ledger.specs.declared.spans.Span.{Span}
 use Rattle.mapf_rules.specs.declared.entries.Conflict.{Conflict}
 use Rattle.mapf_rules.specs.declared.entries.Conflict.TheVariants.{Vertex, Parked, Edge, Following, Swapping, Cycle}
+use Rattle.where_index.specs.Spots.{AreRising}
 use Rattle.where_index.specs.declared.spot_sets.Spot.{Spot}
 use Rattle.conflict_ledger.specs.declared.places.Place.{Place}
 use Rattle.conflict_ledger.specs.declared.places.Stop.{Stop}
@@ -24,6 +25,10 @@ pub record IsAgents (fleet : Fleet) (agent : ℕ) (entry : Conflict) : Type 0 wh
   pub pair : IsPair entry
   pub names : Names entry agent
 
+-- the agent comes to the next cell in the step, which isn't the one where it was
+abbrev pub Arrives : Fleet → ℕ → ℕ → Point → Point → Type 0
+Arrives fleet agent time here next = (here ≢ next) × (position_of fleet agent (time + 1) ≡ Some next)
+
 -- new has the entries of old, and others of the agent at times of which that is so
 pub record Gathers (fleet : Fleet) (agent : ℕ) (at : ℕ → Type 0) (old new : List Conflict) : Type 0 where
   pub keeps : KeepsAll old new
@@ -33,6 +38,10 @@ pub record Gathers (fleet : Fleet) (agent : ℕ) (at : ℕ → Type 0) (old new 
 pub record AreAgents (fleet : Fleet) (agent : ℕ) (span : Span) (entries : List Conflict) : Type 0 where
   pub only : (entry : Conflict) → Contains entries entry → IsAgents fleet agent entry × IsIn span (time_of entry)
   pub has : (entry : Conflict) → IsAgents fleet agent entry → IsIn span (time_of entry) → Contains entries entry
+
+-- the entries are those of the sight's agent at the span's times, where the span fits its path
+abbrev pub AreOwn : Sight → Span → List Conflict → Fleet → Type 0
+AreOwn sight span entries fleet = Fits span (last_of fleet sight.agent) → AreAgents fleet sight.agent span entries
 
 -- the agent is in the cell at the time, and one step later in the next one, or nowhere
 pub record IsWhere (fleet : Fleet) (agent time : ℕ) (here next : Point) : Type 0 where
@@ -48,6 +57,15 @@ pub record AreTogether (fleet : Fleet) (time first second : ℕ) (cell : Point) 
 -- one of the two agents still moves at the time, or is to leave
 abbrev pub OnePasses : Fleet → ℕ → ℕ → ℕ → Type 0
 OnePasses fleet time first second = (time < both_end_by fleet first second) ⊎ (Leaves fleet first ⊎ Leaves fleet second)
+
+-- so it is in each fleet that the sight shows in which that holds, if it is said
+abbrev pub IfPasses : Sight → Bool → ℕ → ℕ → ℕ → (Fleet → Type 0) → Type 0
+IfPasses sight said time first second holds = (fleet : Fleet) → Sees sight fleet → (IsTrue said → OnePasses fleet time first second) → holds fleet
+
+-- so it is where one comes into the cell in which the other is as the step begins, and follows it, if that is said
+abbrev pub WhereClose : Bool → Fleet → ℕ → ℕ → ℕ → Point → Type 0 → Type 0
+WhereClose said fleet time follower leader cell holds =
+    (IsTrue said → IsFollowing fleet time follower leader cell) → follower ≢ leader → position_of fleet leader time ≡ Some cell → position_of fleet follower (time + 1) ≡ Some cell → holds
 
 -- what a spot tells of its agent, which it shows in the cell at the time: one that lasts, that the agent stays; another one,
 -- that the agent still moves or is to leave, and where it goes, if that is another cell
@@ -139,14 +157,38 @@ GathersMet sight place lasting s time here next old new = WhereMet sight place l
 abbrev pub HasAllMet : Sight → Place → Bool → Spot → ℕ → Point → Point → List Conflict → Type 0
 HasAllMet sight place lasting s time here next entries = WhereMet sight place lasting s time here next (λ fleet. HasMet fleet sight.agent time place s.step.agent entries)
 
--- each entry of the agent at the stop with the one whom the spot shows is there
+-- so it is in each fleet that the sight shows in which the stop is one of its agent's
+abbrev pub WhereStops : Sight → Stop → (Fleet → Type 0) → Type 0
+WhereStops sight stop holds = (fleet : Fleet) → Sees sight fleet → IsStop fleet sight.agent stop → holds fleet
+
+-- and in which the spot shows its agent there
+abbrev pub WhereShown : Sight → Stop → Bool → Spot → (Fleet → Type 0) → Type 0
+WhereShown sight stop lasting s holds = WhereStops sight stop (λ fleet. IsShowing fleet sight.agent stop.here lasting s → holds fleet)
+
+-- and in which each of the spots shows its agent there
+abbrev pub WhereAllShown : Sight → Stop → Bool → List Spot → (Fleet → Type 0) → Type 0
+WhereAllShown sight stop lasting spots holds = WhereStops sight stop (λ fleet. AreShowing fleet sight.agent stop.here lasting spots → holds fleet)
+
+-- what is new are entries of the sight's agent in the steps about the stop
+abbrev pub GathersAbout : Sight → Stop → List Conflict → List Conflict → Fleet → Type 0
+GathersAbout sight stop old new fleet = Gathers fleet sight.agent (IsAbout stop) old new
+
+-- each entry of the agent at the stop with the one whom the spot shows in that place is there
+abbrev pub HasSeenIn : ℕ → Stop → Bool → Spot → Place → List Conflict → Fleet → Type 0
+HasSeenIn agent stop lasting s place entries fleet =
+    IsPlaceOf stop place → IsShown lasting s (seen_at place (step_of stop place)) → HasMet fleet agent (step_of stop place) place s.step.agent entries
+
+-- and in whatever place it shows that one
 abbrev pub HasSeen : Fleet → ℕ → Stop → Bool → List Conflict → Spot → Type 0
-HasSeen fleet agent stop lasting entries s =
-    (place : Place) → IsPlaceOf stop place → IsShown lasting s (seen_at place (step_of stop place)) → HasMet fleet agent (step_of stop place) place s.step.agent entries
+HasSeen fleet agent stop lasting entries s = (place : Place) → HasSeenIn agent stop lasting s place entries fleet
 
 -- each entry of the agent at the stop with those whom the spots show is there
 abbrev pub HasSpots : Fleet → ℕ → Stop → Bool → List Spot → List Conflict → Type 0
 HasSpots fleet agent stop lasting spots entries = (s : Spot) → Contains spots s → HasSeen fleet agent stop lasting entries s
+
+-- and so it is where they rise by their times
+abbrev pub HasRising : Sight → Stop → Bool → List Spot → List Conflict → Fleet → Type 0
+HasRising sight stop lasting spots entries fleet = AreRising spots → HasSpots fleet sight.agent stop lasting spots entries
 
 -- each entry of the agent at the stop is there
 abbrev pub HasStop : Fleet → ℕ → Stop → List Conflict → Type 0
@@ -168,6 +210,26 @@ HasHere fleet agent time entries = (place : Place) → place ≢ Ahead → HasPl
 abbrev pub HasTime : Fleet → ℕ → ℕ → List Conflict → Type 0
 HasTime fleet agent time entries = (entry : Conflict) → IsAgents fleet agent entry → time_of entry ≡ time → Contains entries entry
 
+-- each entry of the sight's agent with those ahead of it in the step that leads to the time is there
+abbrev pub HasAhead : ℕ → ℕ → List Conflict → Fleet → Type 0
+HasAhead agent time entries fleet = (past : ℕ) → past + 1 ≡ time → HasPlace fleet agent past Ahead entries
+
+-- what is new are entries of the sight's agent at times of the span up to the last index, where the span begins by it
+abbrev pub GathersUpTo : Sight → Span → ℕ → List Conflict → List Conflict → Fleet → Type 0
+GathersUpTo sight span last old new fleet = span.from ≤ last → Gathers fleet sight.agent (λ t. IsIn span t × (t ≤ last)) old new
+
+-- each entry of the sight's agent at those times is there
+abbrev pub HasUpTo : Sight → Span → ℕ → List Conflict → Fleet → Type 0
+HasUpTo sight span last entries fleet = last ≡ last_of fleet sight.agent → (time : ℕ) → IsIn span time → time ≤ last → HasTime fleet sight.agent time entries
+
+-- what is new are entries of the sight's agent from the last index on
+abbrev pub GathersLate : Sight → ℕ → List Conflict → List Conflict → Fleet → Type 0
+GathersLate sight last old new fleet = last ≡ last_of fleet sight.agent → Gathers fleet sight.agent (λ t. last ≤ t) old new
+
+-- each entry of the sight's agent after the last index is there
+abbrev pub HasAllLate : Sight → ℕ → List Conflict → Fleet → Type 0
+HasAllLate sight last entries fleet = last ≡ last_of fleet sight.agent → (time : ℕ) → last < time → HasTime fleet sight.agent time entries
+
 -- the entry is one of the agent, at rest in that cell, and of the other one, which is there at the time: a meeting then,
 -- or the step in which the other one comes
 abbrev pub IsLateOf : Conflict → ℕ → ℕ → ℕ → Point → Type 0
@@ -183,6 +245,10 @@ pub record IsPassed (fleet : Fleet) (time agent other : ℕ) (rest : Point) : Ty
   pub apart : other ≢ agent
   pub there : position_of fleet other time ≡ Some rest
   pub rests : (t : ℕ) → time ≤ t + 1 → position_of fleet agent t ≡ Some rest
+
+-- what is new are entries of the sight's agent, at rest in the cell, from the step on in which the other one comes at the time
+abbrev pub GathersPassing : Sight → ℕ → ℕ → Point → List Conflict → List Conflict → Fleet → Type 0
+GathersPassing sight time other rest old new fleet = (other ≢ sight.agent → IsPassed fleet time sight.agent other rest) → Gathers fleet sight.agent (λ t. time ≤ t + 1) old new
 
 -- each such entry of another one is there
 abbrev pub HasLate : Fleet → ℕ → ℕ → ℕ → Point → List Conflict → Type 0

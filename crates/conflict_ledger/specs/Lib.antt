@@ -4,3 +4,4 @@ pub mod Sight
 pub mod Spans
 pub mod Gathering
 pub mod Turns
+pub mod Mending

@@ -1,9 +1,10 @@
 -- A fleet as an index shows it beside one agent's track: words for the ledger's own steps (this project's choice).
-use Rattle.std.specs.Prelude.{◌≡◌, ◌≢◌, ◌⊎◌, ℕ, Option, Some, List, Contains}
+use Rattle.std.specs.Prelude.{◌≡◌, ◌≢◌, ◌⊎◌, ℕ, ◌+◌, ◌<◌, Option, Some, List, Contains, length, slice_index_or}
 use Rattle.std.specs.Option.{option_and_then, option_map}
 use Rattle.grid_cells.specs.Cell.{Point}
 use Rattle.where_index.specs.declared.moves.Move.{Move}
-use Rattle.plan_table.specs.Route.{Route, Fleet, position, route_of}
+use Rattle.plan_table.specs.Route.{Route, Fleet, position, position_of, route_of}
+use Rattle.mapf_rules.specs.Cycles.{IsRing}
 use Rattle.where_index.specs.Index.{Contents, StandsFor}
 use Rattle.conflict_ledger.specs.Change.{SameBut}
 use Rattle.conflict_ledger.specs.declared.sight.Sight.{Sight}
@@ -19,10 +20,43 @@ pub record Shows (index : Contents) (agent : ℕ) (route : Option Route) (fleet 
 abbrev pub Sees : Sight → Fleet → Type 0
 Sees sight fleet = Shows sight.index.now sight.agent (option_map route_of sight.shown) fleet
 
+-- so it is of each fleet that the sight shows
+abbrev pub InView : Sight → (Fleet → Type 0) → Type 0
+InView sight holds = (fleet : Fleet) → Sees sight fleet → holds fleet
+
+-- so it is of each fleet that the one sight shows, where there is one that the other shows
+abbrev pub InBoth : Sight → Sight → (Fleet → Type 0) → Type 0
+InBoth sight with holds = (fleet other : Fleet) → Sees sight fleet → Sees with other → holds fleet
+
+-- the route of the sight's agent, where it is shown
+abbrev pub own_route : Sight → Option Route
+own_route sight = option_map route_of sight.shown
+
+-- so it is where a ring of a fleet that the sight shows has a member that moves from the one cell to the other in the step
+abbrev pub WhereRing : Sight → ℕ → Point → Point → Type 0 → Type 0
+WhereRing sight time from to holds =
+    (fleet : Fleet) (ring : List ℕ) (member : ℕ) → Sees sight fleet → IsRing fleet time ring → Contains ring member → position_of fleet member time ≡ Some from → position_of fleet member (time + 1) ≡ Some to → holds
+
 -- the agent moves to the cell: by its own move where it is the agent of the sight, and by the list otherwise
 abbrev pub IsMoverIn : List Move → ℕ → Option Point → ℕ → Point → Type 0
 IsMoverIn moves agent own mover to = ((mover ≡ agent) × (own ≡ Some to)) ⊎ ((mover ≢ agent) × Contains moves (record { agent = mover; to = to }))
 
+-- the agent is the only one that moves so
+abbrev pub IsSoleIn : List Move → ℕ → Option Point → ℕ → Type 0
+IsSoleIn moves agent own mover = (other : ℕ) (to : Point) → IsMoverIn moves agent own other to → other ≡ mover
+
+-- each of the moves is of one of the two agents
+abbrev pub AreOfTwo : List Move → ℕ → ℕ → Type 0
+AreOfTwo moves one other = (k : ℕ) (d : Move) → k < length moves → ((slice_index_or moves k d).agent ≡ one) ⊎ ((slice_index_or moves k d).agent ≡ other)
+
 -- where the route is at the time, if there is one
 abbrev pub own_place : Option Route → ℕ → Option Point
 own_place route time = option_and_then (λ r. position r time) route
+
+-- the route is in the one cell at the time, and in the other one step later
+abbrev pub TakesStep : Option Route → ℕ → Point → Point → Type 0
+TakesStep route time from to = (own_place route time ≡ Some from) × (own_place route (time + 1) ≡ Some to)
+
+-- and that is another one
+abbrev pub IsOwnMove : Option Route → ℕ → Point → Point → Type 0
+IsOwnMove route time from to = (own_place route time ≡ Some from) × (own_place route (time + 1) ≡ Some to) × (to ≢ from)

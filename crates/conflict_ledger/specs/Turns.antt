@@ -4,7 +4,8 @@ use Rattle.grid_cells.specs.Cell.{Point}
 use Rattle.plan_table.specs.Route.{Route, Fleet}
 use Rattle.mapf_rules.specs.Cycles.{IsRingAt}
 use Rattle.mapf_rules.specs.Naming.{time_of}
-use Rattle.conflict_ledger.specs.Sight.{own_place}
+use Rattle.conflict_ledger.specs.Sight.{own_place, own_route}
+use Rattle.conflict_ledger.specs.declared.sight.Sight.{Sight}
 use Rattle.conflict_ledger.specs.declared.turns.Turn.{Turn}
 use Rattle.conflict_ledger.specs.declared.turns.Turn.TheVariants.{Broken, Joined}
 use Rattle.mapf_rules.specs.declared.entries.Conflict.{Conflict}
@@ -57,3 +58,23 @@ pub record IsToldAt (turn : Turn) (entries : List Conflict) (agent time : ℕ) :
   pub has : Contains entries entry
   pub at : time_of entry ≡ time
   pub may : MayTurn turn entry agent
+
+-- the ring is left so at the entry's time, and the entry lets the agent's moves turn one
+abbrev pub IsTurned : Fleet → Sight → Turn → Conflict → Conflict → Type 0
+IsTurned fleet with turn entry ring = IsLeft fleet (own_route with) ring × (time_of ring ≡ time_of entry) × MayTurn turn entry with.agent
+
+-- a ring that is so is the one that was found
+abbrev pub FindsTurned : Fleet → Sight → Turn → Conflict → Conflict → Option Conflict → Type 0
+FindsTurned fleet with turn entry ring found = IsLeft fleet (own_route with) ring → time_of ring ≡ time_of entry → MayTurn turn entry with.agent → found ≡ Some ring
+
+-- each of the rings is left so at a time that one of the entries tells
+abbrev pub AreLeftTold : Fleet → Sight → Turn → List Conflict → List Conflict → Type 0
+AreLeftTold fleet with turn entries rings = (ring : Conflict) → Contains rings ring → IsLeft fleet (own_route with) ring × IsToldAt turn entries with.agent (time_of ring)
+
+-- and each that is so is one of them
+abbrev pub HasLeftTold : Fleet → Sight → Turn → List Conflict → List Conflict → Type 0
+HasLeftTold fleet with turn entries rings = (ring : Conflict) → IsLeft fleet (own_route with) ring → IsToldAt turn entries with.agent (time_of ring) → Contains rings ring
+
+-- a ring that is left so at the time is the one that was found
+abbrev pub FindsRing : Fleet → Sight → ℕ → Option Conflict → Type 0
+FindsRing fleet with time found = (ring : List ℕ) → IsLeftAt fleet (own_route with) time ring → found ≡ Some (Cycle time ring)

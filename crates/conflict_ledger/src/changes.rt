@@ -1,9 +1,7 @@
 ghost use Rattle.std.specs.Prelude.{Some, None, OnOk};
 ghost use Rattle.plan_table.specs.Path.{last_index};
 ghost use Rattle.plan_table.specs.Route.{Fleet, route_of};
-ghost use Rattle.conflict_ledger.specs.Change.{SameBut};
-ghost use Rattle.conflict_ledger.specs.Sight.{Shows};
-ghost use Rattle.conflict_ledger.specs.Spans.{Fits, HasEntriesIn, SameBeside};
+ghost use Rattle.conflict_ledger.specs.Mending.{LeavesBeside, MendsAsComes, MendsAsGoes};
 
 use crate::gather::gather;
 use crate::kept::KeptEntries;
@@ -25,8 +23,8 @@ impl KeptEntries {
         span: &Span<'x>,
         index: &'x WhereIndex,
     ) -> Result<(), OutOfMemory>
-        ensures mends { OnOk result ((before after : Fleet) → Shows index.now agent None before → Shows index.now agent (Some (route_of track.entry)) after → SameBut before after agent → Fits span.now (last_index track.entry.plan.now) → HasEntriesIn span.now self.old before → HasEntriesIn span.now self.new after) }
-        ensures beside { OnOk result ((after : Fleet) → Shows index.now agent (Some (route_of track.entry)) after → Fits span.now (last_index track.entry.plan.now) → SameBeside span.now self.old self.new) }
+        ensures mends { OnOk result (MendsAsComes index.now agent (route_of track.entry) span.now self.old self.new) }
+        ensures beside { OnOk result (LeavesBeside index.now agent (route_of track.entry) span.now self.old self.new) }
     {
         let without = Sight {
             index,
@@ -56,8 +54,8 @@ impl KeptEntries {
         span: &Span<'x>,
         index: &'x WhereIndex,
     ) -> Result<(), OutOfMemory>
-        ensures mends { OnOk result ((before after : Fleet) → Shows index.now agent (Some (route_of track.entry)) before → Shows index.now agent None after → SameBut after before agent → Fits span.now (last_index track.entry.plan.now) → HasEntriesIn span.now self.old before → HasEntriesIn span.now self.new after) }
-        ensures beside { OnOk result ((before : Fleet) → Shows index.now agent (Some (route_of track.entry)) before → Fits span.now (last_index track.entry.plan.now) → SameBeside span.now self.old self.new) }
+        ensures mends { OnOk result (MendsAsGoes index.now agent (route_of track.entry) span.now self.old self.new) }
+        ensures beside { OnOk result (LeavesBeside index.now agent (route_of track.entry) span.now self.old self.new) }
     {
         let without = Sight {
             index,

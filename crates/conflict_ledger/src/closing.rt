@@ -5,7 +5,7 @@ ghost use Rattle.plan_table.specs.Route.{Fleet, position_of, route_of};
 ghost use Rattle.where_index.specs.Flows.{leads, opposite};
 ghost use Rattle.where_index.specs.Asked.{Goes};
 ghost use Rattle.mapf_rules.specs.Cycles.{IsRing};
-ghost use Rattle.conflict_ledger.specs.Sight.{Sees, own_place};
+ghost use Rattle.conflict_ledger.specs.Sight.{Sees, TakesStep, WhereRing, own_route};
 
 use crate::sight::Sight;
 use grid_cells::{Cell, Step};
@@ -15,7 +15,7 @@ impl Sight<'_> {
     // Whether the agent itself moves that way in the step.
     fn own_goes(&self, time: u32, way: Way) -> bool
         requires { time < u32.MAX }
-        ensures { (from to : Point) → own_place (option_map route_of self.now.shown) time ≡ Some from → own_place (option_map route_of self.now.shown) (time + 1) ≡ Some to → result ≡ leads way from to }
+        ensures { (from to : Point) → TakesStep (own_route self.now) time from to → result ≡ leads way from to }
     {
         let Some(from) = self.own(time) else {
             return false;
@@ -47,7 +47,7 @@ impl Sight<'_> {
     // way that it goes, another agent comes back.
     pub fn may_close(&self, time: u32, from: Cell, to: Cell) -> bool
         requires { time < u32.MAX }
-        ensures { (fleet : Fleet) (ring : List ℕ) (member : ℕ) → Sees self.now fleet → IsRing fleet time ring → Contains ring member → position_of fleet member time ≡ Some from → position_of fleet member (time + 1) ≡ Some to → IsTrue result }
+        ensures { WhereRing self.now time from to (IsTrue result) }
     {
         self.may_go_back(time, Way::Up, from, to)
             && self.may_go_back(time, Way::Left, from, to)

@@ -3,9 +3,8 @@ ghost use Rattle.plan_table.specs.Route.{Fleet, last_of};
 ghost use Rattle.where_index.specs.Spots.{AreRising};
 ghost use Rattle.mapf_rules.specs.declared.entries.Conflict.{Conflict};
 ghost use Rattle.conflict_ledger.specs.declared.places.Place.{Place};
-ghost use Rattle.conflict_ledger.specs.Sight.{Sees};
-ghost use Rattle.conflict_ledger.specs.Gathering.{Gathers, AreAgents, IsStop, IsStepOf, IsAbout, AreShowing, HasSpots, HasStop, HasPlace, HasHere, HasTime};
-ghost use Rattle.conflict_ledger.specs.Spans.{IsIn, Fits};
+ghost use Rattle.conflict_ledger.specs.Gathering.{AreOwn, Gathers, GathersAbout, GathersUpTo, HasAhead, HasHere, HasRising, HasStop, HasUpTo, IsStepOf, WhereAllShown, WhereStops};
+ghost use Rattle.conflict_ledger.specs.Sight.{InView};
 
 use crate::offers::{offer_ahead, offer_here};
 use crate::places::Stop;
@@ -28,8 +27,8 @@ fn offer_spots(
     spots: Range<'_, Spot>,
 ) -> Result<(), OutOfMemory>
     requires { (stop.now.past ≤ stop.now.time) × (stop.now.time < u32.MAX) }
-    ensures gathers { OnOk result ((fleet : Fleet) → Sees sight.now fleet → IsStop fleet sight.now.agent stop.now → AreShowing fleet sight.now.agent stop.now.here lasting spots.entry → Gathers fleet sight.now.agent (IsAbout stop.now) entries.old.items entries.new.items) }
-    ensures has { OnOk result ((fleet : Fleet) → Sees sight.now fleet → IsStop fleet sight.now.agent stop.now → AreShowing fleet sight.now.agent stop.now.here lasting spots.entry → AreRising spots.entry → HasSpots fleet sight.now.agent stop.now lasting spots.entry entries.new.items) }
+    ensures gathers { OnOk result (WhereAllShown sight.now stop.now lasting spots.entry (GathersAbout sight.now stop.now entries.old.items entries.new.items)) }
+    ensures has { OnOk result (WhereAllShown sight.now stop.now lasting spots.entry (HasRising sight.now stop.now lasting spots.entry entries.new.items)) }
 {
     for spot in spots {
         if spot.time > stop.time + 1 {
@@ -49,8 +48,8 @@ fn gather_stop(
     stop: &Stop,
 ) -> Result<(), OutOfMemory>
     requires { (stop.now.past ≤ stop.now.time) × (stop.now.time < u32.MAX) }
-    ensures gathers { OnOk result ((fleet : Fleet) → Sees sight.now fleet → IsStop fleet sight.now.agent stop.now → Gathers fleet sight.now.agent (IsAbout stop.now) entries.old.items entries.new.items) }
-    ensures has { OnOk result ((fleet : Fleet) → Sees sight.now fleet → IsStop fleet sight.now.agent stop.now → HasStop fleet sight.now.agent stop.now entries.new.items) }
+    ensures gathers { OnOk result (WhereStops sight.now stop.now (GathersAbout sight.now stop.now entries.old.items entries.new.items)) }
+    ensures has { OnOk result (WhereStops sight.now stop.now (λ fleet. HasStop fleet sight.now.agent stop.now entries.new.items)) }
 {
     let found = sight.index.occupants(stop.here, Step::new(stop.past));
     offer_spots(sight, entries, stop, false, found.stands)?;
@@ -78,9 +77,9 @@ fn gather_at(
     goes: bool,
 ) -> Result<(), OutOfMemory>
     requires { (IsTrue came → 0 < time) × (time < u32.MAX) }
-    ensures gathers { OnOk result ((fleet : Fleet) → Sees sight.now fleet → Gathers fleet sight.now.agent (IsStepOf time came goes) entries.old.items entries.new.items) }
-    ensures ahead { OnOk result ((fleet : Fleet) → Sees sight.now fleet → (past : ℕ) → past + 1 ≡ time → IsTrue came → HasPlace fleet sight.now.agent past Place.Ahead entries.new.items) }
-    ensures here { OnOk result ((fleet : Fleet) → Sees sight.now fleet → IsTrue goes → HasHere fleet sight.now.agent time entries.new.items) }
+    ensures gathers { OnOk result (InView sight.now (λ fleet. Gathers fleet sight.now.agent (IsStepOf time came goes) entries.old.items entries.new.items)) }
+    ensures ahead { IsTrue came → OnOk result (InView sight.now (HasAhead sight.now.agent time entries.new.items)) }
+    ensures here { IsTrue goes → OnOk result (InView sight.now (λ fleet. HasHere fleet sight.now.agent time entries.new.items)) }
 {
     if !came && !goes {
         return Ok(());
@@ -110,8 +109,8 @@ fn gather_path(
     last: u32,
 ) -> Result<(), OutOfMemory>
     requires { last < u32.MAX }
-    ensures gathers { OnOk result ((fleet : Fleet) → Sees sight.now fleet → span.now.from ≤ last → Gathers fleet sight.now.agent (λ t. IsIn span.now t × (t ≤ last)) entries.old.items entries.new.items) }
-    ensures has { OnOk result ((fleet : Fleet) → Sees sight.now fleet → last ≡ last_of fleet sight.now.agent → (time : ℕ) → IsIn span.now time → time ≤ last → HasTime fleet sight.now.agent time entries.new.items) }
+    ensures gathers { OnOk result (InView sight.now (GathersUpTo sight.now span.now last entries.old.items entries.new.items)) }
+    ensures has { OnOk result (InView sight.now (HasUpTo sight.now span.now last entries.new.items)) }
 {
     let mut came = false;
     for time in span.from..last + 1 {
@@ -129,7 +128,7 @@ pub(crate) fn gather(
     sight: &Sight<'_>,
     span: &Span<'_>,
 ) -> Result<Vec<Conflict>, OutOfMemory>
-    ensures { IfOk result (λ entries. (fleet : Fleet) → Sees sight.now fleet → Fits span.now (last_of fleet sight.now.agent) → AreAgents fleet sight.now.agent span.now entries.items) }
+    ensures { IfOk result (λ entries. InView sight.now (AreOwn sight.now span.now entries.items)) }
 {
     let mut entries = Vec::new(alloc);
     let last = sight.own_last();

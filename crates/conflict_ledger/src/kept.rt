@@ -1,6 +1,6 @@
 ghost use Rattle.std.specs.Prelude.{◌≡◌, ◌↔◌, [], IfOk, OnOk, IsTrue};
-ghost use Rattle.conflict_ledger.specs.Kept.{GainsEntry, LosesEntry, GainsAll, LosesAll, HasKind, many_of};
 ghost use Rattle.mapf_rules.specs.ConflictList.{IsListed};
+ghost use Rattle.conflict_ledger.specs.Kept.{GainsAll, GainsEntry, HasKind, LosesAll, LosesEntry, many_of};
 
 use crate::least::least_of;
 use grid_cells::{List, OutOfMemory};

@@ -4,6 +4,7 @@ ghost use Rattle.where_index.specs.Index.{StandsFor, with_route};
 ghost use Rattle.mapf_rules.specs.ConflictList.{AreConflicts, IsListed};
 ghost use Rattle.mapf_rules.specs.Cycles.{IsRingAt};
 ghost use Rattle.conflict_ledger.specs.Kept.{HasEntries, HasKind, many_of};
+ghost use Rattle.conflict_ledger.specs.Mending.{KeepsUp};
 
 use crate::kept::KeptEntries;
 use crate::movers::Whole;
@@ -54,7 +55,7 @@ impl ConflictLedger {
         track: Track<'_>,
         index: &WhereIndex,
     ) -> Result<ConflictLedger, OutOfMemory>
-        ensures { IfOk result (λ ledger. (fleet : Fleet) → StandsFor index.now fleet → fleet agent ≡ Some (route_of track.entry) → HasEntries self (with_route fleet agent None) → HasEntries ledger fleet) }
+        ensures { IfOk result (λ ledger. KeepsUp index.now agent None (Some (route_of track.entry)) self ledger) }
     {
         self.kept
             .enter(self.alloc, agent, track, &Span::whole(), index)?;
@@ -73,7 +74,7 @@ impl ConflictLedger {
         track: Track<'_>,
         index: &WhereIndex,
     ) -> Result<ConflictLedger, OutOfMemory>
-        ensures { IfOk result (λ ledger. (fleet : Fleet) → StandsFor index.now fleet → fleet agent ≡ None → HasEntries self (with_route fleet agent (Some (route_of track.entry))) → HasEntries ledger fleet) }
+        ensures { IfOk result (λ ledger. KeepsUp index.now agent (Some (route_of track.entry)) None self ledger) }
     {
         self.kept
             .leave(self.alloc, agent, track, &Span::whole(), index)?;
@@ -97,7 +98,7 @@ impl ConflictLedger {
         index: &WhereIndex,
     ) -> Result<ConflictLedger, OutOfMemory>
         requires { (t : ℕ) → t < since → position (route_of old) t ≡ position (route_of new) t }
-        ensures { IfOk result (λ ledger. (fleet : Fleet) → StandsFor index.now fleet → fleet agent ≡ Some (route_of new.entry) → HasEntries self (with_route fleet agent (Some (route_of old.entry))) → HasEntries ledger fleet) }
+        ensures { IfOk result (λ ledger. KeepsUp index.now agent (Some (route_of old.entry)) (Some (route_of new.entry)) self ledger) }
     {
         let span = Span::apart(old, new, since);
         self.kept.leave(self.alloc, agent, old, &span, index)?;

@@ -2,7 +2,7 @@ ghost use Rattle.std.specs.Prelude.{◌≡◌, ◌⊎◌, ◌↔◌, ◌≢◌, 
 ghost use Rattle.grid_cells.specs.Cell.{Point};
 ghost use Rattle.where_index.specs.declared.moves.Move.{Move};
 ghost use Rattle.where_index.specs.Index.{StandsFor};
-ghost use Rattle.conflict_ledger.specs.Sight.{Sees, IsMoverIn};
+ghost use Rattle.conflict_ledger.specs.Sight.{AreOfTwo, IsMoverIn, IsSoleIn, Sees};
 
 use crate::sight::Sight;
 use grid_cells::{Agent, Cell, Step};
@@ -40,8 +40,8 @@ impl Movers for Sight<'_> {
 // The one move, where the agent's is its own, if any, and the others' are in the list.
 fn sole_of(moves: &[Move], agent: Agent, own: Option<Cell>) -> Option<(Agent, Cell)>
     ensures one { IfSome result (λ mover. IsMoverIn moves.now agent own mover.0 mover.1) }
-    ensures only { IfSome result (λ mover. (other : ℕ) (to : Point) → IsMoverIn moves.now agent own other to → other ≡ mover.0) }
-    ensures found { (mover : ℕ) (to : Point) → IsMoverIn moves.now agent own mover to → ((other : ℕ) (goal : Point) → IsMoverIn moves.now agent own other goal → other ≡ mover) → IsSome result }
+    ensures only { IfSome result (λ mover. IsSoleIn moves.now agent own mover.0) }
+    ensures found { (mover : ℕ) (to : Point) → IsMoverIn moves.now agent own mover to → IsSoleIn moves.now agent own mover → IsSome result }
 {
     match own {
         Some(to) => sole_with(moves, agent, to),
@@ -51,8 +51,8 @@ fn sole_of(moves: &[Move], agent: Agent, own: Option<Cell>) -> Option<(Agent, Ce
 
 fn sole_with(moves: &[Move], agent: Agent, to: Cell) -> Option<(Agent, Cell)>
     ensures one { IfSome result (λ mover. IsMoverIn moves.now agent (Some to) mover.0 mover.1) }
-    ensures only { IfSome result (λ mover. (other : ℕ) (goal : Point) → IsMoverIn moves.now agent (Some to) other goal → other ≡ mover.0) }
-    ensures found { (mover : ℕ) (goal : Point) → IsMoverIn moves.now agent (Some to) mover goal → ((other : ℕ) (end : Point) → IsMoverIn moves.now agent (Some to) other end → other ≡ mover) → IsSome result }
+    ensures only { IfSome result (λ mover. IsSoleIn moves.now agent (Some to) mover.0) }
+    ensures found { (mover : ℕ) (goal : Point) → IsMoverIn moves.now agent (Some to) mover goal → IsSoleIn moves.now agent (Some to) mover → IsSome result }
 {
     match first_other(moves, agent) {
         Some(_) => None,
@@ -62,8 +62,8 @@ fn sole_with(moves: &[Move], agent: Agent, to: Cell) -> Option<(Agent, Cell)>
 
 fn sole_without(moves: &[Move], agent: Agent) -> Option<(Agent, Cell)>
     ensures one { IfSome result (λ mover. IsMoverIn moves.now agent None mover.0 mover.1) }
-    ensures only { IfSome result (λ mover. (other : ℕ) (goal : Point) → IsMoverIn moves.now agent None other goal → other ≡ mover.0) }
-    ensures found { (mover : ℕ) (goal : Point) → IsMoverIn moves.now agent None mover goal → ((other : ℕ) (end : Point) → IsMoverIn moves.now agent None other end → other ≡ mover) → IsSome result }
+    ensures only { IfSome result (λ mover. IsSoleIn moves.now agent None mover.0) }
+    ensures found { (mover : ℕ) (goal : Point) → IsMoverIn moves.now agent None mover goal → IsSoleIn moves.now agent None mover → IsSome result }
 {
     let mover = first_other(moves, agent)?;
     if no_third(moves, agent, mover.0) {
@@ -88,7 +88,7 @@ fn first_other(moves: &[Move], agent: Agent) -> Option<(Agent, Cell)>
 
 // Whether each move in the list is of one of the two agents.
 fn no_third(moves: &[Move], agent: Agent, mover: Agent) -> bool
-    ensures { IsTrue result ↔ ((k : ℕ) (d : Move) → k < length moves.now → ((slice_index_or moves.now k d).agent ≡ agent) ⊎ ((slice_index_or moves.now k d).agent ≡ mover)) }
+    ensures { IsTrue result ↔ AreOfTwo moves.now agent mover }
 {
     for next in moves {
         if next.agent != agent && next.agent != mover {

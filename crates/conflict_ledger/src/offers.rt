@@ -1,8 +1,7 @@
 ghost use Rattle.std.specs.Prelude.{◌≡◌, ◌≢◌, ℕ, ◌+◌, ◌<◌, ◌≤◌, OnOk, IsTrue};
 ghost use Rattle.plan_table.specs.Route.{Fleet};
-ghost use Rattle.conflict_ledger.specs.declared.places.Place.{Place};
-ghost use Rattle.conflict_ledger.specs.Sight.{Sees};
-ghost use Rattle.conflict_ledger.specs.Gathering.{Gathers, GathersMet, IsStop, IsAbout, IsShown, IsShowing, HasMet, HasAllMet};
+ghost use Rattle.conflict_ledger.specs.declared.places.Place.TheVariants.{Beside, Ahead, Behind};
+ghost use Rattle.conflict_ledger.specs.Gathering.{GathersAbout, GathersMet, HasAllMet, HasSeenIn, WhereShown};
 
 use crate::places::{Place, Stop, edge_of, following_of, in_order, meeting_of, swapping_of};
 use crate::sight::Sight;
@@ -22,8 +21,8 @@ fn offer_beside(
     next: Cell,
 ) -> Result<(), OutOfMemory>
     requires { (time < u32.MAX) × (spot.now.step.agent ≢ sight.now.agent) }
-    ensures gathers { OnOk result (GathersMet sight.now Place.Beside lasting spot.now time here next entries.old.items entries.new.items) }
-    ensures has { OnOk result (HasAllMet sight.now Place.Beside lasting spot.now time here next entries.new.items) }
+    ensures gathers { OnOk result (GathersMet sight.now Beside lasting spot.now time here next entries.old.items entries.new.items) }
+    ensures has { OnOk result (HasAllMet sight.now Beside lasting spot.now time here next entries.new.items) }
 {
     let (first, second) = in_order(sight.agent, spot.step.agent);
     let met = meeting_of(sight, !lasting, time, first, second, here);
@@ -82,8 +81,8 @@ pub(crate) fn offer_ahead(
     spot: &Spot,
 ) -> Result<(), OutOfMemory>
     requires { (stop.now.past ≤ stop.now.time) × (stop.now.time < u32.MAX) }
-    ensures gathers { OnOk result ((fleet : Fleet) → Sees sight.now fleet → IsStop fleet sight.now.agent stop.now → IsShowing fleet sight.now.agent stop.now.here lasting spot.now → Gathers fleet sight.now.agent (IsAbout stop.now) entries.old.items entries.new.items) }
-    ensures has { OnOk result ((fleet : Fleet) → Sees sight.now fleet → IsStop fleet sight.now.agent stop.now → IsShowing fleet sight.now.agent stop.now.here lasting spot.now → stop.now.before ≢ stop.now.here → IsShown lasting spot.now stop.now.past → HasMet fleet sight.now.agent stop.now.past Place.Ahead spot.now.step.agent entries.new.items) }
+    ensures gathers { OnOk result (WhereShown sight.now stop.now lasting spot.now (GathersAbout sight.now stop.now entries.old.items entries.new.items)) }
+    ensures has { OnOk result (WhereShown sight.now stop.now lasting spot.now (HasSeenIn sight.now.agent stop.now lasting spot.now Ahead entries.new.items)) }
 {
     if stop.before == stop.here || !is_shown(lasting, spot, stop.past) {
         return Ok(());
@@ -111,9 +110,9 @@ pub(crate) fn offer_here(
     spot: &Spot,
 ) -> Result<(), OutOfMemory>
     requires { (stop.now.past ≤ stop.now.time) × (stop.now.time < u32.MAX) }
-    ensures gathers { OnOk result ((fleet : Fleet) → Sees sight.now fleet → IsStop fleet sight.now.agent stop.now → IsShowing fleet sight.now.agent stop.now.here lasting spot.now → Gathers fleet sight.now.agent (IsAbout stop.now) entries.old.items entries.new.items) }
-    ensures beside { OnOk result ((fleet : Fleet) → Sees sight.now fleet → IsStop fleet sight.now.agent stop.now → IsShowing fleet sight.now.agent stop.now.here lasting spot.now → IsTrue stop.now.goes → IsShown lasting spot.now stop.now.time → HasMet fleet sight.now.agent stop.now.time Place.Beside spot.now.step.agent entries.new.items) }
-    ensures behind { OnOk result ((fleet : Fleet) → Sees sight.now fleet → IsStop fleet sight.now.agent stop.now → IsShowing fleet sight.now.agent stop.now.here lasting spot.now → IsTrue stop.now.goes → IsShown lasting spot.now (stop.now.time + 1) → HasMet fleet sight.now.agent stop.now.time Place.Behind spot.now.step.agent entries.new.items) }
+    ensures gathers { OnOk result (WhereShown sight.now stop.now lasting spot.now (GathersAbout sight.now stop.now entries.old.items entries.new.items)) }
+    ensures beside { OnOk result (WhereShown sight.now stop.now lasting spot.now (HasSeenIn sight.now.agent stop.now lasting spot.now Beside entries.new.items)) }
+    ensures behind { OnOk result (WhereShown sight.now stop.now lasting spot.now (HasSeenIn sight.now.agent stop.now lasting spot.now Behind entries.new.items)) }
 {
     if !stop.goes {
         return Ok(());

@@ -1,11 +1,12 @@
 ghost use Rattle.std.specs.Prelude.{◌≡◌, ◌≢◌, ◌+◌, ◌<◌, min, max, Some, IfSome, IsTrue};
 ghost use Rattle.plan_table.specs.Route.{Fleet, position_of};
 ghost use Rattle.mapf_rules.specs.declared.entries.Conflict.{Conflict};
+ghost use Rattle.mapf_rules.specs.declared.entries.Conflict.TheVariants.{Parked};
 ghost use Rattle.mapf_rules.specs.Entries.{IsVertex, IsParked, IsEdge, IsFollowing, IsSwapping};
 ghost use Rattle.mapf_rules.specs.ConflictList.{Stands};
 ghost use Rattle.mapf_rules.specs.Naming.{IsOfPair};
-ghost use Rattle.conflict_ledger.specs.Sight.{Sees};
-ghost use Rattle.conflict_ledger.specs.Gathering.{AreTogether, OnePasses};
+ghost use Rattle.conflict_ledger.specs.Gathering.{AreTogether, WhereClose, IfPasses};
+ghost use Rattle.conflict_ledger.specs.Sight.{InView, Sees};
 
 use crate::sight::Sight;
 use grid_cells::{Agent, Cell, Step};
@@ -54,10 +55,10 @@ pub(crate) fn meeting_of(
     second: Agent,
     cell: Cell,
 ) -> Option<Conflict>
-    ensures stands { (fleet : Fleet) → Sees sight.now fleet → (IsTrue passing → OnePasses fleet time first second) → AreTogether fleet time first second cell → IfSome result (Stands fleet) }
+    ensures stands { IfPasses sight.now passing time first second (λ fleet. AreTogether fleet time first second cell → IfSome result (Stands fleet)) }
     ensures pair { IfSome result (λ entry. IsOfPair entry time first second) }
     ensures vertex { (fleet : Fleet) → Sees sight.now fleet → IsVertex fleet time first second cell → result ≡ Some (Conflict.Vertex time first second cell) }
-    ensures parked { (fleet : Fleet) → Sees sight.now fleet → (IsTrue passing → OnePasses fleet time first second) → IsParked fleet time first second cell → result ≡ Some (Conflict.Parked time first second cell) }
+    ensures parked { IfPasses sight.now passing time first second (λ fleet. IsParked fleet time first second cell → result ≡ Some (Parked time first second cell)) }
 {
     if passing || sight.passes(time, first, second) {
         return Some(Conflict::Vertex {
@@ -116,9 +117,9 @@ pub(crate) fn following_of(
     cell: Cell,
 ) -> Option<Conflict>
     requires { time < u32.MAX }
-    ensures stands { (fleet : Fleet) → Sees sight.now fleet → (IsTrue known → IsFollowing fleet time follower leader cell) → follower ≢ leader → position_of fleet leader time ≡ Some cell → position_of fleet follower (time + 1) ≡ Some cell → IfSome result (Stands fleet) }
+    ensures stands { InView sight.now (λ fleet. WhereClose known fleet time follower leader cell (IfSome result (Stands fleet))) }
     ensures pair { IfSome result (λ entry. IsOfPair entry time follower leader) }
-    ensures found { (fleet : Fleet) → Sees sight.now fleet → IsFollowing fleet time follower leader cell → result ≡ Some (Conflict.Following time follower leader cell) }
+    ensures found { InView sight.now (λ fleet. IsFollowing fleet time follower leader cell → result ≡ Some (Conflict.Following time follower leader cell)) }
 {
     let follows = known
         || (!sight.is_at(follower, time, cell) && sight.has_position(leader, time + 1));

@@ -1,7 +1,7 @@
 ghost use Rattle.std.specs.Prelude.{◌≡◌, ◌≢◌, ℕ, ◌+◌, ◌<◌, ◌≤◌, OnOk};
 ghost use Rattle.plan_table.specs.Route.{Fleet, last_of};
-ghost use Rattle.conflict_ledger.specs.Sight.{Sees};
-ghost use Rattle.conflict_ledger.specs.Gathering.{Gathers, IsPassed, HasTime, HasLate};
+ghost use Rattle.conflict_ledger.specs.Gathering.{GathersLate, GathersPassing, HasAllLate, HasLate};
+ghost use Rattle.conflict_ledger.specs.Sight.{InView, Sees};
 
 use crate::places::{following_of, in_order, meeting_of};
 use crate::sight::Sight;
@@ -16,7 +16,7 @@ fn offer_passing(
     other: Agent,
     rest: Cell,
 ) -> Result<(), OutOfMemory>
-    ensures gathers { OnOk result ((fleet : Fleet) → Sees sight.now fleet → (other ≢ sight.now.agent → IsPassed fleet time sight.now.agent other rest) → Gathers fleet sight.now.agent (λ t. time ≤ t + 1) entries.old.items entries.new.items) }
+    ensures gathers { OnOk result (InView sight.now (GathersPassing sight.now time other rest entries.old.items entries.new.items)) }
     ensures has { OnOk result ((fleet : Fleet) → Sees sight.now fleet → HasLate fleet time sight.now.agent other rest entries.new.items) }
 {
     if other == sight.agent {
@@ -40,8 +40,8 @@ pub(crate) fn gather_late(
     last: u32,
 ) -> Result<(), OutOfMemory>
     requires { last < u32.MAX }
-    ensures gathers { OnOk result ((fleet : Fleet) → Sees sight.now fleet → last ≡ last_of fleet sight.now.agent → Gathers fleet sight.now.agent (λ t. last ≤ t) entries.old.items entries.new.items) }
-    ensures has { OnOk result ((fleet : Fleet) → Sees sight.now fleet → last ≡ last_of fleet sight.now.agent → (time : ℕ) → last < time → HasTime fleet sight.now.agent time entries.new.items) }
+    ensures gathers { OnOk result (InView sight.now (GathersLate sight.now last entries.old.items entries.new.items)) }
+    ensures has { OnOk result (InView sight.now (HasAllLate sight.now last entries.new.items)) }
 {
     let Some(rest) = sight.own(last + 1) else {
         return Ok(());

@@ -3,7 +3,7 @@ ghost use Rattle.std.specs.Option.{option_map, option_and_then};
 ghost use Rattle.grid_cells.specs.Cell.{Point};
 ghost use Rattle.plan_table.specs.Route.{Fleet, position, position_of, last_of, leaves_of, Leaves, route_of};
 ghost use Rattle.mapf_rules.specs.Entries.{both_end_by};
-ghost use Rattle.conflict_ledger.specs.Sight.{Sees, own_place};
+ghost use Rattle.conflict_ledger.specs.Sight.{IsOwnMove, Sees, own_route};
 
 use grid_cells::{Agent, Cell, Step};
 use plan_table::{MOST_LAST_INDEX, Track};
@@ -42,7 +42,7 @@ impl Sight<'_> {
     // The cell to which the agent itself moves out of that one in the step, if it does.
     pub fn own_move(&self, time: u32, cell: Cell) -> Option<Cell>
         requires { time < u32.MAX }
-        ensures { (to : Point) → (result ≡ Some to) ↔ ((own_place (option_map route_of self.now.shown) time ≡ Some cell) × (own_place (option_map route_of self.now.shown) (time + 1) ≡ Some to) × (to ≢ cell)) }
+        ensures { (to : Point) → (result ≡ Some to) ↔ IsOwnMove (own_route self.now) time cell to }
     {
         let from = self.own(time)?;
         let to = self.own(time + 1)?;

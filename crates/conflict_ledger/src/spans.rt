@@ -1,7 +1,7 @@
 ghost use Rattle.std.specs.Prelude.{◌≡◌, ◌≢◌, ◌↔◌, ℕ, ◌+◌, ◌<◌, None, IsTrue};
 ghost use Rattle.plan_table.specs.Path.{last_index};
 ghost use Rattle.plan_table.specs.Route.{position, route_of};
-ghost use Rattle.conflict_ledger.specs.Spans.{IsIn, Fits, AreApartAt, AreSameAt};
+ghost use Rattle.conflict_ledger.specs.Spans.{AreApartAt, AreSameAt, Fits, IsIn};
 
 use crate::sight::position_on;
 use grid_cells::Step;

@@ -1,8 +1,8 @@
 ghost use Rattle.std.specs.Prelude.{◌≡◌, ◌≢◌, ◌⊎◌, ◌↔◌, ℕ, ◌+◌, ◌<◌, Some, IsSome, IfSome, IsTrue};
 ghost use Rattle.plan_table.specs.Route.{Fleet, position_of};
-ghost use Rattle.conflict_ledger.specs.Sight.{Sees};
 ghost use Rattle.conflict_ledger.specs.declared.places.Place.{Place};
-ghost use Rattle.conflict_ledger.specs.Gathering.{IsShown, Tells, seen_at};
+ghost use Rattle.conflict_ledger.specs.Gathering.{Arrives, IsShown, Tells, seen_at};
+ghost use Rattle.conflict_ledger.specs.Sight.{InView};
 
 use crate::places::Place;
 use crate::sight::Sight;
@@ -55,7 +55,7 @@ pub(crate) fn goes_to(
     next: Cell,
 ) -> bool
     requires { time < u32.MAX }
-    ensures { (fleet : Fleet) → Sees sight.now fleet → Tells fleet cell lasting spot.now time → IsTrue result ↔ ((cell ≢ next) × (position_of fleet spot.now.step.agent (time + 1) ≡ Some next)) }
+    ensures { InView sight.now (λ fleet. Tells fleet cell lasting spot.now time → IsTrue result ↔ Arrives fleet spot.now.step.agent time cell next) }
 {
     if lasting || cell == next {
         return false;

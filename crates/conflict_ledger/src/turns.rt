@@ -3,9 +3,9 @@ ghost use Rattle.std.specs.Option.{option_map};
 ghost use Rattle.plan_table.specs.Route.{Fleet, route_of};
 ghost use Rattle.mapf_rules.specs.declared.entries.Conflict.{Conflict};
 ghost use Rattle.mapf_rules.specs.Cycles.{IsRingAt};
-ghost use Rattle.conflict_ledger.specs.Sight.{Sees};
 ghost use Rattle.mapf_rules.specs.Naming.{time_of};
-ghost use Rattle.conflict_ledger.specs.Turns.{IsLeft, IsLeftAt, MayTurn, IsToldAt};
+ghost use Rattle.conflict_ledger.specs.Sight.{InBoth, InView, Sees, own_route};
+ghost use Rattle.conflict_ledger.specs.Turns.{AreLeftTold, FindsRing, FindsTurned, HasLeftTold, IsLeft, IsTurned, MayTurn};
 
 use crate::sight::Sight;
 use grid_cells::{Agent, Cell, OutOfMemory, Step};
@@ -44,8 +44,8 @@ fn ring_left_at(
     time: u32,
 ) -> Result<Option<Conflict>, OutOfMemory>
     requires { time < u32.MAX }
-    ensures only { IfOk result (λ found. (fleet : Fleet) → Sees view.now fleet → IfSome found (λ entry. IsLeft fleet (option_map route_of with.now.shown) entry × (time_of entry ≡ time))) }
-    ensures has { IfOk result (λ found. (fleet : Fleet) (ring : List ℕ) → Sees view.now fleet → IsLeftAt fleet (option_map route_of with.now.shown) time ring → found ≡ Some (Conflict.Cycle time ring)) }
+    ensures only { IfOk result (λ found. InView view.now (λ fleet. IfSome found (λ entry. IsLeft fleet (own_route with.now) entry × (time_of entry ≡ time)))) }
+    ensures has { IfOk result (λ found. InView view.now (λ fleet. FindsRing fleet with.now time found)) }
 {
     let Some(cell) = with.own(time) else {
         return Ok(None);
@@ -85,8 +85,8 @@ fn ring_told(
     turn: Turn,
     entry: &Conflict,
 ) -> Result<Option<Conflict>, OutOfMemory>
-    ensures only { IfOk result (λ found. (fleet : Fleet) → Sees view.now fleet → IfSome found (λ ring. IsLeft fleet (option_map route_of with.now.shown) ring × (time_of ring ≡ time_of entry.now) × MayTurn turn entry.now with.now.agent)) }
-    ensures has { IfOk result (λ found. (fleet other : Fleet) (ring : Conflict) → Sees view.now fleet → Sees with.now other → IsLeft fleet (option_map route_of with.now.shown) ring → time_of ring ≡ time_of entry.now → MayTurn turn entry.now with.now.agent → found ≡ Some ring) }
+    ensures only { IfOk result (λ found. InView view.now (λ fleet. IfSome found (IsTurned fleet with.now turn entry.now))) }
+    ensures has { IfOk result (λ found. InBoth view.now with.now (λ fleet. (ring : Conflict) → FindsTurned fleet with.now turn entry.now ring found)) }
 {
     if !may_turn(turn, entry, with.agent) {
         return Ok(None);
@@ -108,8 +108,8 @@ pub(crate) fn rings_left(
     turn: Turn,
     entries: &[Conflict],
 ) -> Result<Vec<Conflict>, OutOfMemory>
-    ensures only { IfOk result (λ rings. (fleet : Fleet) → Sees view.now fleet → (entry : Conflict) → Contains rings.items entry → IsLeft fleet (option_map route_of with.now.shown) entry × IsToldAt turn entries.now with.now.agent (time_of entry)) }
-    ensures has { IfOk result (λ rings. (fleet other : Fleet) → Sees view.now fleet → Sees with.now other → (entry : Conflict) → IsLeft fleet (option_map route_of with.now.shown) entry → IsToldAt turn entries.now with.now.agent (time_of entry) → Contains rings.items entry) }
+    ensures only { IfOk result (λ rings. InView view.now (λ fleet. AreLeftTold fleet with.now turn entries.now rings.items)) }
+    ensures has { IfOk result (λ rings. InBoth view.now with.now (λ fleet. HasLeftTold fleet with.now turn entries.now rings.items)) }
 {
     let mut rings = Vec::new(alloc);
     for entry in entries {

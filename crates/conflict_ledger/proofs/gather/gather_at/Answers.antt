@@ -13,10 +13,10 @@ use Rattle.conflict_ledger.proofs.Stops.{came_own, nowhere_place, nowhere_here, 
 use Rattle.conflict_ledger.proofs.gather.gather_at.Goals as goal
 
 pub returns-in_default-clause-ahead : goal.returns-in_default-clause-ahead
-returns-in_default-clause-ahead c fleet shows past next came = nowhere_place _ _ _ fleet shows Ahead past _ (rw next (sym c.own.ensures ∙ c.in_default.is))
+returns-in_default-clause-ahead c came fleet shows past next = nowhere_place _ _ _ fleet shows Ahead past _ (rw next (sym c.own.ensures ∙ c.in_default.is))
 
 pub returns-in_default-clause-here : goal.returns-in_default-clause-here
-returns-in_default-clause-here c fleet shows goes = nowhere_here _ _ _ fleet shows c.args.time _ (sym c.own.ensures ∙ c.in_default.is)
+returns-in_default-clause-here c goes fleet shows = nowhere_here _ _ _ fleet shows c.args.time _ (sym c.own.ensures ∙ c.in_default.is)
 
 module _ (c : goal.After-gather_stop) (fleet : Fleet) (shows : Sees c.args.sight.now fleet) where
   abbrev stop : Stop
@@ -42,10 +42,10 @@ pub returns-clause-gathers : goal.returns-clause-gathers
 returns-clause-gathers c = on_ok_weaker c.gather_stop.result (λ gives fleet shows. gathers_at fleet _ _ _ _ _ (is_step c fleet shows) (gives fleet shows (is_stop c fleet shows))) c.gather_stop.ensures.gathers
 
 pub returns-clause-ahead : goal.returns-clause-ahead
-returns-clause-ahead c = on_ok_weaker c.gather_stop.result (λ gives fleet shows past next is_came. elim c.past_of-past.ensures.is [
+returns-clause-ahead c is_came = on_ok_weaker c.gather_stop.result (λ gives fleet shows past next. elim c.past_of-past.ensures.is [
   | inr still ↦ absurd (false≢true (sym still.1 ∙ is_came))
   | inl before ↦ subst (λ (t : ℕ). HasPlace fleet c.args.sight.now.agent t Ahead c.gather_stop.new.entries.items) (omega (arith, before.0, next)) (stop_ahead _ _ _ fleet shows (stop c fleet shows) _ (gives fleet shows (is_stop c fleet shows)) (came c fleet shows before.0))
 ]) c.gather_stop.ensures.has
 
 pub returns-clause-here : goal.returns-clause-here
-returns-clause-here c = on_ok_weaker c.gather_stop.result (λ gives fleet shows goes. stop_here _ _ _ fleet shows (stop c fleet shows) _ (gives fleet shows (is_stop c fleet shows)) (is_stop c fleet shows) goes) c.gather_stop.ensures.has
+returns-clause-here c goes = on_ok_weaker c.gather_stop.result (λ gives fleet shows. stop_here _ _ _ fleet shows (stop c fleet shows) _ (gives fleet shows (is_stop c fleet shows)) (is_stop c fleet shows) goes) c.gather_stop.ensures.has

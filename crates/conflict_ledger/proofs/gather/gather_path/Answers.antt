@@ -1,4 +1,4 @@
-use Rattle.std.proofs.Common.{◌≡◌, ◌↔◌, ◌+◌, ◌≤◌, ◌-◌, ℕ, inl, inr, sym, subst, arith}
+use Rattle.std.proofs.Common.{◌≡◌, ◌↔◌, ◌+◌, ◌≤◌, ℕ, inl, inr, sym, subst, arith}
 use mathlib.Core.Bool.{false≢true}
 use Rattle.std.specs.Prelude.{IsTrue}
 use Rattle.std.proofs.lemmas.Bool.{cases_lt}
@@ -31,13 +31,13 @@ loop-time-preserved c = record {
     | inl lower ↦ place_on fleet _ _ _ _ (c.in_ok-gather_at.ensures.gathers fleet shows) t Ahead (c.loop-time.invariant.ahead fleet shows t inside lower)
     | inr higher ↦
         let same : t + 1 ≡ c.loop-time.time = omega arith in
-        c.in_ok-gather_at.ensures.ahead fleet shows t same ((c.loop-time.invariant.came t same).1 inside)
+        c.in_ok-gather_at.ensures.ahead ((c.loop-time.invariant.came t same).1 inside) fleet shows t same
   ];
   here = λ fleet shows t inside lt. elim (cases_lt t c.loop-time.time) [
     | inl lower ↦ λ place not. place_on fleet _ _ _ _ (c.in_ok-gather_at.ensures.gathers fleet shows) t place (c.loop-time.invariant.here fleet shows t inside lower place not)
     | inr higher ↦
         let same : t ≡ c.loop-time.time = omega arith in
-        subst (λ (t : ℕ). HasHere fleet c.args.sight.now.agent t c.gather_at.new.entries.items) (sym same) (c.in_ok-gather_at.ensures.here fleet shows (c.has-goes.ensures.1 (subst (IsIn c.args.span.now) same inside)))
+        subst (λ (t : ℕ). HasHere fleet c.args.sight.now.agent t c.gather_at.new.entries.items) (sym same) (c.in_ok-gather_at.ensures.here (c.has-goes.ensures.1 (subst (IsIn c.args.span.now) same inside)) fleet shows)
   ];
 }
 

@@ -1,4 +1,4 @@
-use Rattle.std.proofs.Common.{◌≡◌, ◌↔◌, ℕ, ◌+◌, ◌<◌, ◌≤◌}
+use Rattle.std.proofs.Common.{◌≡◌, ◌↔◌, ℕ, ◌+◌, ◌<◌}
 use Rattle.std.specs.Prelude.{IsTrue}
 use Rattle.plan_table.specs.Route.{Fleet}
 use Rattle.conflict_ledger.specs.Sight.{Sees}

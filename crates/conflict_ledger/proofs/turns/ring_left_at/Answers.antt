@@ -7,13 +7,13 @@ use Rattle.conflict_ledger.proofs.turns.ring_left_at.Goals as goal
 use Rattle.conflict_ledger.proofs.turns.ring_left_at.Goals.{then-eq-via-then-eq, then-eq-via-else-eq+then-not-may_ring}
 
 pub returns-in_default-clause-has : goal.returns-in_default-clause-has
-returns-in_default-clause-has c fleet ring shows left = absurd (none-some left.cell (sym c.in_default.is ∙ c.own.ensures ∙ left.from))
+returns-in_default-clause-has c fleet shows ring left = absurd (none-some left.cell (sym c.in_default.is ∙ c.own.ensures ∙ left.from))
 
 pub returns-in_default-own-clause-has : goal.returns-in_default-own-clause-has
-returns-in_default-own-clause-has c fleet ring shows left = absurd (none-some left.to (sym c.in_default-own.is ∙ c.own-2.ensures ∙ left.arrives))
+returns-in_default-own-clause-has c fleet shows ring left = absurd (none-some left.to (sym c.in_default-own.is ∙ c.own-2.ensures ∙ left.arrives))
 
 pub returns-then-eq-clause-has : goal.returns-then-eq-clause-has
-returns-then-eq-clause-has c fleet ring shows left =
+returns-then-eq-clause-has c fleet shows ring left =
     let same : left.cell ≡ c.in-Some.cell = same_Some _ _ (sym left.from ∙ sym c.own.ensures ∙ c.in-Some.is) in
     elim c.then-eq.branch [
       | then-eq-via-then-eq w ↦
@@ -28,13 +28,13 @@ returns-in-Some-2-clause-only c fleet shows =
     rw c.new.ensures (record { cell = c.in-Some.cell; to = c.in-Some-own.to; from = sym c.own.ensures ∙ c.in-Some.is; arrives = sym c.own-2.ensures ∙ c.in-Some-own.is; moves = search rules; round = round }, refl)
 
 pub returns-in-Some-2-clause-has : goal.returns-in-Some-2-clause-has
-returns-in-Some-2-clause-has c fleet ring shows left =
+returns-in-Some-2-clause-has c fleet shows ring left =
     let same : left.cell ≡ c.in-Some.cell = same_Some _ _ (sym left.from ∙ sym c.own.ensures ∙ c.in-Some.is) in
     let found = c.in_ok-ring.ensures.only fleet ring shows (subst (λ (p : Point). IsRingAt fleet c.args.time p ring) same left.round) in
     let one : c.in-Some-2.ring ≡ ring = same_Some _ _ (sym c.in-Some-2.is ∙ found) in
     rw (c.new.ensures, one) refl
 
 pub returns-in-None-clause-has : goal.returns-in-None-clause-has
-returns-in-None-clause-has c fleet ring shows left =
+returns-in-None-clause-has c fleet shows ring left =
     let same : left.cell ≡ c.in-Some.cell = same_Some _ _ (sym left.from ∙ sym c.own.ensures ∙ c.in-Some.is) in
     absurd (none-some ring (sym c.in-None.is ∙ c.in_ok-ring.ensures.only fleet ring shows (subst (λ (p : Point). IsRingAt fleet c.args.time p ring) same left.round)))

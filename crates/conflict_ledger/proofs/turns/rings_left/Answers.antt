@@ -22,7 +22,7 @@ loop-entry-preserved c = record {
     | inr higher ↦
         let same : k ≡ c.loop-entry.entry-index = omega arith in
         let read : c.entry-item.result ≡ get_or c.args.entries.now k d = rw same (get_or_read c.args.entries.now c.loop-entry.entry-index c.entry-item.result (omega arith) c.entry-item.is d) in
-        c.in_ok-offer.ensures.has e (c.in_ok-found.ensures.has fleet other e shows beside left (sym at ∙ ap time_of (sym read)) (subst (λ (x : Conflict). MayTurn c.args.turn x c.args.with.now.agent) (sym read) may))
+        c.in_ok-offer.ensures.has e (c.in_ok-found.ensures.has fleet other shows beside e left (sym at ∙ ap time_of (sym read)) (subst (λ (x : Conflict). MayTurn c.args.turn x c.args.with.now.agent) (sym read) may))
   ];
 }
 

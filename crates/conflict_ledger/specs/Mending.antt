@@ -1,0 +1,29 @@
+-- How what is kept follows a change of one agent's route: words for the ledger's own steps (this project's choice).
+use Rattle.std.specs.Prelude.{◌≡◌, ℕ, Option, Some, None, List}
+use Rattle.plan_table.specs.Path.{last_index}
+use Rattle.plan_table.specs.Route.{Route, Fleet}
+use Rattle.where_index.specs.Index.{Contents, StandsFor, with_route}
+use Rattle.mapf_rules.specs.declared.entries.Conflict.{Conflict}
+use Rattle.conflict_ledger.specs.Change.{SameBut}
+use Rattle.conflict_ledger.specs.Kept.{HasEntries}
+use Rattle.conflict_ledger.specs.Sight.{Shows}
+use Rattle.conflict_ledger.specs.Spans.{Fits, HasEntriesIn, SameBeside}
+use Rattle.conflict_ledger.specs.declared.spans.Span.{Span}
+
+-- new has the entries of the fleet of the index, where that has the one route for the agent, and old those with the other one
+abbrev pub KeepsUp : Contents → ℕ → Option Route → Option Route → List Conflict → List Conflict → Type 0
+KeepsUp index agent was is old new = (fleet : Fleet) → StandsFor index fleet → fleet agent ≡ is → HasEntries old (with_route fleet agent was) → HasEntries new fleet
+
+-- at the span's times new has the entries of the fleet that the index shows with that route, and old those without it
+abbrev pub MendsAsComes : Contents → ℕ → Route → Span → List Conflict → List Conflict → Type 0
+MendsAsComes index agent route span old new =
+    (before after : Fleet) → Shows index agent None before → Shows index agent (Some route) after → SameBut before after agent → Fits span (last_index route.path) → HasEntriesIn span old before → HasEntriesIn span new after
+
+-- and the other way round
+abbrev pub MendsAsGoes : Contents → ℕ → Route → Span → List Conflict → List Conflict → Type 0
+MendsAsGoes index agent route span old new =
+    (before after : Fleet) → Shows index agent (Some route) before → Shows index agent None after → SameBut after before agent → Fits span (last_index route.path) → HasEntriesIn span old before → HasEntriesIn span new after
+
+-- of the entries at other times both have the same
+abbrev pub LeavesBeside : Contents → ℕ → Route → Span → List Conflict → List Conflict → Type 0
+LeavesBeside index agent route span old new = (fleet : Fleet) → Shows index agent (Some route) fleet → Fits span (last_index route.path) → SameBeside span old new
