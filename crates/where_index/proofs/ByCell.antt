@@ -11,7 +11,7 @@ use Rattle.grid_cells.specs.Cell.{Point}
 use Rattle.where_index.specs.declared.spot_sets.Spot.{Spot}
 use Rattle.where_index.specs.Spots.{Gains, Loses, IsWithin}
 use Rattle.where_index.specs.ByCell.{cell_eq, spots_at, gathered, all_of, AreByCell, GainsAt, LosesAt, HaveSame}
-use Rattle.where_index.proofs.Sets.{Contains-nil, Contains-cons_cases}
+use Rattle.plan_table.proofs.Order.{Contains-nil, Contains-cons_cases}
 
 -- ---- equal cells
 both_true : (a b : Bool) → (a && b) ≡ true → (a ≡ true) × (b ≡ true)

@@ -6,14 +6,13 @@ use Rattle.std.proofs.lemmas.Bool.Decides.{nat_tests}
 use Rattle.std.proofs.lemmas.List.{length-append}
 use Rattle.std.proofs.lemmas.List.Elements.{Contains-append_left, Contains-append_right, Contains-append_cases, Contains-get_or}
 use Rattle.std.proofs.lemmas.List.Kept.{AllPairs-cons}
-use Rattle.plan_table.proofs.Order.{AllPairs-head, AllPairs-tail}
+use Rattle.plan_table.proofs.Order.{AllPairs-head, AllPairs-tail, Contains-nil, Contains-cons_head, Contains-cons_tail, Contains-cons_cases}
 use Rattle.grid_cells.specs.Cell.{Point}
 use Rattle.plan_table.specs.Route.{Route}
 use Rattle.where_index.specs.declared.trails.Hop.{Hop}
 use Rattle.where_index.specs.Records.{stand_at, tail_at, hop_at, same_point, changed, changed_hop, changes_below, records_apart}
 use Rattle.where_index.specs.Counted.{Record, Stand, Tail, Move, TellsApart}
 use Rattle.where_index.specs.Laws.{RecordsAreCounted}
-use Rattle.where_index.proofs.Sets.{Contains-nil, Contains-head, Contains-tail, Contains-cons_cases}
 use Rattle.where_index.proofs.Standing.{stand_past, rest_past, hop_past}
 
 -- ---- lists without repetitions
@@ -32,9 +31,9 @@ once_both (x ∷ xs) ys once also apart =
     once_more x (xs ++ ys)
     (λ q h. elim (Contains-append_cases xs ys q h) [
       | inl first ↦ AllPairs-head (λ (a b : Record). a ≢ b) x xs once q first
-      | inr later ↦ apart x q (Contains-head x xs) later
+      | inr later ↦ apart x q (Contains-cons_head x xs) later
     ])
-    (once_both xs ys (AllPairs-tail (λ (a b : Record). a ≢ b) x xs once) also (λ a b h g. apart a b (Contains-tail x xs a h) g))
+    (once_both xs ys (AllPairs-tail (λ (a b : Record). a ≢ b) x xs once) also (λ a b h g. apart a b (Contains-cons_tail x xs a h) g))
 
 -- exactly one of the two is the value
 abbrev OneIs : {X : Type 0} → Option X → Option X → X → Type 0
@@ -66,7 +65,7 @@ module _ {X : Type 0} (mk : ℕ → X → Record) (times : (t s : ℕ) (v w : X)
       | inr a ↦
           let w : Some b ≡ Some h.0 = a.0 in
           let v : b ≡ h.0 = cc in
-          subst (λ q. Contains (mk t b ∷ []) q) (ap (mk t) v ∙ sym h.1) (Contains-head (mk t b) [])
+          subst (λ q. Contains (mk t b ∷ []) q) (ap (mk t) v ∙ sym h.1) (Contains-cons_head (mk t b) [])
     ]),
   )
   only_shows t (Some a) None r = (
@@ -78,7 +77,7 @@ module _ {X : Type 0} (mk : ℕ → X → Record) (times : (t s : ℕ) (v w : X)
       | inl b ↦
           let w : Some a ≡ Some h.0 = b.0 in
           let v : a ≡ h.0 = cc in
-          subst (λ q. Contains (mk t a ∷ []) q) (ap (mk t) v ∙ sym h.1) (Contains-head (mk t a) [])
+          subst (λ q. Contains (mk t a ∷ []) q) (ap (mk t) v ∙ sym h.1) (Contains-cons_head (mk t a) [])
       | inr b ↦ let w = b.0 in absurd (cc)
     ]),
   )
@@ -109,11 +108,11 @@ module _ {X : Type 0} (mk : ℕ → X → Record) (times : (t s : ℕ) (v w : X)
         | inl f ↦
             let w : Some a ≡ Some h.0 = f.0 in
             let v : a ≡ h.0 = cc in
-            subst (λ q. Contains (mk t a ∷ mk t b ∷ []) q) (ap (mk t) v ∙ sym h.1) (Contains-head (mk t a) (mk t b ∷ []))
+            subst (λ q. Contains (mk t a ∷ mk t b ∷ []) q) (ap (mk t) v ∙ sym h.1) (Contains-cons_head (mk t a) (mk t b ∷ []))
         | inr f ↦
             let w : Some b ≡ Some h.0 = f.0 in
             let v : b ≡ h.0 = cc in
-            subst (λ q. Contains (mk t a ∷ mk t b ∷ []) q) (ap (mk t) v ∙ sym h.1) (Contains-tail (mk t a) (mk t b ∷ []) (mk t b) (Contains-head (mk t b) []))
+            subst (λ q. Contains (mk t a ∷ mk t b ∷ []) q) (ap (mk t) v ∙ sym h.1) (Contains-cons_tail (mk t a) (mk t b ∷ []) (mk t b) (Contains-cons_head (mk t b) []))
       ]),
     )
 

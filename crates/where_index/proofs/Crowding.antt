@@ -13,7 +13,7 @@ use Rattle.where_index.specs.Records.{hop}
 use Rattle.where_index.specs.Moves.{PutsMove}
 use Rattle.where_index.specs.Changes.{set_at}
 use Rattle.where_index.specs.Crowds.{place, place_eq, crowd_at, Moves, IsCrowd, HasCrowds, ChangesAt, IsBeside, begun, IsJoined, IsLessened, IsLeft, HasFew}
-use Rattle.where_index.proofs.Sets.{Contains-nil, Contains-head, Contains-cons_cases}
+use Rattle.plan_table.proofs.Order.{Contains-nil, Contains-cons_head, Contains-cons_cases}
 use Rattle.where_index.proofs.Changes.{at_cases, set_here, set_there, none_some, some_one}
 
 -- ---- one place
@@ -70,7 +70,7 @@ module _ (old : List (Place × List Move)) where
 pub puts_beside : (one both : List Move) (other added : Move) → PutsMove [] one other → PutsMove one both added → PutsMove (other ∷ []) both added
 puts_beside one both other added first second m = (
   (λ h. elim ((second m).0 h) [
-    | inl o ↦ elim ((first m).0 o.0) [ inl n ↦ absurd (Contains-nil m n.0) | inr is ↦ inl (subst (λ q. Contains (other ∷ []) q) (sym is) (Contains-head other []), o.1) ]
+    | inl o ↦ elim ((first m).0 o.0) [ inl n ↦ absurd (Contains-nil m n.0) | inr is ↦ inl (subst (λ q. Contains (other ∷ []) q) (sym is) (Contains-cons_head other []), o.1) ]
     | inr is ↦ inr is
   ]),
   (λ h. elim h [
@@ -189,7 +189,7 @@ module _ (f : ℕ → ℕ → Option Hop) (agent time : ℕ) (leg : Hop) (absent
       | inr one ↦ (here apart m).1 (inr one)
     ]),
     (λ h. elim ((here apart m).0 h) [
-      | inl o ↦ (puts m).1 (inl (subst (λ q. Contains (b ∷ []) q) (is b m are o.0) (Contains-head b []), o.1))
+      | inl o ↦ (puts m).1 (inl (subst (λ q. Contains (b ∷ []) q) (is b m are o.0) (Contains-cons_head b []), o.1))
       | inr one ↦ (puts m).1 (inr one)
     ]),
   )

@@ -11,7 +11,7 @@ use Rattle.plan_table.specs.Order.{ComesBefore}
 use Rattle.where_index.specs.declared.spot_sets.Spot.{Spot}
 use Rattle.where_index.specs.declared.passings.Passing.{Passing}
 use Rattle.where_index.specs.Shown.{passing_cmp}
-use Rattle.where_index.proofs.Sets.{Contains-nil, Contains-head, Contains-tail, Contains-cons_cases}
+use Rattle.plan_table.proofs.Order.{Contains-nil, Contains-cons_head, Contains-cons_tail, Contains-cons_cases}
 use Rattle.where_index.proofs.SpotOrder.{then_equal, then_end, ascends}
 
 pub passing_total : IsTotalOrder passing_cmp
@@ -24,43 +24,46 @@ passing_exact a b e =
     let agents : a.agent ≡ b.agent = exact_unsigned _ _ parts.1 in
     λ i. record { time = times i; agent = agents i }
 
--- ---- what is gathered from spots, and what those that are left show
-module _ {K : Type 0} (f : Spot → K) where
-  abbrev pub Shows : List Spot → K → Type 0
-  Shows spots x = (s : Spot) × Contains spots s × (f s ≡ x)
+-- ---- what is gathered from spots, by what each shows, and what those that are left show
+module _ {K : Type 0} (R : Spot → K → Type 0) where
+  abbrev pub Show : List Spot → K → Type 0
+  Show spots x = (s : Spot) × Contains spots s × R s x
 
   abbrev pub Gathers : List K → List Spot → List Spot → List K → Type 0
-  Gathers old spots left now = (x : K) → (Contains now x ⊎ Shows left x) ↔ (Contains old x ⊎ Shows spots x)
+  Gathers old spots left now = (x : K) → (Contains now x ⊎ Show left x) ↔ (Contains old x ⊎ Show spots x)
 
   pub gathers_none : (old : List K) (spots left : List Spot) → left ≡ spots → Gathers old spots left old
-  gathers_none old spots left all x = subst (λ l. (Contains old x ⊎ Shows left x) ↔ (Contains old x ⊎ Shows l x)) all ((λ h. h), (λ h. h))
+  gathers_none old spots left all x = subst (λ l. (Contains old x ⊎ Show left x) ↔ (Contains old x ⊎ Show l x)) all ((λ h. h), (λ h. h))
 
-  pub gathers_more : (old now next : List K) (spots left rest : List Spot) (s : Spot) → left ≡ s ∷ rest → Gathers old spots left now → ((x : K) → Contains next x ↔ (Contains now x ⊎ (x ≡ f s))) → Gathers old spots rest next
-  gathers_more old now next spots left rest s steps inv gains x =
+  pub gathers_more : (old now next : List K) (spots left rest : List Spot) (s : Spot) (k : K) → left ≡ s ∷ rest → ((x : K) → R s x ↔ (k ≡ x)) → Gathers old spots left now → ((x : K) → Contains next x ↔ (Contains now x ⊎ (x ≡ k))) → Gathers old spots rest next
+  gathers_more old now next spots left rest s k steps shows inv gains x =
       let inv = subst (λ l. Gathers old spots l now) steps inv x in (
         (λ h. inv.0 (elim h [
-          | inl there ↦ elim ((gains x).0 there) [ inl before ↦ inl before | inr is ↦ inr (s, Contains-head s rest, sym is) ]
-          | inr w ↦ inr (w.0, Contains-tail s rest w.0 w.1, w.2)
+          | inl there ↦ elim ((gains x).0 there) [ inl before ↦ inl before | inr is ↦ inr (s, Contains-cons_head s rest, (shows x).1 (sym is)) ]
+          | inr w ↦ inr (w.0, Contains-cons_tail s rest w.0 w.1, w.2)
         ])),
         (λ h. elim (inv.1 h) [
           | inl before ↦ inl ((gains x).1 (inl before))
           | inr w ↦ elim (Contains-cons_cases s rest w.0 w.1) [
-            | inl is ↦ inl ((gains x).1 (inr (sym w.2 ∙ ap f (sym is))))
+            | inl is ↦ inl ((gains x).1 (inr (sym ((shows x).0 (subst (λ v. R v x) (sym is) w.2)))))
             | inr later ↦ inr (w.0, later, w.2)
           ]
         ]),
       )
 
-  pub gathers_all : (old now : List K) (spots left : List Spot) → left ≡ [] → Gathers old spots left now → (x : K) → Contains now x ↔ (Contains old x ⊎ Shows spots x)
-  gathers_all old now spots left done inv x = (
+  pub none_left : (left : List Spot) → left ≡ [] → (x : K) → Show left x → ⊥
+  none_left left done x w = Contains-nil w.0 (subst (λ (l : List Spot). Contains l w.0) done w.1)
+
+  pub gathers_all : (old now : List K) (spots left : List Spot) → ((x : K) → Show left x → ⊥) → Gathers old spots left now → (x : K) → Contains now x ↔ (Contains old x ⊎ Show spots x)
+  gathers_all old now spots left none inv x = (
     (λ h. (inv x).0 (inl h)),
-    (λ h. elim ((inv x).1 h) [ inl there ↦ there | inr w ↦ absurd (Contains-nil w.0 (subst (λ (l : List Spot). Contains l w.0) done w.1)) ]),
+    (λ h. elim ((inv x).1 h) [ inl there ↦ there | inr w ↦ absurd (none x w) ]),
   )
 
   -- two lists of spots gathered into an empty set
   pub gathers_two : (none one two : List K) (stands tails : List Spot) → none ≡ []
-      → ((x : K) → Contains one x ↔ (Contains none x ⊎ Shows stands x)) → ((x : K) → Contains two x ↔ (Contains one x ⊎ Shows tails x))
-      → (x : K) → Contains two x ↔ (Shows stands x ⊎ Shows tails x)
+      → ((x : K) → Contains one x ↔ (Contains none x ⊎ Show stands x)) → ((x : K) → Contains two x ↔ (Contains one x ⊎ Show tails x))
+      → (x : K) → Contains two x ↔ (Show stands x ⊎ Show tails x)
   gathers_two none one two stands tails empty g1 g2 x = (
     (λ h. elim ((g2 x).0 h) [
       | inl first ↦ elim ((g1 x).0 first) [ inl o ↦ absurd (Contains-nil x (subst (λ l. Contains l x) empty o)) | inr w ↦ inl w ]

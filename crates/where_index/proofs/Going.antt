@@ -40,7 +40,7 @@ goes_exact flows stands fleet time way counted has low = (
       record { agent = one.0; from = leg.0.from; to = leg.0.to; starts = parts.0; arrives = parts.1; turns = leg.2 },
   λ g.
       let is : all_of leg_at fleet g.agent time ≡ Some (hop g.from g.to) = hop_leg (fleet g.agent) time (hop g.from g.to) (of_hop (fleet g.agent) time g.from g.to g.starts g.arrives (turned way g.from g.to g.turns)) in
-      let few = (low (spot g.from time g.agent g.to) ((has (spot g.from time g.agent g.to)).1 is)).0 in
+      let few = (low (spot g.from time g.agent g.to) ((has (spot g.from time g.agent g.to)).1 is)) in
       let some = many-has passes (MOST_AGENT + 1) g.agent (omega (arith, few)) (ap (λ o. goes way o) is ∙ g.turns) in
       omega (arith, counted way time, some),
 ) where

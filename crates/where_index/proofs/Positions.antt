@@ -8,8 +8,8 @@ use Rattle.grid_cells.specs.Cell.{Point}
 use Rattle.plan_table.specs.Path.{last_index, place}
 use Rattle.plan_table.specs.Route.{Route, Fleet, position, position_of, last_of}
 use Rattle.where_index.specs.declared.spot_sets.Spot.{Spot}
-use Rattle.where_index.specs.Spots.{AreBetween, AreFrom, AreRising, spot, HasAt}
-use Rattle.where_index.specs.Shown.{HasAgent, HasPassing}
+use Rattle.where_index.specs.Spots.{AreFrom, AreRising, spot, HasAt}
+use Rattle.where_index.specs.Shown.{HasAgentBy, HasPassing}
 use Rattle.where_index.specs.Records.{route, stand_at, tail_at, hop_at, hop_between, hop, leg_between, leg_at, rest_at, same_point}
 use Rattle.where_index.specs.Changes.{HasSpots}
 use Rattle.where_index.specs.declared.trails.Hop.{Hop}
@@ -125,19 +125,19 @@ tails_show tails fleet has = show tail_at (λ r t. None) tails fleet has
 same_record : (f : ℕ → ℕ → Option Point) (s : Spot) (a time : ℕ) (cell : Point) → s.step.agent ≡ a → s.time ≡ time → s.cell ≡ cell → f s.step.agent s.time ≡ Some s.cell → f a time ≡ Some cell
 same_record f s a time cell x y z e = ap (λ q. f q time) (sym x) ∙ (ap (λ q. f s.step.agent q) (sym y) ∙ (e ∙ ap (λ (p : Point). Some p) z))
 
-pub standing_exact : (stands tails s1 s2 : List Spot) (fleet : Fleet) (cell : Point) (time : ℕ) → ShowCells stands (all_of stand_at fleet) → ShowCells tails (all_of tail_at fleet) → AreBetween stands cell time time s1 → AreBetween tails cell 0 time s2 → (a : ℕ) → (HasAgent s1 a ⊎ HasAgent s2 a) ↔ (position_of fleet a time ≡ Some cell)
+pub standing_exact : (stands tails s1 s2 : List Spot) (fleet : Fleet) (cell : Point) (time : ℕ) → ShowCells stands (all_of stand_at fleet) → ShowCells tails (all_of tail_at fleet) → AreFrom stands cell time s1 → AreFrom tails cell 0 s2 → (a : ℕ) → (HasAgentBy time s1 a ⊎ HasAgentBy time s2 a) ↔ (position_of fleet a time ≡ Some cell)
 standing_exact stands tails s1 s2 fleet cell time has_s has_r b1 b2 a = (
   (λ h. elim h [
-    | inl (s, within, is) ↦
+    | inl (s, within, (is, early)) ↦
         let inside = (b1 s).0 within in
-        stands_is time cell (fleet a) (same_record (all_of stand_at fleet) s a time cell is (omega (arith, inside.2, inside.3)) inside.1 (has_s.0 s inside.0))
-    | inr (s, within, is) ↦
+        stands_is time cell (fleet a) (same_record (all_of stand_at fleet) s a time cell is (omega (arith, inside.2)) inside.1 (has_s.0 s inside.0))
+    | inr (s, within, (is, early)) ↦
         let inside = (b2 s).0 within in
-        rests_is time cell s.time inside.3 (fleet a) (same_record (all_of tail_at fleet) s a s.time cell is refl inside.1 (has_r.0 s inside.0))
+        rests_is time cell s.time early (fleet a) (same_record (all_of tail_at fleet) s a s.time cell is refl inside.1 (has_r.0 s inside.0))
   ]),
   (λ h. elim (either_is time cell (fleet a) h) [
-    | inl stood ↦ let v = has_s.1 cell time a stood in inl (spot cell time a v.0, (b1 (spot cell time a v.0)).1 (v.1, refl, omega arith, omega arith), refl)
-    | inr w ↦ let v = has_r.1 cell w.0 a w.2 in inr (spot cell w.0 a v.0, (b2 (spot cell w.0 a v.0)).1 (v.1, refl, omega arith, w.1), refl)
+    | inl stood ↦ let v = has_s.1 cell time a stood in inl (spot cell time a v.0, (b1 (spot cell time a v.0)).1 (v.1, refl, omega arith), (refl, omega arith))
+    | inr w ↦ let v = has_r.1 cell w.0 a w.2 in inr (spot cell w.0 a v.0, (b2 (spot cell w.0 a v.0)).1 (v.1, refl, omega arith), (refl, w.1))
   ]),
 )
 

@@ -1,5 +1,5 @@
 -- Ordered sets and maps as lists of their keys.
-use Rattle.std.proofs.Common.{◌≡◌, ◌⊎◌, inl, inr, zero, suc, List, [], ◌∷◌, Contains, refl, sym, ap, ◌∙◌, subst, Bool, true, false, cond, arith, IsTrue}
+use Rattle.std.proofs.Common.{◌≡◌, ◌⊎◌, inl, inr, List, [], ◌∷◌, Contains, refl, sym, ap, ◌∙◌, subst, Bool, true, false, cond, IsTrue}
 use mathlib.Core.Logic.{◌↔◌}
 use Rattle.std.specs.List.{filter}
 use Rattle.std.specs.Cmp.{IsTotalOrder}
@@ -11,21 +11,9 @@ use Rattle.std.specs.BTreeSet.{BTreeSet}
 use Rattle.std.proofs.lemmas.Map.Lookups.{CmpEqualImpliesEq}
 use Rattle.std.proofs.lemmas.Map.Views.{btree_set_contains_iff}
 use Rattle.std.proofs.lemmas.Cmp.{tied_itself}
+use Rattle.plan_table.proofs.Order.{Contains-nil, Contains-cons_head, Contains-cons_tail, Contains-cons_cases}
 
 -- ---- what a filter keeps
-pub Contains-cons_cases : {X : Type 0} (x : X) (xs : List X) (y : X) → Contains (x ∷ xs) y → (x ≡ y) ⊎ Contains xs y
-Contains-cons_cases x xs y (zero, within, is) = inl is
-Contains-cons_cases x xs y (suc k, within, is) = inr (k, omega arith, is)
-
-pub Contains-nil : {X : Type 0} (x : X) → Contains [] x → ⊥
-Contains-nil x (k, within, is) = omega arith
-
-pub Contains-head : {X : Type 0} (x : X) (xs : List X) → Contains (x ∷ xs) x
-Contains-head x xs = (0, omega arith, refl)
-
-pub Contains-tail : {X : Type 0} (x : X) (xs : List X) (y : X) → Contains xs y → Contains (x ∷ xs) y
-Contains-tail x xs y (k, within, is) = (suc k, omega arith, is)
-
 bool_cases : (b : Bool) → (b ≡ true) ⊎ (b ≡ false)
 bool_cases true = inl refl
 bool_cases false = inr refl
@@ -39,18 +27,18 @@ filter_keeps p (x ∷ xs) y =
           let is : filter p (x ∷ xs) ≡ x ∷ filter p xs = ap (λ b. cond b (x ∷ filter p xs) (filter p xs)) passes in
           subst (λ l. Contains l y ↔ (Contains (x ∷ xs) y × (p y ≡ true))) (sym is) (
             (λ h. elim (Contains-cons_cases x (filter p xs) y h) [
-              | inl same ↦ (subst (λ v. Contains (x ∷ xs) v) same (Contains-head x xs), subst (λ v. p v ≡ true) same passes)
-              | inr more ↦ (Contains-tail x xs y (rest.0 more).0, (rest.0 more).1)
+              | inl same ↦ (subst (λ v. Contains (x ∷ xs) v) same (Contains-cons_head x xs), subst (λ v. p v ≡ true) same passes)
+              | inr more ↦ (Contains-cons_tail x xs y (rest.0 more).0, (rest.0 more).1)
             ]),
             (λ h. elim (Contains-cons_cases x xs y h.0) [
-              | inl same ↦ subst (λ v. Contains (x ∷ filter p xs) v) same (Contains-head x (filter p xs))
-              | inr more ↦ Contains-tail x (filter p xs) y (rest.1 (more, h.1))
+              | inl same ↦ subst (λ v. Contains (x ∷ filter p xs) v) same (Contains-cons_head x (filter p xs))
+              | inr more ↦ Contains-cons_tail x (filter p xs) y (rest.1 (more, h.1))
             ]),
           )
       | inr fails ↦
           let is : filter p (x ∷ xs) ≡ filter p xs = ap (λ b. cond b (x ∷ filter p xs) (filter p xs)) fails in
           subst (λ l. Contains l y ↔ (Contains (x ∷ xs) y × (p y ≡ true))) (sym is) (
-            (λ h. (Contains-tail x xs y (rest.0 h).0, (rest.0 h).1)),
+            (λ h. (Contains-cons_tail x xs y (rest.0 h).0, (rest.0 h).1)),
             (λ h. elim (Contains-cons_cases x xs y h.0) [
               | inl same ↦ let wrong : true ≡ false = sym h.1 ∙ (ap p (sym same) ∙ fails) in absurd (cc)
               | inr more ↦ rest.1 (more, h.1)

@@ -22,7 +22,7 @@ gathered sets (cell ∷ cells) = spots_at sets cell ++ gathered sets cells
 abbrev pub all_of : List (Point × List Spot) → List Spot
 all_of sets = gathered sets (keys_of sets)
 
--- each spot is kept at its own cell, has an agent's number, and goes to a cell that a map can have
+-- each spot is kept at its own cell, has an agent's number
 abbrev pub AreByCell : List (Point × List Spot) → Type 0
 AreByCell sets = (cell : Point) (s : Spot) → Contains (spots_at sets cell) s → (s.cell ≡ cell) × IsWithin s
 

@@ -1,5 +1,6 @@
 -- Records over time while they are changed: words for the program's own steps (this project's choice).
-use Rattle.std.specs.Prelude.{◌≡◌, ◌↔◌, ℕ, ◌&&◌, ◌==◌, nat_lt, if◌then◌else◌, Option, Some, List, Contains}
+use Rattle.std.specs.Prelude.{◌≡◌, ◌↔◌, ℕ, ◌+◌, ◌<◌, ◌≤◌, ◌&&◌, ◌==◌, nat_lt, if◌then◌else◌, Option, Some, List, Contains}
+use Rattle.plan_table.specs.declared.paths.TheConstants.{MOST_LAST_INDEX}
 use Rattle.plan_table.specs.Route.{Route}
 use Rattle.where_index.specs.declared.spot_sets.Spot.{Spot}
 use Rattle.where_index.specs.declared.trails.Hop.{Hop}
@@ -34,3 +35,10 @@ pub record HaveSameAt (old new : Route) (time : ℕ) : Type 0 where
   pub stands : stand_at old time ≡ stand_at new time
   pub tails : tail_at old time ≡ tail_at new time
   pub hops : hop_at old.path time ≡ hop_at new.path time
+
+-- the two routes have the same records but from one time to another, which is at most one after the greatest last index
+pub record DifferWithin (old new : Route) (from to : ℕ) : Type 0 where
+  pub range : from ≤ to
+  pub end : to ≤ MOST_LAST_INDEX + 1
+  pub same_before : (t : ℕ) → t < from → HaveSameAt old new t
+  pub same_after : (t : ℕ) → to ≤ t → HaveSameAt old new t

@@ -1,12 +1,11 @@
 -- Sets of spots, an agent in a cell at a time on its way to a cell: words for the program's own steps (this project's choice).
-use Rattle.std.specs.Prelude.{Bool, ◌≡◌, ◌≢◌, ◌⊎◌, ◌↔◌, ℕ, ◌<◌, ◌≤◌, List, Contains}
+use Rattle.std.specs.Prelude.{Bool, ◌≡◌, ◌≢◌, ◌⊎◌, ◌↔◌, ℕ, ◌≤◌, List, Contains}
 use Rattle.std.specs.List.{filter, AllPairs}
 use Rattle.std.specs.List.Sorted.{IsStrictlySortedBy}
 use Rattle.std.specs.Ordering.{nat_cmp, ordering_then, is_le}
 use Rattle.std.specs.declared.cmp.Ordering.{Ordering}
 use Rattle.grid_cells.specs.Cell.{Point, point}
 use Rattle.grid_cells.specs.declared.numbers.TheConstants.{MOST_AGENT}
-use Rattle.grid_cells.specs.declared.sizes.TheConstants.{MOST_SIDE}
 use Rattle.where_index.specs.declared.moves.Move.{Move}
 use Rattle.where_index.specs.declared.spot_sets.Spot.{Spot}
 
@@ -22,9 +21,9 @@ move_cmp a b = ordering_then (nat_cmp a.agent b.agent) (ordering_then (nat_cmp a
 abbrev pub spot_cmp : Spot → Spot → Ordering
 spot_cmp a b = ordering_then (ordering_then (nat_cmp a.cell.y b.cell.y) (nat_cmp a.cell.x b.cell.x)) (ordering_then (nat_cmp a.time b.time) (move_cmp a.step b.step))
 
--- the spot has an agent's number, and goes to a cell that a map can have
+-- the spot has an agent's number
 abbrev pub IsWithin : Spot → Type 0
-IsWithin s = (s.step.agent ≤ MOST_AGENT) × (s.step.to.x < MOST_SIDE) × (s.step.to.y < MOST_SIDE)
+IsWithin s = s.step.agent ≤ MOST_AGENT
 
 abbrev pub AreWithin : List Spot → Type 0
 AreWithin spots = (s : Spot) → Contains spots s → IsWithin s
@@ -40,14 +39,6 @@ Gains {X} old new added = (x : X) → Contains new x ↔ (Contains old x ⊎ (x 
 -- new has the elements of old but for that one
 abbrev pub Loses : {X : Type 0} → List X → List X → X → Type 0
 Loses {X} old new lost = (x : X) → Contains new x ↔ (Contains old x × (x ≡ lost → ⊥))
-
--- one of the spots, at the cell and from one time to another
-abbrev pub IsBetween : List Spot → Point → ℕ → ℕ → Spot → Type 0
-IsBetween all cell from to s = Contains all s × (s.cell ≡ cell) × (from ≤ s.time) × (s.time ≤ to)
-
--- the spots at the cell from one time to another
-abbrev pub AreBetween : List Spot → Point → ℕ → ℕ → List Spot → Type 0
-AreBetween all cell from to found = (s : Spot) → Contains found s ↔ IsBetween all cell from to s
 
 -- of those in order, the ones from that cell and time on
 abbrev pub starts : Point → ℕ → Spot → Bool

@@ -3,7 +3,8 @@ ghost use Rattle.std.specs.Ordering.{nat_cmp};
 ghost use Rattle.std.specs.List.Sorted.{IsStrictlySortedBy};
 ghost use Rattle.plan_table.specs.Order.{ListsAll};
 ghost use Rattle.where_index.specs.declared.passings.Passing.{Passing};
-ghost use Rattle.where_index.specs.Shown.{HasAgent, HasPassing, passing_cmp};
+ghost use Rattle.where_index.specs.Spots.{AreRising};
+ghost use Rattle.where_index.specs.Shown.{HasAgentBy, AreAgentsBy, HasPassing, passing_cmp};
 
 use crate::passings::Passing;
 use crate::spot_sets::Spot;
@@ -12,17 +13,18 @@ use std::alloc::Global;
 use std::collections::BTreeSet;
 use std::collections::btree_set::Range;
 
-/// The agents of the spots in either list, ascending.
+/// The agents of the spots in either list up to a time, ascending.
 pub fn agents_of(
     alloc: Global,
     stands: Range<'_, Spot>,
     tails: Range<'_, Spot>,
+    time: u32,
 ) -> Result<List<Agent>, OutOfMemory>
-    ensures { IfOk result (ListsAll (λ a. a ∷ []) (λ a. HasAgent stands.entry a ⊎ HasAgent tails.entry a)) }
+    ensures { IfOk result (λ agents. AreRising stands.entry → AreRising tails.entry → AreAgentsBy time stands.entry tails.entry agents) }
 {
     let mut found = BTreeSet::new(alloc);
-    gather_agents(&mut found, stands)?;
-    gather_agents(&mut found, tails)?;
+    gather_agents(&mut found, stands, time)?;
+    gather_agents(&mut found, tails, time)?;
     listed_agents(alloc, &found)
 }
 
@@ -40,11 +42,18 @@ pub fn passings_of(
     listed_passings(alloc, &found)
 }
 
-// Puts the spots' agents into the set.
-fn gather_agents(found: &mut BTreeSet<Agent>, spots: Range<'_, Spot>) -> Result<(), OutOfMemory>
-    ensures { OnOk result ((a : ℕ) → Contains found.new.keys a ↔ (Contains found.old.keys a ⊎ HasAgent spots.entry a)) }
+// Puts the agents of the spots up to the time into the set. It stops at the first one after it.
+fn gather_agents(
+    found: &mut BTreeSet<Agent>,
+    spots: Range<'_, Spot>,
+    time: u32,
+) -> Result<(), OutOfMemory>
+    ensures { OnOk result (AreRising spots.entry → (a : ℕ) → Contains found.new.keys a ↔ (Contains found.old.keys a ⊎ HasAgentBy time spots.entry a)) }
 {
     for spot in spots {
+        if spot.time > time {
+            return Ok(());
+        }
         found.insert(spot.step.agent)?;
     }
     Ok(())

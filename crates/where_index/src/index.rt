@@ -1,10 +1,9 @@
-ghost use Rattle.std.specs.Prelude.{◌≡◌, ℕ, ◌+◌, ◌^◌, ◌<◌, ◌≤◌, min, max, Option, Some, None, OnOk, IfOk};
+ghost use Rattle.std.specs.Prelude.{◌≡◌, ℕ, ◌+◌, ◌<◌, ◌≤◌, min, max, Option, Some, None, OnOk, IfOk};
 ghost use Rattle.std.specs.Option.{unwrap_or};
-ghost use Rattle.plan_table.specs.declared.paths.TheConstants.{MOST_LAST_INDEX};
 ghost use Rattle.plan_table.specs.Path.{last_index};
 ghost use Rattle.plan_table.specs.Route.{Route, Fleet, position, last_of, route_of};
 ghost use Rattle.where_index.specs.Records.{nothing, apart_below, records_apart};
-ghost use Rattle.where_index.specs.Changes.{HaveSameAt};
+ghost use Rattle.where_index.specs.Changes.{DifferWithin};
 ghost use Rattle.where_index.specs.Ends.{IsEndOfRoute};
 ghost use Rattle.where_index.specs.Index.{StandsFor, with_route};
 ghost use Rattle.where_index.specs.Asked.{CountsAgents};
@@ -136,10 +135,7 @@ impl WhereIndex {
         from: u32,
         to: u32,
     ) -> Result<(), OutOfMemory>
-        requires range { from ≤ to }
-        requires bound { to ≤ MOST_LAST_INDEX + 1 }
-        requires same_before { (t : ℕ) → t < from → HaveSameAt old.now new.now t }
-        requires same_after { (t : ℕ) → to ≤ t → HaveSameAt old.now new.now t }
+        requires within { DifferWithin old.now new.now from to }
         requires end { IsEndOfRoute end new.now }
         ensures stands { OnOk result ((fleet : Fleet) (was : Option Route) → StandsFor self.old fleet → fleet agent ≡ was → old.now ≡ unwrap_or was nothing → StandsFor self.new (with_route fleet agent (Some new.now))) }
         ensures horizon { OnOk result (self.new.horizon ≡ max self.old.horizon end.last) }

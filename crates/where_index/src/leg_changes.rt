@@ -1,7 +1,6 @@
-ghost use Rattle.std.specs.Prelude.{◌≡◌, ℕ, ◌+◌, ◌*◌, ◌<◌, ◌≤◌, length, None, OnOk, IsOk, IfOk};
-ghost use Rattle.plan_table.specs.declared.paths.TheConstants.{MOST_LAST_INDEX};
+ghost use Rattle.std.specs.Prelude.{◌≡◌, ◌+◌, ◌*◌, ◌≤◌, length, None, OnOk, IsOk, IfOk};
 ghost use Rattle.where_index.specs.Records.{stand_at, hop_at, leg_at, leg_between, changed, changed_hop, legs_apart};
-ghost use Rattle.where_index.specs.Changes.{HaveSameAt};
+ghost use Rattle.where_index.specs.Changes.{DifferWithin};
 ghost use Rattle.where_index.specs.Traffic.{ChangesLegs, ChangesLeg};
 
 use crate::tail_changes::count_of;
@@ -19,10 +18,7 @@ pub fn change_legs(
     from: u32,
     to: u32,
 ) -> Result<u32, OutOfMemory>
-    requires range { from ≤ to }
-    requires end { to ≤ MOST_LAST_INDEX + 1 }
-    requires same_before { (t : ℕ) → t < from → HaveSameAt old.now new.now t }
-    requires same_after { (t : ℕ) → to ≤ t → HaveSameAt old.now new.now t }
+    requires { DifferWithin old.now new.now from to }
     ensures set { OnOk result (ChangesLegs traffic.old traffic.new agent (leg_at old.now) (leg_at new.now)) }
     ensures free { length new.now.path ≡ 0 → IsOk result }
     ensures few { IfOk result (λ n. n ≤ 4 * to) }

@@ -20,9 +20,9 @@ impl WhereIndex {
         ensures { IfOk result (λ agents. (fleet : Fleet) → StandsFor self.now fleet → AreStandingAt fleet step cell agents) }
     {
         let time = step.number();
-        let stands = self.records.traffic.stands.between(cell, time, time);
-        let tails = self.records.tails.between(cell, 0, time);
-        agents_of(self.alloc, stands, tails)
+        let stands = self.records.traffic.stands.from(cell, time);
+        let tails = self.records.tails.from(cell, 0);
+        agents_of(self.alloc, stands, tails, time)
     }
 
     /// Who is in the cell at some step from one on. It takes no memory.

@@ -1,7 +1,6 @@
-ghost use Rattle.std.specs.Prelude.{◌≡◌, ℕ, ◌+◌, ◌<◌, ◌≤◌, length, None, OnOk, IsOk, IfOk, []};
-ghost use Rattle.plan_table.specs.declared.paths.TheConstants.{MOST_LAST_INDEX};
+ghost use Rattle.std.specs.Prelude.{◌≡◌, length, None, OnOk, IsOk, IfOk, []};
 ghost use Rattle.where_index.specs.Records.{leg_at, rest_at, apart_below};
-ghost use Rattle.where_index.specs.Changes.{ChangesSpots, HaveSameAt};
+ghost use Rattle.where_index.specs.Changes.{ChangesSpots, DifferWithin};
 ghost use Rattle.where_index.specs.Traffic.{HasTraffic, ChangesLegs};
 
 use crate::leg_changes::change_legs;
@@ -41,10 +40,7 @@ impl Records {
         from: u32,
         to: u32,
     ) -> Result<u32, OutOfMemory>
-        requires range { from ≤ to }
-        requires end { to ≤ MOST_LAST_INDEX + 1 }
-        requires same_before { (t : ℕ) → t < from → HaveSameAt old.now new.now t }
-        requires same_after { (t : ℕ) → to ≤ t → HaveSameAt old.now new.now t }
+        requires { DifferWithin old.now new.now from to }
         ensures traffic { OnOk result (ChangesLegs self.old.traffic self.new.traffic agent (leg_at old.now) (leg_at new.now)) }
         ensures tails { OnOk result (ChangesSpots self.old.tails self.new.tails agent (rest_at old.now) (rest_at new.now)) }
         ensures free { length new.now.path ≡ 0 → IsOk result }

@@ -1,11 +1,10 @@
-ghost use Rattle.std.specs.Prelude.{◌≡◌, ◌↔◌, ◌-◌, ◌≤◌, [], OnOk, OnErr, IsTrue};
+ghost use Rattle.std.specs.Prelude.{◌≡◌, ◌↔◌, [], OnOk, OnErr, IsTrue};
 ghost use Rattle.std.specs.Bool.{OnTrue};
 ghost use Rattle.grid_cells.specs.Cell.{point};
-ghost use Rattle.grid_cells.specs.declared.sizes.TheConstants.{MOST_SIDE};
-ghost use Rattle.where_index.specs.Spots.{spot, Gains, Loses, AreBetween, IsFrom, HasAt};
+ghost use Rattle.where_index.specs.Spots.{spot, Gains, Loses, IsFrom, HasAt};
 
 use crate::moves::Move;
-use grid_cells::{Agent, Cell, MOST_SIDE, OutOfMemory};
+use grid_cells::{Agent, Cell, OutOfMemory};
 use std::alloc::Global;
 use std::collections::BTreeSet;
 use std::collections::btree_set::Range;
@@ -29,13 +28,10 @@ pub struct SpotSet {
 impl Model for SpotSet {
     ghost use Rattle.std.specs.Prelude.{List};
     ghost use Rattle.where_index.specs.declared.spot_sets.Spot.{Spot};
-    ghost use Rattle.where_index.specs.Spots.{AreWithin};
 
     ghost Value = { List Spot };
 
     ghost view = { λ s. s.spots.keys };
-
-    ghost invariant = { λ s. AreWithin s.spots.keys };
 }
 
 impl SpotSet {
@@ -53,9 +49,6 @@ impl SpotSet {
         ensures gains { OnOk result (Gains self.old self.new spot) }
         ensures refused { OnErr result (self.new ≡ self.old) }
     {
-        let step = spot.step;
-        let _number = step.agent.number();
-        let (_x, _y) = (step.to.x(), step.to.y());
         self.spots.insert(spot)?;
         Ok(())
     }
@@ -87,17 +80,6 @@ impl SpotSet {
         self.spots
             .range(spot_of(cell, time, Agent::LEAST, least_cell())..)
     }
-
-    /// The spots at the cell from one time to another, in order.
-    pub fn between(&self, cell: Cell, from: u32, to: u32) -> Range<'_, Spot>
-        requires { from ≤ to }
-        ensures { AreBetween self.now cell from to result }
-    {
-        let _spots = &self.spots;
-        let low = spot_of(cell, from, Agent::LEAST, least_cell());
-        let high = spot_of(cell, to, Agent::GREATEST, greatest_cell());
-        self.spots.range(low..=high)
-    }
 }
 
 // The agent at the cell at the time, on its way to another.
@@ -123,16 +105,6 @@ fn least_cell() -> Cell
     ensures { result ≡ point 0 0 }
 {
     match Cell::new(0, 0) {
-        Some(cell) => cell,
-        None => unreachable!(),
-    }
-}
-
-// The cell that no other comes after.
-fn greatest_cell() -> Cell
-    ensures { result ≡ point (MOST_SIDE - 1) (MOST_SIDE - 1) }
-{
-    match Cell::new(MOST_SIDE - 1, MOST_SIDE - 1) {
         Some(cell) => cell,
         None => unreachable!(),
     }

@@ -1,7 +1,7 @@
-ghost use Rattle.std.specs.Prelude.{◌≡◌, ◌↔◌, ◌≤◌, [], OnOk, OnErr, IfSome, IfNone, IsTrue};
+ghost use Rattle.std.specs.Prelude.{◌≡◌, ◌↔◌, [], OnOk, OnErr, IfSome, IfNone, IsTrue};
 ghost use Rattle.std.specs.Bool.{OnTrue};
 ghost use Rattle.where_index.specs.declared.moves.Move.{Move};
-ghost use Rattle.where_index.specs.Spots.{Gains, Loses, AreBetween, AreFrom, AreRising, HasAt, IsMover, AreWithin};
+ghost use Rattle.where_index.specs.Spots.{Gains, Loses, AreFrom, AreRising, HasAt, IsMover, AreWithin};
 ghost use Rattle.where_index.specs.ByCell.{spots_at, GainsAt, LosesAt, HaveSame};
 
 use crate::moves::Move;
@@ -54,7 +54,6 @@ impl Spots {
     {
         let step = spot.step;
         let _number = step.agent.number();
-        let (_x, _y) = (step.to.x(), step.to.y());
         add_in(&mut self.sets, self.alloc, spot)?;
         Ok(())
     }
@@ -75,19 +74,11 @@ impl Spots {
         set_at(&self.sets, &self.none, cell).has(cell, time, agent)
     }
 
-    /// The spots are of agents that have a number, and of cells of a map.
+    /// The spots are of agents that have a number.
     pub fn are_within(&self)
         ensures { AreWithin self.now }
     {
         let _sets = &self.sets;
-    }
-
-    /// The spots at the cell from one time to another, by time, then agent.
-    pub fn between(&self, cell: Cell, from: u32, to: u32) -> Range<'_, Spot>
-        requires { from ≤ to }
-        ensures { AreBetween self.now cell from to result }
-    {
-        set_at(&self.sets, &self.none, cell).between(cell, from, to)
     }
 
     /// The spots at the cell from one time on, by time, then agent.

@@ -1,9 +1,8 @@
 use Rattle.std.proofs.Common.{◌+◌, ◌<◌, ◌≤◌, suc, List, Contains, inl, inr, sym, subst, arith}
-use Rattle.plan_table.proofs.Order.{AllPairs-tail}
+use Rattle.plan_table.proofs.Order.{AllPairs-tail, Contains-cons_cases, Contains-cons_head, Contains-cons_tail, Contains-nil}
 use Rattle.plan_table.specs.Route.{Fleet}
 use Rattle.where_index.specs.Spots.{AreRising}
 use Rattle.where_index.specs.declared.spot_sets.Spot.{Spot}
-use Rattle.where_index.proofs.Sets.{Contains-cons_cases, Contains-head, Contains-tail, Contains-nil}
 use Rattle.conflict_ledger.specs.Sight.{Sees}
 use Rattle.conflict_ledger.specs.Gathering.{IsStop, AreShowing, HasSeen}
 use Rattle.conflict_ledger.proofs.Gathers.{gathers_nothing, gathers_on}
@@ -22,9 +21,9 @@ loop-spot-init c =
 pub loop-spot-preserved : goal.loop-spot-preserved
 loop-spot-preserved c =
     let seen : Spot = c.in-Some.spot.now in
-    let in_left : Contains c.args.spots seen = c.loop-spot.invariant.left seen (subst (λ (l : List Spot). Contains l seen) (sym c.in-Some.ensures.steps) (Contains-head seen c.next.new.self)) in
+    let in_left : Contains c.args.spots seen = c.loop-spot.invariant.left seen (subst (λ (l : List Spot). Contains l seen) (sym c.in-Some.ensures.steps) (Contains-cons_head seen c.next.new.self)) in
     let both = λ (fleet : Fleet) (shows : Sees c.args.sight.now fleet) (is : IsStop fleet c.args.sight.now.agent c.args.stop.now) (showing : AreShowing fleet c.args.sight.now.agent c.args.stop.now.here c.args.lasting c.args.spots). gathers_on fleet _ _ _ _ _ (c.in_ok-offer_ahead.ensures.gathers fleet shows is (showing seen in_left)) (c.in_ok-offer_here.ensures.gathers fleet shows is (showing seen in_left)) in record {
-      left = λ s h. c.loop-spot.invariant.left s (subst (λ (l : List Spot). Contains l s) (sym c.in-Some.ensures.steps) (Contains-tail seen c.next.new.self s h));
+      left = λ s h. c.loop-spot.invariant.left s (subst (λ (l : List Spot). Contains l s) (sym c.in-Some.ensures.steps) (Contains-cons_tail seen c.next.new.self s h));
       rising = λ rising. AllPairs-tail (λ (a b : Spot). a.time ≤ b.time) seen c.next.new.self (subst AreRising c.in-Some.ensures.steps (c.loop-spot.invariant.rising rising));
       gathers = λ fleet shows is showing. gathers_on fleet _ _ _ _ _ (c.loop-spot.invariant.gathers fleet shows is showing) (both fleet shows is showing);
       has = λ fleet shows is showing s h. elim (c.loop-spot.invariant.has fleet shows is showing s h) [

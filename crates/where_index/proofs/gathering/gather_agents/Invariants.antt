@@ -1,6 +1,10 @@
-use Rattle.where_index.specs.declared.spot_sets.Spot.{Spot}
+use Rattle.where_index.specs.Shown.{IsBy}
+use Rattle.where_index.specs.Spots.{AreRising}
 use Rattle.where_index.proofs.Gathered.{Gathers}
 use Rattle.where_index.proofs.gathering.gather_agents.Given as goal
 
 abbrev pub invariant-loop-spot : goal.invariant-loop-spot
-invariant-loop-spot l = Gathers (λ (s : Spot). s.step.agent) l.fn.found.keys l.fn.spots l.spot-iterator l.found.keys
+invariant-loop-spot l = record {
+  rising : AreRising l.fn.spots → AreRising l.spot-iterator;
+  gathers : Gathers (IsBy l.time) l.fn.found.keys l.fn.spots l.spot-iterator l.found.keys;
+}

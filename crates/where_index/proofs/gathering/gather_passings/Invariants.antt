@@ -1,6 +1,6 @@
-use Rattle.where_index.specs.Shown.{passing_of}
+use Rattle.where_index.specs.Shown.{IsPassing}
 use Rattle.where_index.proofs.Gathered.{Gathers}
 use Rattle.where_index.proofs.gathering.gather_passings.Given as goal
 
 abbrev pub invariant-loop-spot : goal.invariant-loop-spot
-invariant-loop-spot l = Gathers passing_of l.fn.found.keys l.fn.spots l.spot-iterator l.found.keys
+invariant-loop-spot l = Gathers IsPassing l.fn.found.keys l.fn.spots l.spot-iterator l.found.keys

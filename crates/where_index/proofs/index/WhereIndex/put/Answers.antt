@@ -4,10 +4,15 @@ use Rattle.where_index.specs.Records.{nothing}
 use Rattle.where_index.proofs.Standing.{same_past}
 use Rattle.where_index.proofs.index.WhereIndex.put.Goals as goal
 
-pub replace-requires-clause-same_after : goal.replace-requires-clause-same_after
-replace-requires-clause-same_after c = λ t h.
+pub replace-requires-clause-within : goal.replace-requires-clause-within
+replace-requires-clause-within c =
     let some_cell = c.of-trail.ensures.path.walkable.some_cell in
-    rw (c.none.ensures, c.of-trail.ensures.is) (same_past nothing (route_of c.args.track) (c.last-to.result + 1) t (omega arith) (omega (arith, c.last-to.ensures.is)) h)
+    record {
+      range = omega arith;
+      end = omega arith;
+      same_before = λ t h. absurd (omega arith);
+      same_after = λ t h. rw (c.none.ensures, c.of-trail.ensures.is) (same_past nothing (route_of c.args.track) (c.last-to.result + 1) t (omega arith) (omega (arith, c.last-to.ensures.is)) h);
+    }
 
 pub returns-in-Ok-clause-stands : goal.returns-in-Ok-clause-stands
 returns-in-Ok-clause-stands c = λ fleet has was. rw (← c.of-trail.ensures.is) (c.in-Ok.ensures.stands fleet _ has was c.none.ensures)

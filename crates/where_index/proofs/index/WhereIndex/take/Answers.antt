@@ -4,10 +4,15 @@ use Rattle.where_index.specs.Records.{nothing}
 use Rattle.where_index.proofs.Standing.{same_past, stands_next}
 use Rattle.where_index.proofs.index.WhereIndex.take.Goals as goal
 
-pub replace-changed-requires-clause-same_after : goal.replace-changed-requires-clause-same_after
-replace-changed-requires-clause-same_after c = λ t h.
+pub replace-changed-requires : goal.replace-changed-requires
+replace-changed-requires c =
     let walkable = c.of-trail.ensures.path.walkable in
-    rw (c.none.ensures, c.of-trail.ensures.is) (same_past (route_of c.args.track) nothing (c.last-last.result + 1) t (omega (arith, walkable.some_cell, c.last-last.ensures.is)) (omega arith) h)
+    record {
+      range = omega arith;
+      end = omega arith;
+      same_before = λ t h. absurd (omega arith);
+      same_after = λ t h. rw (c.none.ensures, c.of-trail.ensures.is) (same_past (route_of c.args.track) nothing (c.last-last.result + 1) t (omega (arith, walkable.some_cell, c.last-last.ensures.is)) (omega arith) h);
+    }
 
 pub returns-clause-stands : goal.returns-clause-stands
 returns-clause-stands c = λ fleet has was.

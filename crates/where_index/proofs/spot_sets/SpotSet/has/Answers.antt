@@ -3,7 +3,8 @@ use Rattle.std.specs.List.{filter}
 use Rattle.grid_cells.specs.Cell.{point}
 use Rattle.where_index.specs.declared.spot_sets.Spot.{Spot}
 use Rattle.where_index.specs.Spots.{spot}
-use Rattle.where_index.proofs.Sets.{Contains-head, filter_keeps}
+use Rattle.plan_table.proofs.Order.{Contains-cons_head}
+use Rattle.where_index.proofs.Sets.{filter_keeps}
 use Rattle.where_index.proofs.SpotOrder.{unbounded, from_place, first_there, none_there}
 use Rattle.where_index.proofs.spot_sets.SpotSet.has.Goals as goal
 
@@ -19,7 +20,7 @@ returns-in-Some c =
     let is = all ∙ (unbounded (spot c.args.cell c.args.time c.args.agent (point 0 0)) c.self.inside.spots.keys ∙ ap (λ (l : List Spot). filter (from_place [] c.args.cell c.args.time c.args.agent) l) c.self.view_is) in
     let s = c.in-Some.first.now in
     let steps = sym is ∙ c.in-Some.ensures.steps in
-    let kept = ((filter_keeps (from_place [] c.args.cell c.args.time c.args.agent) c.args.self.now s).0 (subst (λ (l : List Spot). Contains l s) (sym steps) (Contains-head s c.next.new.self))).0 in (
+    let kept = ((filter_keeps (from_place [] c.args.cell c.args.time c.args.agent) c.args.self.now s).0 (subst (λ (l : List Spot). Contains l s) (sym steps) (Contains-cons_head s c.next.new.self))).0 in (
       (λ h. (s.step.to, subst (λ q. Contains c.args.self.now q) (c.is_there.ensures.0 h) kept)),
       (λ w.
           let at = first_there c.args.self.now c.args.cell c.args.time c.args.agent s c.next.new.self (rw (← c.self.view_is) c.range.ensures.ordered) steps w in

@@ -4,6 +4,3 @@ use Rattle.where_index.proofs.spot_sets.SpotSet.lose.Goals as goal
 
 pub returns-clause-loses : goal.returns-clause-loses
 returns-clause-loses c = rw (← c.self.view_is) (set_loses spot_total spot_exact _ _ _ c.remove.ensures.updates)
-
-pub invariant_of-self : goal.invariant_of-self
-invariant_of-self c = λ s h. c.self.invariant s ((set_loses spot_total spot_exact _ _ _ c.remove.ensures.updates s).0 h).0

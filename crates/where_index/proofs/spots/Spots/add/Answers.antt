@@ -8,10 +8,10 @@ invariant_of-self c = (c.self.invariant.0, still _ _ c.self.invariant.1 c.in_err
 
 pub invariant_of-self-2 : goal.invariant_of-self-2
 invariant_of-self-2 c =
-    let within : IsWithin c.args.spot = (omega arith, omega arith, omega arith) in
+    let within : IsWithin c.args.spot = omega arith in
     (c.self.invariant.0, still_gained _ _ c.self.invariant.1 c.args.spot within c.in_ok-add_in.ensures.gains)
 
 pub returns : goal.returns
 returns c =
-    let within : IsWithin c.args.spot = (omega arith, omega arith, omega arith) in
+    let within : IsWithin c.args.spot = omega arith in
     rw (← c.self.view_is) (all_gained _ _ c.self.invariant.1 c.args.spot within c.in_ok-add_in.ensures.gains)

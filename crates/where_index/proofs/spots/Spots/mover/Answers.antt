@@ -1,10 +1,10 @@
-use Rattle.std.proofs.Common.{◌≡◌, ◌≤◌, suc, List, Contains, refl, sym, ap, ◌∙◌, subst, arith, inl, inr, not, Bool, true, false}
+use Rattle.std.proofs.Common.{◌≡◌, ◌≤◌, List, Contains, refl, sym, ap, ◌∙◌, subst, arith, inl, inr, not, Bool, true, false}
 use Rattle.where_index.specs.declared.spot_sets.Spot.{Spot}
 use Rattle.where_index.specs.Spots.{spot, AreRising}
-use Rattle.plan_table.proofs.Order.{AllPairs-tail}
+use Rattle.plan_table.proofs.Order.{AllPairs-tail, Contains-nil, Contains-cons_head, Contains-cons_tail, Contains-cons_cases}
 use Rattle.where_index.specs.ByCell.{cell_eq}
 use Rattle.where_index.proofs.ByCell.{cell_exact, apart_from}
-use Rattle.where_index.proofs.Sets.{Contains-nil, Contains-head, Contains-tail, Contains-cons_cases}
+use Rattle.where_index.proofs.SpotOrder.{first_least}
 use Rattle.where_index.proofs.spots.Spots.mover.Goals as goal
 
 negated : (b : Bool) → not b ≡ true → b ≡ false
@@ -27,7 +27,7 @@ loop-spot-init c =
 pub returns-then-ne-clause-some : goal.returns-then-ne-clause-some
 returns-then-ne-clause-some c =
     let s = c.in-Some.spot.now in
-    let is = c.loop-spot.invariant.only s (subst (λ (l : List Spot). Contains l s) (sym c.in-Some.ensures.steps) (Contains-head s c.next.new.self)) in
+    let is = c.loop-spot.invariant.only s (subst (λ (l : List Spot). Contains l s) (sym c.in-Some.ensures.steps) (Contains-cons_head s c.next.new.self)) in
     let times : s.time ≡ c.args.time = c.if-spot-time.false in
     let one : s ≡ spot c.args.cell c.args.time s.step.agent s.step.to = λ i. record { cell = is.1 i; time = times i; step = s.step } in
     (subst (λ q. Contains c.args.self.now q) one is.0, apart_from s.step.to c.args.cell (negated (cell_eq s.step.to c.args.cell) (sym c.ne.ensures ∙ c.if-ne.true)))
@@ -36,7 +36,7 @@ pub loop-spot-preserved : goal.loop-spot-preserved
 loop-spot-preserved c =
     let s = c.in-Some.spot.now in
     record {
-      only = λ q h. c.loop-spot.invariant.only q (subst (λ (l : List Spot). Contains l q) (sym c.in-Some.ensures.steps) (Contains-tail s c.next.new.self q h));
+      only = λ q h. c.loop-spot.invariant.only q (subst (λ (l : List Spot). Contains l q) (sym c.in-Some.ensures.steps) (Contains-cons_tail s c.next.new.self q h));
       rising = AllPairs-tail (λ (a b : Spot). a.time ≤ b.time) s c.next.new.self (subst AreRising c.in-Some.ensures.steps c.loop-spot.invariant.rising);
       left = λ step h.
           let q = spot c.args.cell c.args.time step.agent step.to in
@@ -53,11 +53,6 @@ pub returns-then-spot-time-clause-none : goal.returns-then-spot-time-clause-none
 returns-then-spot-time-clause-none c = λ step h.
     let s = c.in-Some.spot.now in
     let v = spot c.args.cell c.args.time step.agent step.to in
-    let is = c.loop-spot.invariant.only s (subst (λ (l : List Spot). Contains l s) (sym c.in-Some.ensures.steps) (Contains-head s c.next.new.self)) in
-    elim (Contains-cons_cases s c.next.new.self v (subst (λ (l : List Spot). Contains l v) c.in-Some.ensures.steps (c.loop-spot.invariant.left step h))) [
-      | inl same ↦ absurd (c.if-spot-time.true (ap (λ (q : Spot). q.time) same))
-      | inr (k, within, at) ↦
-          let rises = subst AreRising c.in-Some.ensures.steps c.loop-spot.invariant.rising in
-          let after : s.time ≤ c.args.time = subst (λ (q : Spot). s.time ≤ q.time) at (rises 0 (suc k) v (omega arith) (omega (arith, within))) in
-          absurd (c.if-spot-time.true (omega (arith, after, is.2)))
-    ]
+    let is = c.loop-spot.invariant.only s (subst (λ (l : List Spot). Contains l s) (sym c.in-Some.ensures.steps) (Contains-cons_head s c.next.new.self)) in
+    let after : s.time ≤ c.args.time = first_least s c.next.new.self (subst AreRising c.in-Some.ensures.steps c.loop-spot.invariant.rising) v (subst (λ (l : List Spot). Contains l v) c.in-Some.ensures.steps (c.loop-spot.invariant.left step h)) in
+    absurd (c.if-spot-time.true (omega (arith, after, is.2)))

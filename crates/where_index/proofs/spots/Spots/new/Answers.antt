@@ -1,6 +1,6 @@
 use Rattle.std.proofs.Common.{subst, sym, ap, ◌∙◌}
 use Rattle.where_index.specs.ByCell.{all_of, AreByCell}
-use Rattle.where_index.proofs.Sets.{Contains-nil}
+use Rattle.plan_table.proofs.Order.{Contains-nil}
 use Rattle.where_index.proofs.ByCell.{none_at_first}
 use Rattle.where_index.proofs.spots.Spots.new.Goals as goal
 

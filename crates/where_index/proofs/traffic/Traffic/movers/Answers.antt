@@ -1,7 +1,7 @@
 use Rattle.std.proofs.Common.{subst}
 use Rattle.where_index.specs.Spots.{spot}
 use Rattle.where_index.specs.Crowds.{Moves, IsCrowd}
-use Rattle.where_index.proofs.Sets.{Contains-nil}
+use Rattle.plan_table.proofs.Order.{Contains-nil}
 use Rattle.where_index.proofs.traffic.Traffic.movers.Goals as goal
 
 pub returns-in-Some-clause-all : goal.returns-in-Some-clause-all
