@@ -73,6 +73,6 @@ module _ (index : Contents) (agent : ℕ) (route : Option Route) (fleet : Fleet)
     stop_has all place of other apart there =
         let seen : ℕ = seen_at place (step_of stop place) in
         elim (all other seen (from_past place) (base_there index agent route fleet shows other seen stop.here apart there)) [
-          | inl h ↦ λ entry own at two _ met. keeps entry (stood (spot stop.here seen other h.0) h.1 place of refl entry own at two apart met)
+          | inl h ↦ λ entry own at two _ met. keeps entry (stood (spot seen other h.0) h.1 place of refl entry own at two apart met)
           | inr (s, h, who, le) ↦ subst (λ (a : ℕ). HasMet fleet agent (step_of stop place) place a entries) who (rested s h place of le)
         ]

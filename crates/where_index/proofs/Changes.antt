@@ -1,16 +1,17 @@
 -- One record put in or taken out, as a change of the agents' records over time.
-use Rattle.std.proofs.Common.{◌≡◌, ◌≢◌, ◌⊎◌, inl, inr, ℕ, zero, suc, ◌+◌, ◌<◌, ◌≤◌, nat_lt, List, Option, Some, None, true, false, cond, ◌&&◌, ◌==◌, refl, sym, ap, ◌∙◌, subst, arith}
+use Rattle.std.proofs.Common.{◌≡◌, ◌≢◌, ◌⊎◌, inl, inr, ℕ, zero, suc, ◌+◌, ◌<◌, ◌≤◌, nat_lt, Option, Some, None, true, false, cond, ◌&&◌, ◌==◌, refl, sym, ap, ◌∙◌, subst, arith}
 use Rattle.std.proofs.lemmas.Bool.Decides.{nat_tests}
 use Rattle.grid_cells.specs.Cell.{Point}
 use Rattle.plan_table.specs.Route.{Route}
 use Rattle.where_index.specs.declared.spot_sets.Spot.{Spot}
 use Rattle.where_index.specs.declared.trails.Hop.{Hop}
-use Rattle.where_index.specs.Spots.{spot, Gains, Loses}
+use Rattle.where_index.specs.Spots.{spot}
+use Rattle.where_index.specs.ByCell.{ByCell, GainsAt, LosesAt}
 use Rattle.where_index.specs.Records.{hop, stand_at, hop_at, leg_between, leg_at, rest_at, changes_below, changed, changed_hop, same_point}
 use Rattle.where_index.specs.Changes.{HasSpots, HaveSameAt, set_at, set_row, mixed}
 
-pub HasSpots-ext : (spots : List Spot) (f g : ℕ → ℕ → Option Hop) → ((a t : ℕ) → f a t ≡ g a t) → HasSpots spots f → HasSpots spots g
-HasSpots-ext spots f g same has s = ((λ h. sym (same s.step.agent s.time) ∙ (has s).0 h), (λ h. (has s).1 (same s.step.agent s.time ∙ h)))
+pub HasSpots-ext : (sets : ByCell) (f g : ℕ → ℕ → Option Hop) → ((a t : ℕ) → f a t ≡ g a t) → HasSpots sets f → HasSpots sets g
+HasSpots-ext sets f g same has cell s = ((λ h. sym (same s.step.agent s.time) ∙ (has cell s).0 h), (λ h. (has cell s).1 (same s.step.agent s.time ∙ h)))
 
 pub same_leg : {old new : Route} {t : ℕ} → HaveSameAt old new t → leg_at old t ≡ leg_at new t
 same_leg {old} {new} {t} same = ap (λ o. leg_between o (hop_at old.path t)) same.stands ∙ ap (λ h. leg_between (stand_at new t) h) same.hops
@@ -41,8 +42,8 @@ set_twice f agent time u v a t = elim (at_cases a agent t time) [
   | inr away ↦ set_there (set_at f agent time u) agent time v a t away.1 ∙ (set_there f agent time u a t away.1 ∙ sym (set_there f agent time v a t away.1))
 ]
 
-spot_is : (s : Spot) (leg : Hop) (time agent : ℕ) → hop s.cell s.step.to ≡ leg → s.time ≡ time → s.step.agent ≡ agent → s ≡ spot leg.from time agent leg.to
-spot_is s leg time agent a b c = λ i. record { cell = (a i).from; time = b i; step = record { agent = c i; to = (a i).to } }
+spot_is : (cell : Point) (s : Spot) (leg : Hop) (time agent : ℕ) → hop cell s.step.to ≡ leg → s.time ≡ time → s.step.agent ≡ agent → (cell ≡ leg.from) × (s ≡ spot time agent leg.to)
+spot_is cell s leg time agent a b c = (ap (λ (h : Hop). h.from) a, λ i. record { time = b i; step = record { agent = c i; to = (a i).to } })
 
 pub none_some : {X G : Type 0} (o : Option X) (x : X) → o ≡ None → o ≡ Some x → G
 none_some o x a b = absurd (cc)
@@ -50,39 +51,39 @@ none_some o x a b = absurd (cc)
 pub some_one : {X : Type 0} (o : Option X) (x y : X) → o ≡ Some x → o ≡ Some y → x ≡ y
 some_one o x y a b = cc
 
-pub clears : (old new : List Spot) (agent time : ℕ) (leg : Hop) (f : ℕ → ℕ → Option Hop) → Loses old new (spot leg.from time agent leg.to) → HasSpots old f → f agent time ≡ Some leg → HasSpots new (set_at f agent time None)
-clears old new agent time leg f loses has is s = elim (at_cases s.step.agent agent s.time time) [
+pub clears : (old new : ByCell) (agent time : ℕ) (leg : Hop) (f : ℕ → ℕ → Option Hop) → LosesAt old new leg.from (spot time agent leg.to) → HasSpots old f → f agent time ≡ Some leg → HasSpots new (set_at f agent time None)
+clears old new agent time leg f loses has is cell s = elim (at_cases s.step.agent agent s.time time) [
   | inl at ↦
       let now = set_here f agent time None s.step.agent s.time at.1 in
       let same : f s.step.agent s.time ≡ Some leg = ap (λ q. f q s.time) at.0.0 ∙ (ap (λ q. f agent q) at.0.1 ∙ is) in (
-        (λ h. let old_s = (loses s).0 h in absurd (old_s.1 (spot_is s leg time agent (some_one _ _ _ ((has s).0 old_s.0) same) at.0.1 at.0.0))),
+        (λ h. let old_s = (loses cell s).0 h in absurd (old_s.1 (spot_is cell s leg time agent (some_one _ _ _ ((has cell s).0 old_s.0) same) at.0.1 at.0.0))),
         (λ h. none_some _ _ now h),
       )
   | inr away ↦
       let now = set_there f agent time None s.step.agent s.time away.1 in (
-        (λ h. now ∙ (has s).0 ((loses s).0 h).0),
-        (λ h. (loses s).1 ((has s).1 (sym now ∙ h), λ one. away.0 (ap (λ (q : Spot). q.step.agent) one) (ap (λ (q : Spot). q.time) one))),
+        (λ h. now ∙ (has cell s).0 ((loses cell s).0 h).0),
+        (λ h. (loses cell s).1 ((has cell s).1 (sym now ∙ h), λ one. away.0 (ap (λ (q : Spot). q.step.agent) one.1) (ap (λ (q : Spot). q.time) one.1))),
       )
 ]
 
-pub fills : (old new : List Spot) (agent time : ℕ) (leg : Hop) (f : ℕ → ℕ → Option Hop) → Gains old new (spot leg.from time agent leg.to) → HasSpots old f → f agent time ≡ None → HasSpots new (set_at f agent time (Some leg))
-fills old new agent time leg f gains has is s = elim (at_cases s.step.agent agent s.time time) [
+pub fills : (old new : ByCell) (agent time : ℕ) (leg : Hop) (f : ℕ → ℕ → Option Hop) → GainsAt old new leg.from (spot time agent leg.to) → HasSpots old f → f agent time ≡ None → HasSpots new (set_at f agent time (Some leg))
+fills old new agent time leg f gains has is cell s = elim (at_cases s.step.agent agent s.time time) [
   | inl at ↦
       let now = set_here f agent time (Some leg) s.step.agent s.time at.1 in
       let same : f s.step.agent s.time ≡ None = ap (λ q. f q s.time) at.0.0 ∙ (ap (λ q. f agent q) at.0.1 ∙ is) in (
-        (λ h. elim ((gains s).0 h) [
-          | inl o ↦ none_some _ _ same ((has s).0 o)
-          | inr one ↦ now ∙ ap (λ (q : Spot). Some (hop q.cell q.step.to)) (sym one)
+        (λ h. elim ((gains cell s).0 h) [
+          | inl o ↦ none_some _ _ same ((has cell s).0 o)
+          | inr one ↦ now ∙ λ i. Some (hop (sym one.0 i) (sym one.1 i).step.to)
         ]),
-        (λ h. (gains s).1 (inr (spot_is s leg time agent (some_one _ _ _ h now) at.0.1 at.0.0))),
+        (λ h. (gains cell s).1 (inr (spot_is cell s leg time agent (some_one _ _ _ h now) at.0.1 at.0.0))),
       )
   | inr away ↦
       let now = set_there f agent time (Some leg) s.step.agent s.time away.1 in (
-        (λ h. elim ((gains s).0 h) [
-          | inl o ↦ now ∙ (has s).0 o
-          | inr one ↦ absurd (away.0 (ap (λ (q : Spot). q.step.agent) one) (ap (λ (q : Spot). q.time) one))
+        (λ h. elim ((gains cell s).0 h) [
+          | inl o ↦ now ∙ (has cell s).0 o
+          | inr one ↦ absurd (away.0 (ap (λ (q : Spot). q.step.agent) one.1) (ap (λ (q : Spot). q.time) one.1))
         ]),
-        (λ h. (gains s).1 (inl ((has s).1 (sym now ∙ h)))),
+        (λ h. (gains cell s).1 (inl ((has cell s).1 (sym now ∙ h)))),
       )
 ]
 

@@ -12,6 +12,7 @@ use Rattle.where_index.specs.declared.ends.End.{End}
 use Rattle.where_index.specs.Spots.{spot}
 use Rattle.where_index.specs.declared.trails.Hop.{Hop}
 use Rattle.where_index.specs.Records.{stand_at, tail_at, hop_at, leg_between, leg_at, rest_at}
+use Rattle.where_index.specs.ByCell.{ByCell}
 use Rattle.where_index.specs.Changes.{HasSpots}
 use Rattle.where_index.specs.Ends.{IsEndOf}
 use Rattle.where_index.specs.Index.{all_of}
@@ -24,10 +25,10 @@ same_option None None there back = refl
 same_option None (Some y) there back = back y refl
 same_option (Some x) p there back = sym (there x refl)
 
-same_spots : (spots : List Spot) (f g : ℕ → ℕ → Option Hop) → HasSpots spots f → HasSpots spots g → (a t : ℕ) → f a t ≡ g a t
-same_spots spots f g has_f has_g a t = same_option (f a t) (g a t) (λ c h. (has_g (at c)).0 ((has_f (at c)).1 h)) (λ c h. (has_f (at c)).0 ((has_g (at c)).1 h)) where
+same_spots : (sets : ByCell) (f g : ℕ → ℕ → Option Hop) → HasSpots sets f → HasSpots sets g → (a t : ℕ) → f a t ≡ g a t
+same_spots sets f g has_f has_g a t = same_option (f a t) (g a t) (λ c h. (has_g c.from (at c)).0 ((has_f c.from (at c)).1 h)) (λ c h. (has_f c.from (at c)).0 ((has_g c.from (at c)).1 h)) where
   at : Hop → Spot
-  at c = spot c.from t a c.to
+  at c = spot t a c.to
 
 -- where agents go says where they are
 start_of : (o : Option Point) (move : Option Hop) → option_map (λ (h : Hop). h.from) (leg_between o move) ≡ o

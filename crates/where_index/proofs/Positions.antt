@@ -9,6 +9,7 @@ use Rattle.plan_table.specs.Path.{last_index, place}
 use Rattle.plan_table.specs.Route.{Route, Fleet, position, position_of, last_of}
 use Rattle.where_index.specs.declared.spot_sets.Spot.{Spot}
 use Rattle.where_index.specs.Spots.{AreFrom, AreRising, spot, HasAt}
+use Rattle.where_index.specs.ByCell.{ByCell, spots_at}
 use Rattle.where_index.specs.Shown.{HasAgentBy, HasPassing}
 use Rattle.where_index.specs.Records.{route, stand_at, tail_at, hop_at, hop_between, hop, leg_between, leg_at, rest_at, same_point}
 use Rattle.where_index.specs.Changes.{HasSpots}
@@ -89,8 +90,8 @@ module _ (t : ℕ) (cell : Point) where
   either_is (Some r) e = to_either r.path r.leaves t cell e
 
 -- ---- what spots show of the cells of agents
-abbrev pub ShowCells : List Spot → (ℕ → ℕ → Option Point) → Type 0
-ShowCells spots f = ((s : Spot) → Contains spots s → f s.step.agent s.time ≡ Some s.cell) × ((cell : Point) (time agent : ℕ) → f agent time ≡ Some cell → HasAt spots cell time agent)
+abbrev pub ShowCells : ByCell → (ℕ → ℕ → Option Point) → Type 0
+ShowCells sets f = ((cell : Point) (s : Spot) → Contains (spots_at sets cell) s → f s.step.agent s.time ≡ Some cell) × ((cell : Point) (time agent : ℕ) → f agent time ≡ Some cell → HasAt (spots_at sets cell) time agent)
 
 leg_cell : (o : Option Point) (move : Option Hop) (a b : Point) → leg_between o move ≡ Some (hop a b) → o ≡ Some a
 leg_cell None move a b e = absurd (cc)
@@ -110,34 +111,34 @@ module _ (g : Route → ℕ → Option Point) (k : Route → ℕ → Option Hop)
   leg_shown None t a e = absurd (cc)
   leg_shown (Some r) t a e = some_leg (g r t) (k r t) a e
 
-  show : (spots : List Spot) (fleet : Fleet) → HasSpots spots (all_of (λ r t. leg_between (g r t) (k r t)) fleet) → ShowCells spots (all_of g fleet)
-  show spots fleet has = (
-    (λ s within. cell_shown (fleet s.step.agent) s.time s.cell s.step.to ((has s).0 within)),
-    (λ cell time agent at. let leg = leg_shown (fleet agent) time cell at in (leg.0, (has (spot cell time agent leg.0)).1 leg.1)),
+  show : (sets : ByCell) (fleet : Fleet) → HasSpots sets (all_of (λ r t. leg_between (g r t) (k r t)) fleet) → ShowCells sets (all_of g fleet)
+  show sets fleet has = (
+    (λ cell s within. cell_shown (fleet s.step.agent) s.time cell s.step.to ((has cell s).0 within)),
+    (λ cell time agent at. let leg = leg_shown (fleet agent) time cell at in (leg.0, (has cell (spot time agent leg.0)).1 leg.1)),
   )
 
-pub stands_show : (stands : List Spot) (fleet : Fleet) → HasSpots stands (all_of leg_at fleet) → ShowCells stands (all_of stand_at fleet)
+pub stands_show : (stands : ByCell) (fleet : Fleet) → HasSpots stands (all_of leg_at fleet) → ShowCells stands (all_of stand_at fleet)
 stands_show stands fleet has = show stand_at (λ r t. hop_at r.path t) stands fleet has
 
-pub tails_show : (tails : List Spot) (fleet : Fleet) → HasSpots tails (all_of rest_at fleet) → ShowCells tails (all_of tail_at fleet)
+pub tails_show : (tails : ByCell) (fleet : Fleet) → HasSpots tails (all_of rest_at fleet) → ShowCells tails (all_of tail_at fleet)
 tails_show tails fleet has = show tail_at (λ r t. None) tails fleet has
 
-same_record : (f : ℕ → ℕ → Option Point) (s : Spot) (a time : ℕ) (cell : Point) → s.step.agent ≡ a → s.time ≡ time → s.cell ≡ cell → f s.step.agent s.time ≡ Some s.cell → f a time ≡ Some cell
-same_record f s a time cell x y z e = ap (λ q. f q time) (sym x) ∙ (ap (λ q. f s.step.agent q) (sym y) ∙ (e ∙ ap (λ (p : Point). Some p) z))
+same_record : (f : ℕ → ℕ → Option Point) (s : Spot) (a time : ℕ) (cell : Point) → s.step.agent ≡ a → s.time ≡ time → f s.step.agent s.time ≡ Some cell → f a time ≡ Some cell
+same_record f s a time cell x y e = ap (λ q. f q time) (sym x) ∙ (ap (λ q. f s.step.agent q) (sym y) ∙ e)
 
-pub standing_exact : (stands tails s1 s2 : List Spot) (fleet : Fleet) (cell : Point) (time : ℕ) → ShowCells stands (all_of stand_at fleet) → ShowCells tails (all_of tail_at fleet) → AreFrom stands cell time s1 → AreFrom tails cell 0 s2 → (a : ℕ) → (HasAgentBy time s1 a ⊎ HasAgentBy time s2 a) ↔ (position_of fleet a time ≡ Some cell)
+pub standing_exact : (stands tails : ByCell) (s1 s2 : List Spot) (fleet : Fleet) (cell : Point) (time : ℕ) → ShowCells stands (all_of stand_at fleet) → ShowCells tails (all_of tail_at fleet) → AreFrom (spots_at stands cell) time s1 → AreFrom (spots_at tails cell) 0 s2 → (a : ℕ) → (HasAgentBy time s1 a ⊎ HasAgentBy time s2 a) ↔ (position_of fleet a time ≡ Some cell)
 standing_exact stands tails s1 s2 fleet cell time has_s has_r b1 b2 a = (
   (λ h. elim h [
     | inl (s, within, (is, early)) ↦
         let inside = (b1 s).0 within in
-        stands_is time cell (fleet a) (same_record (all_of stand_at fleet) s a time cell is (omega (arith, inside.2)) inside.1 (has_s.0 s inside.0))
+        stands_is time cell (fleet a) (same_record (all_of stand_at fleet) s a time cell is (omega (arith, inside.1)) (has_s.0 cell s inside.0))
     | inr (s, within, (is, early)) ↦
         let inside = (b2 s).0 within in
-        rests_is time cell s.time early (fleet a) (same_record (all_of tail_at fleet) s a s.time cell is refl inside.1 (has_r.0 s inside.0))
+        rests_is time cell s.time early (fleet a) (same_record (all_of tail_at fleet) s a s.time cell is refl (has_r.0 cell s inside.0))
   ]),
   (λ h. elim (either_is time cell (fleet a) h) [
-    | inl stood ↦ let v = has_s.1 cell time a stood in inl (spot cell time a v.0, (b1 (spot cell time a v.0)).1 (v.1, refl, omega arith), (refl, omega arith))
-    | inr w ↦ let v = has_r.1 cell w.0 a w.2 in inr (spot cell w.0 a v.0, (b2 (spot cell w.0 a v.0)).1 (v.1, refl, omega arith), (refl, w.1))
+    | inl stood ↦ let v = has_s.1 cell time a stood in inl (spot time a v.0, (b1 (spot time a v.0)).1 (v.1, omega arith), (refl, omega arith))
+    | inr w ↦ let v = has_r.1 cell w.0 a w.2 in inr (spot w.0 a v.0, (b2 (spot w.0 a v.0)).1 (v.1, omega arith), (refl, w.1))
   ]),
 )
 
@@ -166,16 +167,16 @@ tail_last (Some r) t cell e = go r.leaves (guarded _ _ _ e).0 where
   go true is = absurd (cc)
   go false is = let end = end_test (t + 1) (length r.path) is in omega arith
 
-pub passing_exact : (stands tails s1 s2 : List Spot) (fleet : Fleet) (cell : Point) (from : ℕ) → ShowCells stands (all_of stand_at fleet) → ShowCells tails (all_of tail_at fleet) → AreFrom stands cell from s1 → AreFrom tails cell from s2 → (p : Passing) → (HasPassing s1 p ⊎ HasPassing s2 p) ↔ Passes fleet cell from p
+pub passing_exact : (stands tails : ByCell) (s1 s2 : List Spot) (fleet : Fleet) (cell : Point) (from : ℕ) → ShowCells stands (all_of stand_at fleet) → ShowCells tails (all_of tail_at fleet) → AreFrom (spots_at stands cell) from s1 → AreFrom (spots_at tails cell) from s2 → (p : Passing) → (HasPassing s1 p ⊎ HasPassing s2 p) ↔ Passes fleet cell from p
 passing_exact stands tails s1 s2 fleet cell from has_s has_r b1 b2 p = (
   (λ h. elim h [
     | inl (s, within, is) ↦
         let inside = (b1 s).0 within in
         let agents : s.step.agent ≡ p.agent = ap (λ (q : Passing). q.agent) is in
         let times : s.time ≡ p.time = ap (λ (q : Passing). q.time) is in
-        let stood = same_record (all_of stand_at fleet) s p.agent p.time cell agents times inside.1 (has_s.0 s inside.0) in
+        let stood = same_record (all_of stand_at fleet) s p.agent p.time cell agents times (has_s.0 cell s inside.0) in
         record {
-          not_before = omega (arith, inside.2);
+          not_before = omega (arith, inside.1);
           not_after = stand_early (fleet p.agent) p.time cell stood;
           there = stands_is p.time cell (fleet p.agent) stood;
         }
@@ -183,10 +184,10 @@ passing_exact stands tails s1 s2 fleet cell from has_s has_r b1 b2 p = (
         let inside = (b2 s).0 within in
         let agents : s.step.agent ≡ p.agent = ap (λ (q : Passing). q.agent) is in
         let times : s.time ≡ p.time = ap (λ (q : Passing). q.time) is in
-        let rested = same_record (all_of tail_at fleet) s p.agent p.time cell agents times inside.1 (has_r.0 s inside.0) in
+        let rested = same_record (all_of tail_at fleet) s p.agent p.time cell agents times (has_r.0 cell s inside.0) in
         let last : p.time ≡ last_of fleet p.agent = tail_last (fleet p.agent) p.time cell rested in
         record {
-          not_before = omega (arith, inside.2);
+          not_before = omega (arith, inside.1);
           not_after = omega (arith, last);
           there = rests_is p.time cell p.time (omega arith) (fleet p.agent) rested;
         }
@@ -194,15 +195,15 @@ passing_exact stands tails s1 s2 fleet cell from has_s has_r b1 b2 p = (
   (λ h. elim (either_is p.time cell (fleet p.agent) h.there) [
     | inl stood ↦
         let v = has_s.1 cell p.time p.agent stood in
-        let s = spot cell p.time p.agent v.0 in
-        inl (s, (b1 s).1 (v.1, refl, h.not_before), refl)
+        let s = spot p.time p.agent v.0 in
+        inl (s, (b1 s).1 (v.1, h.not_before), refl)
     | inr w ↦
         let last : w.0 ≡ last_of fleet p.agent = tail_last (fleet p.agent) w.0 cell w.2 in
         let now : w.0 ≡ p.time = omega (arith, last, w.1, h.not_after) in
         let rested : all_of tail_at fleet p.agent p.time ≡ Some cell = subst (λ q. all_of tail_at fleet p.agent q ≡ Some cell) now w.2 in
         let v = has_r.1 cell p.time p.agent rested in
-        let s = spot cell p.time p.agent v.0 in
-        inr (s, (b2 s).1 (v.1, refl, h.not_before), refl)
+        let s = spot p.time p.agent v.0 in
+        inr (s, (b2 s).1 (v.1, h.not_before), refl)
   ]),
 )
 
@@ -249,10 +250,10 @@ no_place end (Some r) t is leaves late h =
     cc
 
 -- where an agent with that end is, by the sets
-pub is_there : (stands tails : List Spot) (fleet : Fleet) (cell : Point) (agent time : ℕ) (end : End) → ShowCells stands (all_of stand_at fleet) → ShowCells tails (all_of tail_at fleet) → IsEndOf (Some end) (fleet agent) → end.last ≤ time → HasAt tails cell end.last agent → position_of fleet agent time ≡ Some cell
-is_there stands tails fleet cell agent time end has_s has_r is late there = rests_is time cell end.last late (fleet agent) (has_r.0 (spot cell end.last agent there.0) there.1)
+pub is_there : (stands tails : ByCell) (fleet : Fleet) (cell : Point) (agent time : ℕ) (end : End) → ShowCells stands (all_of stand_at fleet) → ShowCells tails (all_of tail_at fleet) → IsEndOf (Some end) (fleet agent) → end.last ≤ time → HasAt (spots_at tails cell) end.last agent → position_of fleet agent time ≡ Some cell
+is_there stands tails fleet cell agent time end has_s has_r is late there = rests_is time cell end.last late (fleet agent) (has_r.0 cell (spot end.last agent there.0) there.1)
 
-pub is_rest : (stands tails : List Spot) (fleet : Fleet) (cell : Point) (agent time : ℕ) (end : End) → ShowCells stands (all_of stand_at fleet) → ShowCells tails (all_of tail_at fleet) → IsEndOf (Some end) (fleet agent) → (HasAt stands cell time agent → ⊥) → position_of fleet agent time ≡ Some cell → (end.last ≤ time) × HasAt tails cell end.last agent
+pub is_rest : (stands tails : ByCell) (fleet : Fleet) (cell : Point) (agent time : ℕ) (end : End) → ShowCells stands (all_of stand_at fleet) → ShowCells tails (all_of tail_at fleet) → IsEndOf (Some end) (fleet agent) → (HasAt (spots_at stands cell) time agent → ⊥) → position_of fleet agent time ≡ Some cell → (end.last ≤ time) × HasAt (spots_at tails cell) end.last agent
 is_rest stands tails fleet cell agent time end has_s has_r is not_standing at = elim (either_is time cell (fleet agent) at) [
   | inl stood ↦ absurd (not_standing (has_s.1 cell time agent stood))
   | inr w ↦
@@ -263,8 +264,8 @@ is_rest stands tails fleet cell agent time end has_s has_r is not_standing at = 
   end_last None e = absurd e
   end_last (Some r) e = sym e.last
 
-pub is_standing : (stands : List Spot) (fleet : Fleet) (cell : Point) (agent time : ℕ) → ShowCells stands (all_of stand_at fleet) → HasAt stands cell time agent → position_of fleet agent time ≡ Some cell
-is_standing stands fleet cell agent time has_s there = stands_is time cell (fleet agent) (has_s.0 (spot cell time agent there.0) there.1)
+pub is_standing : (stands : ByCell) (fleet : Fleet) (cell : Point) (agent time : ℕ) → ShowCells stands (all_of stand_at fleet) → HasAt (spots_at stands cell) time agent → position_of fleet agent time ≡ Some cell
+is_standing stands fleet cell agent time has_s there = stands_is time cell (fleet agent) (has_s.0 cell (spot time agent there.0) there.1)
 
 -- ---- a record Move is a move out of a cell
 hop_parts : (a b : Point) (v : Bool) (h : Hop) → same_point a b ≡ v → cond v None (Some (record { from = a; to = b })) ≡ Some h → (a ≡ h.from) × (b ≡ h.to) × (same_point a b ≡ false)
@@ -373,25 +374,21 @@ movers_exact fleet cell time m = (
   (λ h. (hop_leg (fleet m.agent) time (hop cell m.to) (of_hop (fleet m.agent) time cell m.to h.starts h.arrives h.moves), h.moves)),
 )
 
-pub occupants_exact : (stands tails : List Spot) (fleet : Fleet) (cell : Point) (from : ℕ) → HasSpots stands (all_of leg_at fleet) → HasSpots tails (all_of rest_at fleet) → (found : Occupants) → AreFrom stands cell from found.stands → AreRising found.stands → AreFrom tails cell 0 found.tails → AreRising found.tails → AreOccupants fleet cell from found
+pub occupants_exact : (stands tails : ByCell) (fleet : Fleet) (cell : Point) (from : ℕ) → HasSpots stands (all_of leg_at fleet) → HasSpots tails (all_of rest_at fleet) → (found : Occupants) → AreFrom (spots_at stands cell) from found.stands → AreRising found.stands → AreFrom (spots_at tails cell) 0 found.tails → AreRising found.tails → AreOccupants fleet cell from found
 occupants_exact stands tails fleet cell from legs rests found b1 rise1 b2 rise2 = record {
   standing = λ s within.
       let inside = (b1 s).0 within in
-      let stood = same_record (all_of stand_at fleet) s s.step.agent s.time cell refl refl inside.1 (has_s.0 s inside.0) in
+      let stood = has_s.0 cell s inside.0 in
       record {
-        place = inside.1;
-        not_before = inside.2;
+        not_before = inside.1;
         there = stands_is s.time cell (fleet s.step.agent) stood;
         passes = stand_passes (fleet s.step.agent) s.time cell stood;
-        goes = λ moves.
-            let apart : s.cell ≢ s.step.to = λ is. moves (sym inside.1 ∙ is) in
-            (hop_of (fleet s.step.agent) s.time (hop s.cell s.step.to) (leg_hop (fleet s.step.agent) s.time s.cell s.step.to apart ((legs s).0 inside.0))).1;
+        goes = λ moves. (hop_of (fleet s.step.agent) s.time (hop cell s.step.to) (leg_hop (fleet s.step.agent) s.time cell s.step.to moves ((legs cell s).0 inside.0))).1;
       };
-  resting = λ s within. let inside = (b2 s).0 within in
-      record { place = inside.1; there = λ t h. rests_is t cell s.time h (fleet s.step.agent) (same_record (all_of tail_at fleet) s s.step.agent s.time cell refl refl inside.1 (has_r.0 s inside.0)) };
+  resting = λ s within. record { there = λ t h. rests_is t cell s.time h (fleet s.step.agent) (has_r.0 cell s ((b2 s).0 within).0) };
   all = λ a t h at. elim (either_is t cell (fleet a) at) [
-    | inl stood ↦ let v = has_s.1 cell t a stood in inl (v.0, (b1 (spot cell t a v.0)).1 (v.1, refl, h))
-    | inr w ↦ let v = has_r.1 cell w.0 a w.2 in inr (spot cell w.0 a v.0, (b2 (spot cell w.0 a v.0)).1 (v.1, refl, omega arith), refl, w.1)
+    | inl stood ↦ let v = has_s.1 cell t a stood in inl (v.0, (b1 (spot t a v.0)).1 (v.1, h))
+    | inr w ↦ let v = has_r.1 cell w.0 a w.2 in inr (spot w.0 a v.0, (b2 (spot w.0 a v.0)).1 (v.1, omega arith), refl, w.1)
   ];
   stands_rise = rise1;
   tails_rise = rise2;

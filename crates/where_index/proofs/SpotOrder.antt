@@ -1,59 +1,54 @@
 -- The order of spots.
-use Rattle.std.proofs.Common.{◌≡◌, ◌≤◌, ◌<◌, ◌⊎◌, ℕ, refl, sym, ap, ◌∙◌, subst, List, [], ◌∷◌, length, get_or, Contains, Bool, true, false, ◌&&◌, arith, inl, inr}
+use Rattle.std.proofs.Common.{◌≡◌, ◌≤◌, ◌<◌, ◌⊎◌, ℕ, refl, sym, ap, ◌∙◌, subst, List, [], ◌∷◌, Contains, Bool, true, false, ◌&&◌, arith, inl, inr}
 use mathlib.Core.Logic.{◌↔◌}
-use Rattle.std.specs.List.{filter}
-use Rattle.std.specs.Ordering.{is_le}
-use Rattle.grid_cells.specs.Cell.{Point}
-use Rattle.std.specs.List.{AllPairs}
+use Rattle.std.specs.List.{filter, AllPairs}
 use Rattle.std.specs.List.Sorted.{IsStrictlySortedBy}
-use Rattle.std.proofs.lemmas.List.Elements.{All-from_recursion}
-use Rattle.std.proofs.lemmas.List.Kept.{AllPairs-cons, IsStrictlySortedBy-filter}
-use Rattle.std.proofs.lemmas.List.{get_or_default}
 use Rattle.std.specs.BTreeMap.Range.{range_contains}
-use Rattle.std.specs.declared.ops.Bound.TheVariants.{Included, Unbounded}
-use Rattle.std.proofs.lemmas.Cmp.{ranked}
-use Rattle.std.specs.Ordering.{MatchOrdering}
 use Rattle.std.specs.Cmp.{IsTotalOrder}
-use Rattle.std.specs.Ordering.{nat_cmp, ordering_then}
+use Rattle.std.specs.Ordering.{MatchOrdering, is_le, nat_cmp, ordering_then}
 use Rattle.std.specs.declared.cmp.Ordering.{Ordering}
 use Rattle.std.specs.declared.cmp.Ordering.TheVariants.{Less, Equal, Greater}
+use Rattle.std.specs.declared.ops.Bound.TheVariants.{Included, Unbounded}
+use Rattle.std.proofs.lemmas.List.Elements.{All-from_recursion}
+use Rattle.std.proofs.lemmas.List.Kept.{AllPairs-cons, IsStrictlySortedBy-filter}
+use Rattle.std.proofs.lemmas.Cmp.{ranked, nat_cmp_total, on_total, then_total}
 use Rattle.std.proofs.lemmas.Map.Lookups.{CmpEqualImpliesEq, exact_unsigned}
-use Rattle.std.proofs.lemmas.Cmp.{nat_cmp_total, on_total, then_total}
-use Rattle.grid_cells.specs.Cell.{point}
-use Rattle.where_index.specs.declared.moves.Move.{Move}
-use Rattle.where_index.specs.Spots.{spot, move_cmp, spot_cmp, starts, IsFrom, AreFrom, AreRising, HasAt}
+use Rattle.grid_cells.specs.Cell.{Point, point}
 use Rattle.plan_table.proofs.Order.{Contains-nil, Contains-cons_head, Contains-cons_cases, AllPairs-head}
-use Rattle.where_index.proofs.Sets.{filter_keeps}
+use Rattle.where_index.specs.declared.moves.Move.{Move}
 use Rattle.where_index.specs.declared.spot_sets.Spot.{Spot}
+use Rattle.where_index.specs.Spots.{spot, AreFrom, AreRising, HasAt}
+use Rattle.where_index.proofs.Sets.{filter_keeps}
+
+-- moves compare by agent, then the row and the column of the cell that it goes to
+abbrev pub move_cmp : Move → Move → Ordering
+move_cmp a b = ordering_then (nat_cmp a.agent b.agent) (ordering_then (nat_cmp a.to.y b.to.y) (nat_cmp a.to.x b.to.x))
+
+-- spots compare by time, then agent and where it goes
+abbrev pub spot_cmp : Spot → Spot → Ordering
+spot_cmp a b = ordering_then (nat_cmp a.time b.time) (move_cmp a.step b.step)
 
 move_total : IsTotalOrder move_cmp
 move_total = then_total (on_total (λ (m : Move). m.agent) nat_cmp_total) (then_total (on_total (λ (m : Move). m.to.y) nat_cmp_total) (on_total (λ (m : Move). m.to.x) nat_cmp_total))
 
 pub spot_total : IsTotalOrder spot_cmp
-spot_total = then_total (then_total (on_total (λ (s : Spot). s.cell.y) nat_cmp_total) (on_total (λ (s : Spot). s.cell.x) nat_cmp_total)) (then_total (on_total (λ (s : Spot). s.time) nat_cmp_total) (on_total (λ (s : Spot). s.step) move_total))
+spot_total = then_total (on_total (λ (s : Spot). s.time) nat_cmp_total) (on_total (λ (s : Spot). s.step) move_total)
 
 pub then_equal : (a b : Ordering) → ordering_then a b ≡ Equal → (a ≡ Equal) × (b ≡ Equal)
 then_equal Less b e = absurd (cc)
 then_equal Equal b e = (refl, e)
 then_equal Greater b e = absurd (cc)
 
-points_exact : (a b : Point) → ordering_then (nat_cmp a.y b.y) (nat_cmp a.x b.x) ≡ Equal → a ≡ b
-points_exact a b e =
-    let parts = then_equal _ _ e in
-    let ys : a.y ≡ b.y = exact_unsigned _ _ parts.0 in
-    let xs : a.x ≡ b.x = exact_unsigned _ _ parts.1 in
-    λ i. record { x = xs i; y = ys i }
-
 pub spot_exact : CmpEqualImpliesEq spot_cmp
 spot_exact a b e =
-    let halves = then_equal _ _ e in
-    let rest = then_equal _ _ halves.1 in
-    let steps = then_equal _ _ rest.1 in
-    let cells = points_exact a.cell b.cell halves.0 in
-    let times : a.time ≡ b.time = exact_unsigned _ _ rest.0 in
+    let parts = then_equal _ _ e in
+    let steps = then_equal _ _ parts.1 in
+    let goals = then_equal _ _ steps.1 in
+    let times : a.time ≡ b.time = exact_unsigned _ _ parts.0 in
     let agents : a.step.agent ≡ b.step.agent = exact_unsigned _ _ steps.0 in
-    let goals = points_exact a.step.to b.step.to steps.1 in
-    λ i. record { cell = cells i; time = times i; step = record { agent = agents i; to = goals i } }
+    let ys : a.step.to.y ≡ b.step.to.y = exact_unsigned _ _ goals.0 in
+    let xs : a.step.to.x ≡ b.step.to.x = exact_unsigned _ _ goals.1 in
+    λ i. record { time = times i; step = record { agent = agents i; to = record { x = xs i; y = ys i } } }
 
 -- ---- one place of a comparison
 pub from_lt : (a b : ℕ) → nat_cmp a b ≡ Less → a < b
@@ -69,11 +64,6 @@ pub cases3 : (o : Ordering) → (o ≡ Less) ⊎ ((o ≡ Equal) ⊎ (o ≡ Great
 cases3 Less = inl refl
 cases3 Equal = inr (inl refl)
 cases3 Greater = inr (inr refl)
-
-assoc : (a b c : Ordering) → ordering_then (ordering_then a b) c ≡ ordering_then a (ordering_then b c)
-assoc Less b c = refl
-assoc Equal b c = refl
-assoc Greater b c = refl
 
 place_le : (a b : ℕ) (o : Ordering) → is_le (ordering_then (nat_cmp a b) o) ≡ true → (a < b) ⊎ ((a ≡ b) × (is_le o ≡ true))
 place_le a b o e = elim (cases3 (nat_cmp a b)) [
@@ -108,98 +98,66 @@ squeeze a b o p low high = elim (place_le a b o low) [
   | inr same ↦ elim (place_le b a p high) [ inl gt ↦ absurd (omega arith) | inr also ↦ (same.0, same.1, also.1) ]
 ]
 
-abbrev later_part : Spot → Spot → Ordering
-later_part a b = ordering_then (nat_cmp a.time b.time) (move_cmp a.step b.step)
-
-by_row : (a b : Spot) → spot_cmp a b ≡ ordering_then (nat_cmp a.cell.y b.cell.y) (ordering_then (nat_cmp a.cell.x b.cell.x) (later_part a b))
-by_row a b = assoc (nat_cmp a.cell.y b.cell.y) (nat_cmp a.cell.x b.cell.x) (later_part a b)
-
--- a spot that comes neither before nor after one of an agent at a time, but for where it goes, is the agent's there
-at_place : (a b : Spot) (to : Point) → is_le (spot_cmp (record a { step = record a.step { to = to } }) b) ≡ true → is_le (spot_cmp b a) ≡ true → (b.cell ≡ a.cell) × (a.time ≡ b.time) × (a.step.agent ≡ b.step.agent)
-at_place a b to low high =
-    let l = record a { step = record a.step { to = to } } in
-    let rows = squeeze a.cell.y b.cell.y _ _ (subst (λ o. is_le o ≡ true) (by_row l b) low) (subst (λ o. is_le o ≡ true) (by_row b a) high) in
-    let columns = squeeze a.cell.x b.cell.x _ _ rows.1 rows.2 in
-    let times = squeeze a.time b.time _ _ columns.1 columns.2 in
-    let agents = squeeze a.step.agent b.step.agent _ _ times.1 times.2 in
-    let ys : b.cell.y ≡ a.cell.y = sym rows.0 in
-    let xs : b.cell.x ≡ a.cell.x = sym columns.0 in
-    (λ i. record { x = xs i; y = ys i }, times.0, agents.0)
-
 -- ---- from a time on
 pub ascends : {X : Type 0} (R : X → X → Ordering) (xs : List X) → IsStrictlySortedBy R xs → AllPairs (λ a b. R a b ≡ Less) xs
 unfolding IsStrictlySortedBy
 ascends R [] sorted = λ i j d lt within. absurd (omega arith)
 ascends R (x ∷ xs) sorted = AllPairs-cons (λ a b. R a b ≡ Less) x xs (All-from_recursion (λ y. R x y ≡ Less) xs sorted.0) (ascends R xs sorted.1)
 
--- a spot that isn't before another one in the same cell isn't earlier
-later : (low s : Spot) → low.cell ≡ s.cell → is_le (spot_cmp low s) ≡ true → low.time ≤ s.time
-later low s is e =
-    let row = place_le low.cell.y s.cell.y _ (subst (λ o. is_le o ≡ true) (by_row low s) e) in
-    let y = ap (λ (p : Point). p.y) is in
-    let x = ap (λ (p : Point). p.x) is in
-    elim row [
-      | inl lt ↦ absurd (omega arith)
-      | inr same ↦ elim (place_le low.cell.x s.cell.x _ same.1) [ inl lt ↦ absurd (omega arith) | inr rest ↦ from_le low.time s.time _ rest.1 ]
-    ]
+-- the spots from an agent's place on
+abbrev pub from_place : ℕ → ℕ → Spot → Bool
+from_place time agent s = is_le (spot_cmp (spot time agent (point 0 0)) s)
 
--- one in the same cell that is no earlier comes after the least at its time, or the agent's
-reached : (cell : Point) (time agent : ℕ) (s : Spot) → s.cell ≡ cell → time ≤ s.time → agent ≤ s.step.agent → is_le (spot_cmp (spot cell time agent (point 0 0)) s) ≡ true
-reached cell time agent s is lower least =
-    let y : cell.y ≡ s.cell.y = sym (ap (λ (p : Point). p.y) is) in
-    let x : cell.x ≡ s.cell.x = sym (ap (λ (p : Point). p.x) is) in
+reached : (time agent : ℕ) (s : Spot) → time ≤ s.time → agent ≤ s.step.agent → from_place time agent s ≡ true
+reached time agent s lower least =
     let last : is_le (nat_cmp 0 s.step.to.x) ≡ true = sym (ap is_le (then_end (nat_cmp 0 s.step.to.x))) ∙ le_then 0 s.step.to.x Equal (omega arith) refl in
-    let step : is_le (move_cmp (record { agent = agent; to = point 0 0 }) s.step) ≡ true = le_then agent s.step.agent _ least (le_then 0 s.step.to.y _ (omega arith) last) in
-    ap is_le (by_row (spot cell time agent (point 0 0)) s) ∙ le_then cell.y s.cell.y _ (omega arith) (le_then cell.x s.cell.x _ (omega arith) (le_then time s.time _ lower step))
+    le_then time s.time _ lower (le_then agent s.step.agent _ least (le_then 0 s.step.to.y _ (omega arith) last))
 
-not_less : (o : Ordering) → o ≡ Less → is_le o ≡ true
-not_less o e = ap is_le e
+and_end : (b : Bool) → (b && true) ≡ b
+and_end true = refl
+and_end false = refl
 
-module _ (all found : List Spot) (cell : Point) (from : ℕ) (here : (s : Spot) → Contains all s → s.cell ≡ cell) (is : IsFrom all cell from found) where
-  pub are_from : AreFrom all cell from found
-  are_from s =
-      let keeps = filter_keeps (starts cell from) all s in
-      subst (λ (l : List Spot). Contains l s ↔ (Contains all s × (s.cell ≡ cell) × (from ≤ s.time))) (sym is.is) (
-        (λ h. let kept = keeps.0 h in (kept.0, here s kept.0, later (spot cell from 0 (point 0 0)) s (sym (here s kept.0)) kept.1)),
-        (λ h. keeps.1 (h.0, reached cell from 0 s h.1 h.2 (omega arith))),
-      )
+module _ (time agent : ℕ) (spots found : List Spot) where
+  -- what a search with no end finds
+  pub found_from : found ≡ filter (range_contains spot_cmp (Included (spot time agent (point 0 0))) Unbounded) spots → found ≡ filter (from_place time agent) spots
+  found_from is = is ∙ λ i. filter (λ s. and_end (from_place time agent s) i) spots
 
-  pub are_rising : AreRising found
-  are_rising i j d lt within =
-      let rest = filter (starts cell from) all in
-      let inside : j < length rest = subst (λ (l : List Spot). j < length l) is.is within in
-      let a = get_or rest i d in
-      let b = get_or rest j d in
-      let less : spot_cmp a b ≡ Less = ascends spot_cmp rest (IsStrictlySortedBy-filter spot_cmp (starts cell from) all is.ordered) i j d lt inside in
-      let in_all : (k : ℕ) → k < length rest → Contains all (get_or rest k d) = λ k h. ((filter_keeps (starts cell from) all (get_or rest k d)).0 (k, h, get_or_default rest k _ _ h)).0 in
-      subst (λ (l : List Spot). (get_or l i d).time ≤ (get_or l j d).time) (sym is.is)
-      (later a b (here a (in_all i (omega arith)) ∙ sym (here b (in_all j inside))) (not_less (spot_cmp a b) less))
+  module _ (is : found ≡ filter (from_place time agent) spots) where
+    kept : (s : Spot) → Contains found s ↔ (Contains spots s × (from_place time agent s ≡ true))
+    kept s = subst (λ (l : List Spot). Contains l s ↔ (Contains spots s × (from_place time agent s ≡ true))) (sym is) (filter_keeps (from_place time agent) spots s)
 
--- ---- the first one from an agent's place on
-module _ (all : List Spot) (cell : Point) (time agent : ℕ) where
-  abbrev pub from_place : Spot → Bool
-  from_place = λ v. is_le (spot_cmp (spot cell time agent (point 0 0)) v)
+    pub there : (to : Point) → Contains spots (spot time agent to) → Contains found (spot time agent to)
+    there to h = (kept (spot time agent to)).1 (h, reached time agent (spot time agent to) (omega arith) (omega arith))
 
-  place_from : (to : Point) → from_place (spot cell time agent to) ≡ true
-  place_from to = reached cell time agent (spot cell time agent to) refl (omega arith) (omega arith)
+    pub among : (s : Spot) → Contains found s → Contains spots s
+    among s h = ((kept s).0 h).0
 
-  pub none_there : filter from_place all ≡ [] → HasAt all cell time agent → ⊥
-  none_there steps w =
-      let v = spot cell time agent w.0 in
-      Contains-nil v (subst (λ (l : List Spot). Contains l v) steps ((filter_keeps from_place all v).1 (w.1, place_from w.0)))
+    pub are_from : agent ≡ 0 → AreFrom spots time found
+    are_from least s = (
+      (λ h. let k = (kept s).0 h in (k.0, from_le time s.time _ k.1)),
+      (λ h. (kept s).1 (h.0, reached time agent s h.1 (omega arith))),
+    )
 
-  -- it is the agent's there, if any is
-  pub first_there : (s : Spot) (rest : List Spot) → IsStrictlySortedBy spot_cmp all → filter from_place all ≡ s ∷ rest → HasAt all cell time agent → (s.cell ≡ cell) × (time ≡ s.time) × (agent ≡ s.step.agent)
-  first_there s rest sorted steps w =
-      let v = spot cell time agent w.0 in
-      let among = subst (λ (l : List Spot). Contains l v) steps ((filter_keeps from_place all v).1 (w.1, place_from w.0)) in
-      let least = ((filter_keeps from_place all s).0 (subst (λ (l : List Spot). Contains l s) (sym steps) (Contains-cons_head s rest))).1 in
-      elim (Contains-cons_cases s rest v among) [
-        | inl is ↦ (ap (λ (q : Spot). q.cell) is, sym (ap (λ (q : Spot). q.time) is), sym (ap (λ (q : Spot). q.step.agent) is))
-        | inr more ↦
-            let rises = subst (λ (l : List Spot). AllPairs (λ a b. spot_cmp a b ≡ Less) l) steps (ascends spot_cmp (filter from_place all) (IsStrictlySortedBy-filter spot_cmp from_place all sorted)) in
-            at_place v s (point 0 0) least (ap is_le (AllPairs-head (λ a b. spot_cmp a b ≡ Less) s rest rises v more))
-      ]
+    module _ (sorted : IsStrictlySortedBy spot_cmp spots) where
+      ascend : AllPairs (λ a b. spot_cmp a b ≡ Less) found
+      ascend = subst (λ (l : List Spot). AllPairs (λ a b. spot_cmp a b ≡ Less) l) (sym is) (ascends spot_cmp (filter (from_place time agent) spots) (IsStrictlySortedBy-filter spot_cmp (from_place time agent) spots sorted))
+
+      pub are_rising : AreRising found
+      are_rising i j d lt within = from_le _ _ _ (ap is_le (ascend i j d lt within))
+
+      -- the first one is the agent's at the time, if any is
+      pub first_there : (s : Spot) (rest : List Spot) → found ≡ s ∷ rest → HasAt spots time agent → (s.time ≡ time) × (s.step.agent ≡ agent)
+      first_there s rest steps w =
+          let v = spot time agent w.0 in
+          let least = ((kept s).0 (subst (λ (l : List Spot). Contains l s) (sym steps) (Contains-cons_head s rest))).1 in
+          elim (Contains-cons_cases s rest v (subst (λ (l : List Spot). Contains l v) steps (there w.0 w.1))) [
+            | inl is ↦ (ap (λ (q : Spot). q.time) is, ap (λ (q : Spot). q.step.agent) is)
+            | inr more ↦
+                let less = AllPairs-head (λ a b. spot_cmp a b ≡ Less) s rest (subst (λ (l : List Spot). AllPairs (λ a b. spot_cmp a b ≡ Less) l) steps ascend) v more in
+                let times = squeeze time s.time _ _ least (ap is_le less) in
+                let agents = squeeze agent s.step.agent _ _ times.1 times.2 in
+                (sym times.0, sym agents.0)
+          ]
 
 -- no spot of those that rise is earlier than the first one
 pub first_least : (s : Spot) (rest : List Spot) → AreRising (s ∷ rest) → (v : Spot) → Contains (s ∷ rest) v → s.time ≤ v.time
@@ -207,11 +165,3 @@ first_least s rest rise v h = elim (Contains-cons_cases s rest v h) [
   | inl is ↦ subst (λ (q : Spot). s.time ≤ q.time) is (omega arith)
   | inr more ↦ AllPairs-head (λ (a b : Spot). a.time ≤ b.time) s rest rise v more
 ]
-
-and_end : (b : Bool) → (b && true) ≡ b
-and_end true = refl
-and_end false = refl
-
--- what a search with no end finds
-pub unbounded : (low : Spot) (all : List Spot) → filter (range_contains spot_cmp (Included low) Unbounded) all ≡ filter (λ s. is_le (spot_cmp low s)) all
-unbounded low all = λ i. filter (λ s. and_end (is_le (spot_cmp low s)) i) all

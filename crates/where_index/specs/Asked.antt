@@ -48,7 +48,6 @@ ArePassing fleet cell from passings = ListsAll (λ passing. passing.time ∷ pas
 -- the agent is in the cell at the time, which is one from one on, and does not rest there yet, or is to leave; where its step
 -- leads to another cell, it is in that one next
 pub record StandsIn (fleet : Fleet) (cell : Point) (from : ℕ) (s : Spot) : Type 0 where
-  pub place : s.cell ≡ cell
   pub not_before : from ≤ s.time
   pub there : position_of fleet s.step.agent s.time ≡ Some cell
   pub passes : (s.time < last_of fleet s.step.agent) ⊎ Leaves fleet s.step.agent
@@ -56,12 +55,11 @@ pub record StandsIn (fleet : Fleet) (cell : Point) (from : ℕ) (s : Spot) : Typ
 
 -- the agent is in the cell from that time on
 pub record RestsIn (fleet : Fleet) (cell : Point) (s : Spot) : Type 0 where
-  pub place : s.cell ≡ cell
   pub there : (time : ℕ) → s.time ≤ time → position_of fleet s.step.agent time ≡ Some cell
 
 -- an agent that is in the cell at a time stands there, or has come to rest there
 abbrev pub IsOccupant : Point → ℕ → ℕ → List Spot → List Spot → Type 0
-IsOccupant cell time agent stands tails = HasAt stands cell time agent ⊎ ((s : Spot) × Contains tails s × (s.step.agent ≡ agent) × (s.time ≤ time))
+IsOccupant cell time agent stands tails = HasAt stands time agent ⊎ ((s : Spot) × Contains tails s × (s.step.agent ≡ agent) × (s.time ≤ time))
 
 -- those who are in the cell at times from one on, the earliest first
 pub record AreOccupants (fleet : Fleet) (cell : Point) (from : ℕ) (found : Occupants) : Type 0 where

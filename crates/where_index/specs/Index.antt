@@ -4,23 +4,23 @@ use Rattle.std.specs.Option.{option_and_then}
 use Rattle.std.specs.Map.{lookup}
 use Rattle.std.specs.Ordering.{nat_cmp, is_eq}
 use Rattle.plan_table.specs.Route.{Route, Fleet, last_of}
-use Rattle.where_index.specs.declared.spot_sets.Spot.{Spot}
 use Rattle.where_index.specs.declared.moves.Move.{Move}
 use Rattle.where_index.specs.declared.crowds.Place.{Place}
 use Rattle.where_index.specs.declared.flows.Flows.{Flows}
 use Rattle.where_index.specs.declared.ends.End.{End}
 use Rattle.where_index.specs.Ends.{IsEndOf}
 use Rattle.where_index.specs.Records.{leg_at, rest_at}
+use Rattle.where_index.specs.ByCell.{ByCell}
 use Rattle.where_index.specs.Changes.{HasSpots}
 use Rattle.where_index.specs.Crowds.{HasCrowds}
 use Rattle.where_index.specs.Flows.{HasFlows}
 
 -- what an index keeps
 pub record Contents : Type 0 where
-  pub stands : List Spot
+  pub stands : ByCell
   pub crowds : List (Place × List Move)
   pub flows : Flows
-  pub tails : List Spot
+  pub tails : ByCell
   pub ends : List (ℕ × End)
   pub horizon : ℕ
   pub touched : ℕ

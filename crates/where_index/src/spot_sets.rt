@@ -1,7 +1,7 @@
 ghost use Rattle.std.specs.Prelude.{◌≡◌, ◌↔◌, [], OnOk, OnErr, IsTrue};
 ghost use Rattle.std.specs.Bool.{OnTrue};
 ghost use Rattle.grid_cells.specs.Cell.{point};
-ghost use Rattle.where_index.specs.Spots.{spot, Gains, Loses, IsFrom, HasAt};
+ghost use Rattle.where_index.specs.Spots.{spot, Gains, Loses, AreFrom, AreRising, HasAt};
 
 use crate::moves::Move;
 use grid_cells::{Agent, Cell, OutOfMemory};
@@ -10,16 +10,15 @@ use std::collections::BTreeSet;
 use std::collections::btree_set::Range;
 use std::marker::Model;
 
-/// A cell at a time, with the agent that is there then and where it is one step later: in the same
-/// cell, if it waits. Spots compare by cell, time, agent and the cell that the agent goes to.
+/// An agent that is in a cell at a time, and where it is one step later: in the same cell, if it
+/// waits. Spots compare by time, agent and the cell that the agent goes to.
 #[derive(Clone, Copy, Debug, PartialEq, Eq, PartialOrd, Ord)]
 pub struct Spot {
-    pub cell: Cell,
     pub time: u32,
     pub step: Move,
 }
 
-/// A set of spots, in their order.
+/// The spots of one cell, in their order.
 #[derive(Debug, Drop)]
 pub struct SpotSet {
     spots: BTreeSet<Spot>,
@@ -62,42 +61,42 @@ impl SpotSet {
         self.spots.is_empty()
     }
 
-    /// Whether the agent is at the cell at the time.
-    pub fn has(&self, cell: Cell, time: u32, agent: Agent) -> bool
-        ensures { IsTrue result ↔ HasAt self.now cell time agent }
+    /// Whether the agent is there at the time.
+    pub fn has(&self, time: u32, agent: Agent) -> bool
+        ensures { IsTrue result ↔ HasAt self.now time agent }
     {
-        let low = spot_of(cell, time, agent, least_cell());
+        let low = spot_of(time, agent, least_cell());
         match self.spots.range(low..).next() {
-            Some(first) => is_there(first, cell, time, agent),
+            Some(first) => is_there(first, time, agent),
             None => false,
         }
     }
 
-    /// The spots from that cell and time on, in order.
-    pub fn from(&self, cell: Cell, time: u32) -> Range<'_, Spot>
-        ensures { IsFrom self.now cell time result }
+    /// The spots from that time on, in order.
+    pub fn from(&self, time: u32) -> Range<'_, Spot>
+        ensures all { AreFrom self.now time result }
+        ensures rising { AreRising result }
     {
         self.spots
-            .range(spot_of(cell, time, Agent::LEAST, least_cell())..)
+            .range(spot_of(time, Agent::LEAST, least_cell())..)
     }
 }
 
-// The agent at the cell at the time, on its way to another.
-fn spot_of(cell: Cell, time: u32, agent: Agent, to: Cell) -> Spot
-    ensures { result ≡ spot cell time agent to }
+// The agent at the time, on its way to a cell.
+fn spot_of(time: u32, agent: Agent, to: Cell) -> Spot
+    ensures { result ≡ spot time agent to }
 {
     Spot {
-        cell,
         time,
         step: Move { agent, to },
     }
 }
 
-// Whether the one that was found is the agent's in that cell at that time.
-fn is_there(found: &Spot, cell: Cell, time: u32, agent: Agent) -> bool
-    ensures { IsTrue result ↔ (found.now ≡ spot cell time agent found.now.step.to) }
+// Whether the one that was found is the agent's at that time.
+fn is_there(found: &Spot, time: u32, agent: Agent) -> bool
+    ensures { IsTrue result ↔ (found.now ≡ spot time agent found.now.step.to) }
 {
-    found.cell == cell && found.time == time && found.step.agent == agent
+    found.time == time && found.step.agent == agent
 }
 
 // The cell that no other comes before.

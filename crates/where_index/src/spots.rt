@@ -1,8 +1,8 @@
 ghost use Rattle.std.specs.Prelude.{◌≡◌, ◌↔◌, [], OnOk, OnErr, IfSome, IfNone, IsTrue};
 ghost use Rattle.std.specs.Bool.{OnTrue};
 ghost use Rattle.where_index.specs.declared.moves.Move.{Move};
-ghost use Rattle.where_index.specs.Spots.{Gains, Loses, AreFrom, AreRising, HasAt, IsMover, AreWithin};
-ghost use Rattle.where_index.specs.ByCell.{spots_at, GainsAt, LosesAt, HaveSame};
+ghost use Rattle.where_index.specs.Spots.{AreFrom, AreRising, HasAt, IsMover};
+ghost use Rattle.where_index.specs.ByCell.{spots_at, AreWithin, GainsAt, LosesAt, HaveSame};
 
 use crate::moves::Move;
 use crate::spot_sets::{Spot, SpotSet};
@@ -12,7 +12,7 @@ use std::collections::HashMap;
 use std::collections::btree_set::Range;
 use std::marker::Model;
 
-/// A set of spots. What is asked of a cell costs what follows the number of spots there.
+/// The spots of each cell. What is asked of a cell costs what follows the number of spots there.
 #[derive(Drop)]
 pub struct Spots {
     alloc: Global,
@@ -21,15 +21,14 @@ pub struct Spots {
 }
 
 impl Model for Spots {
-    ghost use Rattle.std.specs.Prelude.{◌≡◌, List, []};
-    ghost use Rattle.where_index.specs.declared.spot_sets.Spot.{Spot};
-    ghost use Rattle.where_index.specs.ByCell.{all_of, AreByCell};
+    ghost use Rattle.std.specs.Prelude.{◌≡◌, []};
+    ghost use Rattle.where_index.specs.ByCell.{ByCell, AreWithin};
 
-    ghost Value = { List Spot };
+    ghost Value = { ByCell };
 
-    ghost view = { λ s. all_of s.sets.entries };
+    ghost view = { λ s. s.sets.entries };
 
-    ghost invariant = { λ s. (s.none ≡ []) × AreByCell s.sets.entries };
+    ghost invariant = { λ s. (s.none ≡ []) × AreWithin s.sets.entries };
 }
 
 impl Spots {
@@ -44,34 +43,34 @@ impl Spots {
         }
     }
 
-    /// Adds the spot.
+    /// Adds the spot to those at the cell.
     ///
     /// # Errors
     ///
     /// Want of memory.
-    pub fn add(&mut self, spot: Spot) -> Result<(), OutOfMemory>
-        ensures { OnOk result (Gains self.old self.new spot) }
+    pub fn add(&mut self, cell: Cell, spot: Spot) -> Result<(), OutOfMemory>
+        ensures { OnOk result (GainsAt self.old self.new cell spot) }
     {
         let step = spot.step;
         let _number = step.agent.number();
-        add_in(&mut self.sets, self.alloc, spot)?;
+        add_in(&mut self.sets, self.alloc, cell, spot)?;
         Ok(())
     }
 
-    /// Takes the spot out, if it is there.
-    pub fn lose(&mut self, spot: &Spot)
-        ensures { Loses self.old self.new spot.now }
+    /// Takes the spot out of those at the cell, if it is there.
+    pub fn lose(&mut self, cell: Cell, spot: &Spot)
+        ensures { LosesAt self.old self.new cell spot.now }
     {
-        if lose_in(&mut self.sets, spot) {
-            drop_set(&mut self.sets, spot.cell);
+        if lose_in(&mut self.sets, cell, spot) {
+            drop_set(&mut self.sets, cell);
         }
     }
 
     /// Whether the agent is at the cell at the time.
     pub fn has(&self, cell: Cell, time: u32, agent: Agent) -> bool
-        ensures { IsTrue result ↔ HasAt self.now cell time agent }
+        ensures { IsTrue result ↔ HasAt (spots_at self.now cell) time agent }
     {
-        set_at(&self.sets, &self.none, cell).has(cell, time, agent)
+        set_at(&self.sets, &self.none, cell).has(time, agent)
     }
 
     /// The spots are of agents that have a number.
@@ -83,16 +82,16 @@ impl Spots {
 
     /// The spots at the cell from one time on, by time, then agent.
     pub fn from(&self, cell: Cell, time: u32) -> Range<'_, Spot>
-        ensures all { AreFrom self.now cell time result }
+        ensures all { AreFrom (spots_at self.now cell) time result }
         ensures rising { AreRising result }
     {
-        set_at(&self.sets, &self.none, cell).from(cell, time)
+        set_at(&self.sets, &self.none, cell).from(time)
     }
 
     /// A step out of the cell at the time, if any agent moves out of it.
     pub fn mover(&self, cell: Cell, time: u32) -> Option<&Move>
-        ensures some { IfSome result (λ step. IsMover self.now cell time step.now) }
-        ensures none { IfNone result ((step : Move) → IsMover self.now cell time step → ⊥) }
+        ensures some { IfSome result (λ step. IsMover (spots_at self.now cell) cell time step.now) }
+        ensures none { IfNone result ((step : Move) → IsMover (spots_at self.now cell) cell time step → ⊥) }
     {
         for spot in self.from(cell, time) {
             if spot.time != time {
@@ -114,26 +113,31 @@ fn set_at<'a>(sets: &'a HashMap<Cell, SpotSet>, none: &'a SpotSet, cell: Cell) -
     sets.get(&cell).unwrap_or(none)
 }
 
-// Adds the spot to those at its cell.
-fn add_in(sets: &mut HashMap<Cell, SpotSet>, alloc: Global, spot: Spot) -> Result<(), OutOfMemory>
-    ensures gains { OnOk result (GainsAt sets.old.entries sets.new.entries spot) }
+// Adds the spot to those at the cell.
+fn add_in(
+    sets: &mut HashMap<Cell, SpotSet>,
+    alloc: Global,
+    cell: Cell,
+    spot: Spot,
+) -> Result<(), OutOfMemory>
+    ensures gains { OnOk result (GainsAt sets.old.entries sets.new.entries cell spot) }
     ensures refused { OnErr result (HaveSame sets.old.entries sets.new.entries) }
 {
-    if let Some(set) = sets.get_mut(&spot.cell) {
+    if let Some(set) = sets.get_mut(&cell) {
         return set.add(spot);
     }
     let mut set = SpotSet::new(alloc);
     set.add(spot)?;
-    sets.insert(spot.cell, set)?;
+    sets.insert(cell, set)?;
     Ok(())
 }
 
-// Takes the spot out of those at its cell, and answers whether none is left there.
-fn lose_in(sets: &mut HashMap<Cell, SpotSet>, spot: &Spot) -> bool
-    ensures loses { LosesAt sets.old.entries sets.new.entries spot.now }
-    ensures empty { OnTrue result (spots_at sets.new.entries spot.now.cell ≡ []) }
+// Takes the spot out of those at the cell, and answers whether none is left there.
+fn lose_in(sets: &mut HashMap<Cell, SpotSet>, cell: Cell, spot: &Spot) -> bool
+    ensures loses { LosesAt sets.old.entries sets.new.entries cell spot.now }
+    ensures empty { OnTrue result (spots_at sets.new.entries cell ≡ []) }
 {
-    match sets.get_mut(&spot.cell) {
+    match sets.get_mut(&cell) {
         Some(set) => set.lose(spot),
         None => false,
     }

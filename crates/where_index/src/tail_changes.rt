@@ -87,7 +87,7 @@ fn clear_rest(tails: &mut Spots, agent: Agent, time: u32, old: Option<Cell>)
     ensures { ChangesSpot tails.old tails.new agent time (leg_between old None) None }
 {
     match old {
-        Some(cell) => tails.lose(&rest(agent, time, cell)),
+        Some(cell) => tails.lose(cell, &rest(agent, time, cell)),
         None => {}
     }
 }
@@ -102,17 +102,16 @@ fn fill_rest(
     ensures free { new ≡ None → IsOk result }
 {
     match new {
-        Some(cell) => tails.add(rest(agent, time, cell)),
+        Some(cell) => tails.add(cell, rest(agent, time, cell)),
         None => Ok(()),
     }
 }
 
 // The agent at rest in the cell from the time on.
 fn rest(agent: Agent, time: u32, cell: Cell) -> Spot
-    ensures { result ≡ spot cell time agent cell }
+    ensures { result ≡ spot time agent cell }
 {
     Spot {
-        cell,
         time,
         step: Move { agent, to: cell },
     }

@@ -71,7 +71,7 @@ impl Traffic {
         self.flows.add(agent, time, &leg)?;
         crowd(&mut self.crowds, cell, time, beside, Move { agent, to })?;
         let step = Move { agent, to };
-        self.stands.add(Spot { cell, time, step })
+        self.stands.add(cell, Spot { time, step })
     }
 
     /// Takes out where the agent goes in that step.
@@ -81,7 +81,7 @@ impl Traffic {
         let (cell, to) = (leg.from, leg.to);
         let step = Move { agent, to };
         self.flows.lose(agent, time, &leg);
-        self.stands.lose(&Spot { cell, time, step });
+        self.stands.lose(cell, &Spot { time, step });
         self.crowds.leave(cell, time, agent);
     }
 }

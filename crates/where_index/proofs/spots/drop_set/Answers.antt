@@ -3,4 +3,4 @@ use Rattle.where_index.proofs.ByCell.{have_same}
 use Rattle.where_index.proofs.spots.drop_set.Goals as goal
 
 pub returns : goal.returns
-returns c = have_same c.args.sets.now.entries c.remove.new.self.entries c.args.cell None (sym c.requires) c.remove.ensures.updates.0
+returns c = have_same c.args.sets.now.entries c.remove.new.self.entries c.args.cell None c.remove.ensures.updates.0 (sym c.requires)

@@ -1,4 +1,4 @@
-use Rattle.std.proofs.Common.{◌≡◌, Option, List, [], ap, sym, ◌∙◌, refl, subst}
+use Rattle.std.proofs.Common.{◌≡◌, Some, Option, List, [], ap, sym, ◌∙◌, refl, subst}
 use Rattle.std.specs.Option.{unwrap_or, option_copied_mut, IsSome}
 use Rattle.where_index.specs.declared.spot_sets.Spot.{Spot}
 use Rattle.where_index.specs.Spots.{Loses}
@@ -10,6 +10,6 @@ pub returns-in-Some-clause-loses : goal.returns-in-Some-clause-loses
 returns-in-Some-clause-loses c =
     let h = c.get_mut.follows.holds c.lose.new.self in
     let found = sym c.get_mut.ensures.value ∙ ap option_copied_mut c.in-Some.is in
-    let before : spots_at c.args.sets.now.entries c.args.spot.now.cell ≡ c.in-Some.set.now = ap (λ (o : Option (List Spot)). unwrap_or o []) found in
-    loses_at _ _ c.args.spot.now c.lose.new.self
-    (subst (λ l. Loses l c.lose.new.self c.args.spot.now) (sym before) c.lose.ensures.loses) (h.3 (subst IsSome (sym found) refl)).0
+    let before : spots_at c.args.sets.now.entries c.args.cell ≡ c.in-Some.set.now = ap (λ (o : Option (List Spot)). unwrap_or o []) found in
+    loses_at _ _ c.args.cell (Some c.lose.new.self) (h.3 (subst IsSome (sym found) refl)).0 c.args.spot.now
+    (subst (λ l. Loses l c.lose.new.self c.args.spot.now) (sym before) c.lose.ensures.loses)

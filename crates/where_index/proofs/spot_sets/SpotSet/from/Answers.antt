@@ -1,15 +1,13 @@
-use Rattle.std.proofs.Common.{List, ap, ◌∙◌}
-use Rattle.std.specs.List.{filter}
-use Rattle.where_index.specs.declared.spot_sets.Spot.{Spot}
-use Rattle.where_index.specs.Spots.{spot, starts}
-use Rattle.grid_cells.specs.Cell.{point}
-use Rattle.where_index.proofs.SpotOrder.{unbounded}
+use Rattle.std.proofs.Common.{refl}
+use Rattle.where_index.proofs.SpotOrder.{found_from, are_from, are_rising}
 use Rattle.where_index.proofs.spot_sets.SpotSet.from.Goals as goal
 
-pub returns : goal.returns
-returns c =
-    let all = rw (c.spot_of.ensures, c.least_cell.ensures) at (c.range.ensures.between tt) in
-    record {
-      is = all ∙ (unbounded (spot c.args.cell c.args.time 0 (point 0 0)) c.self.inside.spots.keys ∙ ap (λ (l : List Spot). filter (starts c.args.cell c.args.time) l) c.self.view_is);
-      ordered = rw (← c.self.view_is) c.range.ensures.ordered;
-    }
+pub returns-clause-all : goal.returns-clause-all
+returns-clause-all c =
+    let is = found_from c.args.time 0 c.args.self.now _ (rw (c.spot_of.ensures, c.least_cell.ensures, c.self.view_is) at (c.range.ensures.between tt)) in
+    are_from c.args.time 0 c.args.self.now _ is refl
+
+pub returns-clause-rising : goal.returns-clause-rising
+returns-clause-rising c =
+    let is = found_from c.args.time 0 c.self.inside.spots.keys _ (rw (c.spot_of.ensures, c.least_cell.ensures) at (c.range.ensures.between tt)) in
+    are_rising c.args.time 0 c.self.inside.spots.keys _ is c.range.ensures.ordered
