@@ -1,5 +1,5 @@
 -- Spots kept by cell.
-use Rattle.std.proofs.Common.{◌≡◌, ◌⊎◌, inl, inr, List, [], ◌≤◌, Contains, refl, sym, ap, ◌∙◌, subst, Option, Some, Bool, true, false, cond, arith}
+use Rattle.std.proofs.Common.{◌≡◌, ◌⊎◌, inl, inr, List, [], ◌≤◌, Contains, refl, sym, ap, ◌∙◌, subst, Option, Bool, true, false, cond, arith}
 use mathlib.Core.Logic.{◌↔◌}
 use Rattle.std.specs.Option.{unwrap_or}
 use Rattle.std.specs.Map.{lookup}

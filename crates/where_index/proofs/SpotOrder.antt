@@ -14,7 +14,7 @@ use Rattle.std.proofs.lemmas.List.Kept.{AllPairs-cons, IsStrictlySortedBy-filter
 use Rattle.std.proofs.lemmas.Cmp.{ranked, nat_cmp_total, on_total, then_total}
 use Rattle.std.proofs.lemmas.Map.Lookups.{CmpEqualImpliesEq, exact_unsigned}
 use Rattle.grid_cells.specs.Cell.{Point, point}
-use Rattle.plan_table.proofs.Order.{Contains-nil, Contains-cons_head, Contains-cons_cases, AllPairs-head}
+use Rattle.plan_table.proofs.Order.{Contains-cons_head, Contains-cons_cases, AllPairs-head}
 use Rattle.where_index.specs.declared.moves.Move.{Move}
 use Rattle.where_index.specs.declared.spot_sets.Spot.{Spot}
 use Rattle.where_index.specs.Spots.{spot, AreFrom, AreRising, HasAt}

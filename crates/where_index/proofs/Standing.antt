@@ -9,7 +9,6 @@ use Rattle.grid_cells.specs.Cell.{Point}
 use Rattle.plan_table.specs.Path.{last_index, place}
 use Rattle.plan_table.specs.Route.{Route, Fleet, last_of, position}
 use Rattle.where_index.specs.declared.ends.End.{End}
-use Rattle.where_index.specs.declared.traffic.Traffic.{Traffic}
 use Rattle.where_index.specs.Records.{stand_at, tail_at, hop_at, hop_between, leg_between, leg_at, rest_at}
 use Rattle.where_index.specs.Changes.{HaveSameAt, set_row, ChangesSpots}
 use Rattle.where_index.specs.Traffic.{ChangesLegs}
@@ -110,26 +109,19 @@ module _ (fleet : Fleet) (agent : ℕ) (before next : Option Route) (was : fleet
     last_le None h = omega arith
     last_le (Some r) h = h
 
-  abbrev traffic_in : Contents → Traffic
-  traffic_in index = record { stands = index.stands; crowds = index.crowds; flows = index.flows }
-
   -- the index after the records, the end and the horizon are changed
   pub stands_next : (index new : Contents) (end : Option End) → StandsFor index fleet
-      → ChangesLegs (traffic_in index) (traffic_in new) agent (leg_at (unwrap_or before nothing)) (leg_at (unwrap_or next nothing))
+      → ChangesLegs index.traffic new.traffic agent (leg_at (unwrap_or before nothing)) (leg_at (unwrap_or next nothing))
       → ChangesSpots index.tails new.tails agent (rest_at (unwrap_or before nothing)) (rest_at (unwrap_or next nothing))
       → ((q : ℕ) → end_in new.ends q ≡ cond (is_eq (nat_cmp agent q)) end (end_in index.ends q)) → IsEndOf end next
       → index.horizon ≤ new.horizon → last_index (unwrap_or next nothing).path ≤ new.horizon
       → StandsFor new (with_route fleet agent next)
-  stands_next index new end has legs tails puts is more last =
-      let legs_next = HasTraffic-ext (traffic_in new) _ _ (row_next leg_at no_leg) (legs (all_of leg_at fleet) (record { stands = has.stands; crowds = has.crowds; flows = has.flows }) (agrees leg_at no_leg)) in
-      record {
-        stands = legs_next.stands;
-        crowds = legs_next.crowds;
-        flows = legs_next.flows;
-        tails = HasSpots-ext new.tails _ _ (row_next rest_at no_rest) (tails (all_of rest_at fleet) has.tails (agrees rest_at no_rest));
-        ends = ends_next index.ends new.ends end puts has.ends is;
-        horizon = horizon_next index.horizon new.horizon has.horizon more last;
-      }
+  stands_next index new end has legs tails puts is more last = record {
+    traffic = HasTraffic-ext new.traffic _ _ (row_next leg_at no_leg) (legs (all_of leg_at fleet) has.traffic (agrees leg_at no_leg));
+    tails = HasSpots-ext new.tails _ _ (row_next rest_at no_rest) (tails (all_of rest_at fleet) has.tails (agrees rest_at no_rest));
+    ends = ends_next index.ends new.ends end puts has.ends is;
+    horizon = horizon_next index.horizon new.horizon has.horizon more last;
+  }
 
 -- the end of a path
 pub end_place : (path : List Point) (t : ℕ) (cell : Point) → t ≡ last_index path → place path t ≡ Some cell → slice_get path (last_index path) ≡ Some cell

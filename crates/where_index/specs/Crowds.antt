@@ -6,6 +6,8 @@ use Rattle.grid_cells.specs.Cell.{Point}
 use Rattle.where_index.specs.declared.moves.Move.{Move}
 use Rattle.where_index.specs.declared.trails.Hop.{Hop}
 use Rattle.where_index.specs.declared.crowds.Place.{Place}
+use Rattle.where_index.specs.Records.{hop}
+use Rattle.where_index.specs.Changes.{set_at}
 use Rattle.where_index.specs.Moves.{PutsMove, LosesMover}
 
 abbrev pub place : Point → ℕ → Place
@@ -73,3 +75,7 @@ IsLeft agent (Some old) (Some new) = LosesMover old new agent
 IsLeft agent None None = Unit {0}
 IsLeft agent (Some old) None = (rest : List Move) × LosesMover old rest agent × (length rest < 2)
 IsLeft agent None (Some new) = ⊥
+
+-- the agent's step out of the cell comes to those of others, of which one is told, where nothing is known of the agent
+abbrev pub AddsStep : List (Place × List Move) → List (Place × List Move) → Point → ℕ → Option Move → Move → Type 0
+AddsStep old new cell time beside step = (f : ℕ → ℕ → Option Hop) → HasCrowds old f → f step.agent time ≡ None → IsBeside f cell time beside → HasCrowds new (set_at f step.agent time (Some (hop cell step.to)))

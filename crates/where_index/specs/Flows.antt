@@ -6,6 +6,7 @@ use Rattle.where_index.specs.declared.trails.Hop.{Hop}
 use Rattle.where_index.specs.declared.ways.Way.{Way}
 use Rattle.where_index.specs.declared.ways.Way.TheVariants.{Up, Left, Right, Down}
 use Rattle.where_index.specs.declared.flows.Flows.{Flows}
+use Rattle.where_index.specs.Changes.{set_at}
 
 -- the way leads from the one cell to the other: columns rise to the right, and rows downwards
 abbrev pub leads : Way → Point → Point → Bool
@@ -44,3 +45,11 @@ flow flows Down = flows.down
 -- the counts of each way are those of the agents
 abbrev pub HasFlows : Flows → (ℕ → ℕ → Option Hop) → Type 0
 HasFlows flows f = (way : Way) → AreCounted (flow flows way) way f
+
+-- where the agent goes in a step gives way to another, in the counts of a way
+abbrev pub ChangesCount : List ℕ → List ℕ → Way → ℕ → ℕ → Option Hop → Option Hop → Type 0
+ChangesCount old new way agent time was next = (f : ℕ → ℕ → Option Hop) → AreCounted old way f → f agent time ≡ was → AreCounted new way (set_at f agent time next)
+
+-- and in those of each
+abbrev pub ChangesFlows : Flows → Flows → ℕ → ℕ → Option Hop → Option Hop → Type 0
+ChangesFlows old new agent time was next = (f : ℕ → ℕ → Option Hop) → HasFlows old f → f agent time ≡ was → HasFlows new (set_at f agent time next)

@@ -62,6 +62,10 @@ changed_hop None (Some b) = 1
 changed_hop (Some a) None = 1
 changed_hop (Some a) (Some b) = if (same_point a.from b.from && same_point a.to b.to) then 0 else 2
 
+-- how many of the records Stand and Move of two routes at a time are given, where they differ
+abbrev pub leg_changed : Route → Route → ℕ → ℕ
+leg_changed old new time = changed (stand_at old time) (stand_at new time) + changed_hop (hop_at old.path time) (hop_at new.path time)
+
 -- how many records exactly one of the two has, below a time
 abbrev pub changes_below : {X : Type 0} → (X → X → ℕ) → (ℕ → X) → (ℕ → X) → ℕ → ℕ
 changes_below change old new zero = 0

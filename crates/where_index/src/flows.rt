@@ -1,7 +1,5 @@
-ghost use Rattle.std.specs.Prelude.{◌≡◌, ℕ, Option, Some, None, OnOk, slice_index};
-ghost use Rattle.where_index.specs.declared.trails.Hop.{Hop};
-ghost use Rattle.where_index.specs.Changes.{set_at};
-ghost use Rattle.where_index.specs.Flows.{flow, AreCounted, HasFlows};
+ghost use Rattle.std.specs.Prelude.{◌≡◌, Some, None, OnOk, slice_index};
+ghost use Rattle.where_index.specs.Flows.{flow, HasFlows, ChangesFlows, ChangesCount};
 
 use crate::tallies::Tally;
 use crate::trails::Hop;
@@ -45,7 +43,7 @@ impl Flows {
 
     /// Adds the agent's move in that step, where it has none.
     pub fn add(&mut self, agent: Agent, time: u32, hop: &Hop) -> Result<(), OutOfMemory>
-        ensures { (f : ℕ → ℕ → Option Hop) → HasFlows self.old f → f agent time ≡ None → OnOk result (HasFlows self.new (set_at f agent time (Some hop.now))) }
+        ensures { OnOk result (ChangesFlows self.old self.new agent time None (Some hop.now)) }
     {
         add_to(&mut self.up, Way::Up, agent, time, hop)?;
         add_to(&mut self.left, Way::Left, agent, time, hop)?;
@@ -55,7 +53,7 @@ impl Flows {
 
     /// Takes the agent's move in that step out.
     pub fn lose(&mut self, agent: Agent, time: u32, hop: &Hop)
-        ensures { (f : ℕ → ℕ → Option Hop) → HasFlows self.old f → f agent time ≡ Some hop.now → HasFlows self.new (set_at f agent time None) }
+        ensures { ChangesFlows self.old self.new agent time (Some hop.now) None }
     {
         lose_from(&mut self.up, Way::Up, agent, time, hop);
         lose_from(&mut self.left, Way::Left, agent, time, hop);
@@ -72,7 +70,7 @@ fn add_to(
     time: u32,
     hop: &Hop,
 ) -> Result<(), OutOfMemory>
-    ensures { (f : ℕ → ℕ → Option Hop) → AreCounted tally.old way f → f agent time ≡ None → OnOk result (AreCounted tally.new way (set_at f agent time (Some hop.now))) }
+    ensures { OnOk result (ChangesCount tally.old tally.new way agent time None (Some hop.now)) }
 {
     let _number = agent.number();
     if way.leads(hop.from, hop.to) {
@@ -83,7 +81,7 @@ fn add_to(
 
 // Counts the agent's move in that step no more, if it goes that way.
 fn lose_from(tally: &mut Tally, way: Way, agent: Agent, time: u32, hop: &Hop)
-    ensures { (f : ℕ → ℕ → Option Hop) → AreCounted tally.old way f → f agent time ≡ Some hop.now → AreCounted tally.new way (set_at f agent time None) }
+    ensures { ChangesCount tally.old tally.new way agent time (Some hop.now) None }
 {
     let _number = agent.number();
     if way.leads(hop.from, hop.to) {

@@ -5,7 +5,7 @@ ghost use Rattle.plan_table.specs.Route.{Route, Fleet, position, last_of, route_
 ghost use Rattle.where_index.specs.Records.{nothing, apart_below, records_apart};
 ghost use Rattle.where_index.specs.Changes.{DifferWithin};
 ghost use Rattle.where_index.specs.Ends.{IsEndOfRoute};
-ghost use Rattle.where_index.specs.Index.{StandsFor, with_route};
+ghost use Rattle.where_index.specs.Index.{StandsFor, ChangesRoute};
 ghost use Rattle.where_index.specs.Asked.{CountsAgents};
 
 use crate::ends::End;
@@ -32,7 +32,7 @@ impl Model for WhereIndex {
 
     ghost Value = { Contents };
 
-    ghost view = { λ i. record { stands = i.records.traffic.stands; crowds = i.records.traffic.crowds; flows = i.records.traffic.flows; tails = i.records.tails; ends = i.ends.entries; horizon = i.horizon; touched = i.touched } };
+    ghost view = { λ i. record { traffic = i.records.traffic; tails = i.records.tails; ends = i.ends.entries; horizon = i.horizon; touched = i.touched } };
 }
 
 impl WhereIndex {
@@ -57,7 +57,7 @@ impl WhereIndex {
     ///
     /// Want of memory: the index is gone then.
     pub fn put(mut self, agent: Agent, track: Track<'_>) -> Result<WhereIndex, OutOfMemory>
-        ensures stands { IfOk result (λ index. (fleet : Fleet) → StandsFor self fleet → fleet agent ≡ None → StandsFor index (with_route fleet agent (Some (route_of track.entry)))) }
+        ensures stands { IfOk result (λ index. ChangesRoute self index agent None (Some (route_of track.entry))) }
         ensures horizon { IfOk result (λ index. index.horizon ≡ max self.horizon (last_index track.entry.plan.now)) }
         ensures touched { IfOk result (λ index. index.touched ≡ min (self.touched + records_apart nothing (route_of track.entry)) u64.MAX) }
     {
@@ -74,7 +74,7 @@ impl WhereIndex {
 
     /// Takes out an agent that is in it with that track.
     pub fn take(mut self, agent: Agent, track: Track<'_>) -> WhereIndex
-        ensures stands { (fleet : Fleet) → StandsFor self fleet → fleet agent ≡ Some (route_of track.entry) → StandsFor result (with_route fleet agent None) }
+        ensures stands { ChangesRoute self result agent (Some (route_of track.entry)) None }
         ensures horizon { result.horizon ≡ self.horizon }
         ensures touched { result.touched ≡ min (self.touched + records_apart (route_of track.entry) nothing) u64.MAX }
     {
@@ -106,7 +106,7 @@ impl WhereIndex {
         since: u32,
     ) -> Result<WhereIndex, OutOfMemory>
         requires { (t : ℕ) → t < since → position (route_of old) t ≡ position (route_of new) t }
-        ensures stands { IfOk result (λ index. (fleet : Fleet) → StandsFor self fleet → fleet agent ≡ Some (route_of old.entry) → StandsFor index (with_route fleet agent (Some (route_of new.entry)))) }
+        ensures stands { IfOk result (λ index. ChangesRoute self index agent (Some (route_of old.entry)) (Some (route_of new.entry))) }
         ensures horizon { IfOk result (λ index. index.horizon ≡ max self.horizon (last_index new.entry.plan.now)) }
         ensures touched { IfOk result (λ index. index.touched ≡ min (self.touched + records_apart (route_of old.entry) (route_of new.entry)) u64.MAX) }
     {
@@ -137,7 +137,7 @@ impl WhereIndex {
     ) -> Result<(), OutOfMemory>
         requires within { DifferWithin old.now new.now from to }
         requires end { IsEndOfRoute end new.now }
-        ensures stands { OnOk result ((fleet : Fleet) (was : Option Route) → StandsFor self.old fleet → fleet agent ≡ was → old.now ≡ unwrap_or was nothing → StandsFor self.new (with_route fleet agent (Some new.now))) }
+        ensures stands { OnOk result ((was : Option Route) → old.now ≡ unwrap_or was nothing → ChangesRoute self.old self.new agent was (Some new.now)) }
         ensures horizon { OnOk result (self.new.horizon ≡ max self.old.horizon end.last) }
         ensures touched { OnOk result (self.new.touched ≡ min (self.old.touched + apart_below old.now new.now to) u64.MAX) }
     {

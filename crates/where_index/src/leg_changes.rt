@@ -1,5 +1,5 @@
-ghost use Rattle.std.specs.Prelude.{◌≡◌, ◌+◌, ◌*◌, ◌≤◌, length, None, OnOk, IsOk, IfOk};
-ghost use Rattle.where_index.specs.Records.{stand_at, hop_at, leg_at, leg_between, changed, changed_hop, legs_apart};
+ghost use Rattle.std.specs.Prelude.{◌≡◌, ◌*◌, ◌≤◌, length, None, OnOk, IsOk, IfOk};
+ghost use Rattle.where_index.specs.Records.{leg_at, changed_hop, leg_changed, legs_apart};
 ghost use Rattle.where_index.specs.Changes.{DifferWithin};
 ghost use Rattle.where_index.specs.Traffic.{ChangesLegs, ChangesLeg};
 
@@ -43,7 +43,7 @@ fn change_leg(
     ensures set { OnOk result (ChangesLeg traffic.old traffic.new agent time (leg_at old.now time) (leg_at new.now time)) }
     ensures free { leg_at new.now time ≡ None → IsOk result }
     ensures few { IfOk result (λ n. n ≤ 4) }
-    ensures count { IfOk result (λ n. n ≡ changed (stand_at old.now time) (stand_at new.now time) + changed_hop (hop_at old.now.path time) (hop_at new.now.path time)) }
+    ensures count { IfOk result (λ n. n ≡ leg_changed old.now new.now time) }
 {
     let count = count_of(&old.stand(time), &new.stand(time))
         + count_of_hops(&old.hop(time), &new.hop(time));

@@ -1,9 +1,8 @@
 ghost use Rattle.std.specs.Prelude.{◌≡◌, ◌↔◌, ℕ, Option, Some, None, OnOk, Contains};
 ghost use Rattle.where_index.specs.declared.trails.Hop.{Hop};
 ghost use Rattle.where_index.specs.declared.moves.Move.{Move};
-ghost use Rattle.where_index.specs.Records.{hop};
-ghost use Rattle.where_index.specs.Changes.{HasSpots, set_at};
-ghost use Rattle.where_index.specs.Crowds.{Moves, HasCrowds, IsBeside};
+ghost use Rattle.where_index.specs.Changes.{HasSpots};
+ghost use Rattle.where_index.specs.Crowds.{Moves, IsBeside, AddsStep};
 ghost use Rattle.where_index.specs.Moves.{AreByAgent};
 ghost use Rattle.where_index.specs.Traffic.{HasTraffic, ChangesLeg};
 
@@ -94,7 +93,7 @@ fn crowd(
     beside: Option<Move>,
     step: Move,
 ) -> Result<(), OutOfMemory>
-    ensures { OnOk result ((f : ℕ → ℕ → Option Hop) → HasCrowds crowds.old f → f step.agent time ≡ None → IsBeside f cell time beside → HasCrowds crowds.new (set_at f step.agent time (Some (hop cell step.to)))) }
+    ensures { OnOk result (AddsStep crowds.old crowds.new cell time beside step) }
 {
     if step.to == cell {
         return Ok(());

@@ -21,7 +21,7 @@ pub returns : goal.returns
 returns c = λ fleet has.
     let records = rw (← c.self.view_is) at has in
     let told = rw c.number.ensures at c.movers.ensures.all in
-    let all = told (all_of leg_at fleet) (record { stands = records.stands; crowds = records.crowds; flows = records.flows }) in
+    let all = told (all_of leg_at fleet) records.traffic in
     record {
       ascending = movers_ascend c.movers.result.now c.movers.ensures.by_agent;
       exact = λ m. let move = movers_exact fleet c.args.cell c.args.step m in ((λ h. move.0 ((all m).0 h)), (λ h. (all m).1 (move.1 h)));

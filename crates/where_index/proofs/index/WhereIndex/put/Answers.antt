@@ -15,4 +15,4 @@ replace-requires-clause-within c =
     }
 
 pub returns-in-Ok-clause-stands : goal.returns-in-Ok-clause-stands
-returns-in-Ok-clause-stands c = λ fleet has was. rw (← c.of-trail.ensures.is) (c.in-Ok.ensures.stands fleet _ has was c.none.ensures)
+returns-in-Ok-clause-stands c = λ fleet has was. rw (← c.of-trail.ensures.is) (c.in-Ok.ensures.stands _ c.none.ensures fleet has was)

@@ -16,4 +16,4 @@ replace-requires-clause-within c = record {
 }
 
 pub returns-in-Ok-clause-stands : goal.returns-in-Ok-clause-stands
-returns-in-Ok-clause-stands c = λ fleet has was. rw (← c.of-after.ensures.is) (c.in-Ok.ensures.stands fleet _ has was c.of-before.ensures.is)
+returns-in-Ok-clause-stands c = λ fleet has was. rw (← c.of-after.ensures.is) (c.in-Ok.ensures.stands _ c.of-before.ensures.is fleet has was)
