@@ -9,6 +9,7 @@ use Rattle.where_index.specs.Spots.{spot}
 use Rattle.where_index.specs.ByCell.{ByCell, GainsAt, LosesAt}
 use Rattle.where_index.specs.Records.{hop, stand_at, hop_at, leg_between, leg_at, rest_at, changes_below, changed, changed_hop, same_point}
 use Rattle.where_index.specs.Changes.{HasSpots, HaveSameAt, set_at, set_row, mixed}
+use Rattle.where_index.proofs.Counts.{same_or_apart}
 
 pub HasSpots-ext : (sets : ByCell) (f g : ℕ → ℕ → Option Hop) → ((a t : ℕ) → f a t ≡ g a t) → HasSpots sets f → HasSpots sets g
 HasSpots-ext sets f g same has cell s = ((λ h. sym (same s.step.agent s.time) ∙ (has cell s).0 h), (λ h. (has cell s).1 (same s.step.agent s.time ∙ h)))
@@ -104,9 +105,6 @@ row_cases a b = grind (arith, nat_tests)
 
 time_cases : (t x : ℕ) → ((t < x) × (nat_lt t x ≡ true)) ⊎ ((x ≤ t) × (nat_lt t x ≡ false))
 time_cases t x = grind (arith, nat_tests)
-
-same_or_apart : (t x : ℕ) → (t ≡ x) ⊎ (t ≢ x)
-same_or_apart t x = grind arith
 
 module _ {X : Type 0} (f : ℕ → ℕ → X) (agent : ℕ) (o n : ℕ → X) where
   pub row_here : (v : ℕ → X) (a t : ℕ) → (a == agent) ≡ true → set_row f agent v a t ≡ v t

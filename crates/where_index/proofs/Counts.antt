@@ -5,7 +5,7 @@ use Rattle.where_index.specs.Flows.{many_below}
 abbrev one : Bool → ℕ
 one b = cond b 1 0
 
-same_or_apart : (a b : ℕ) → (a ≡ b) ⊎ (a ≢ b)
+pub same_or_apart : (a b : ℕ) → (a ≡ b) ⊎ (a ≢ b)
 same_or_apart a b = grind arith
 
 true_or_not : (b : Bool) → (b ≡ true) ⊎ (b ≡ false)

@@ -1,5 +1,5 @@
 -- Moves put in and taken out, by the cell that they leave and by their way.
-use Rattle.std.proofs.Common.{◌≡◌, ◌≢◌, ◌⊎◌, inl, inr, ℕ, ◌+◌, ◌-◌, min, ◌<◌, ◌≤◌, Bool, true, false, List, Option, None, slice_index, refl, sym, ap, ◌∙◌, subst, arith}
+use Rattle.std.proofs.Common.{◌≡◌, ◌≢◌, inl, inr, ℕ, ◌+◌, ◌-◌, min, ◌<◌, ◌≤◌, Bool, true, false, List, Option, None, slice_index, refl, sym, ap, ◌∙◌, subst, arith}
 use Rattle.grid_cells.specs.declared.numbers.TheConstants.{MOST_AGENT}
 use Rattle.where_index.specs.declared.trails.Hop.{Hop}
 use Rattle.where_index.specs.declared.ways.Way.{Way}
@@ -11,7 +11,7 @@ use Rattle.where_index.specs.Flows.{many_below, goes, AreCounted, HasFlows}
 use Rattle.where_index.specs.Traffic.{HasTraffic}
 use Rattle.where_index.proofs.Changes.{HasSpots-ext, at_cases, set_here, set_there, set_itself}
 use Rattle.where_index.proofs.Crowding.{HasCrowds-ext}
-use Rattle.where_index.proofs.Counts.{many-same, many-none, many-le, many-more}
+use Rattle.where_index.proofs.Counts.{same_or_apart, many-same, many-none, many-le, many-more}
 
 pub counted-ext : (counts : List ℕ) (way : Way) (f g : ℕ → ℕ → Option Hop) → ((a t : ℕ) → goes way (f a t) ≡ goes way (g a t)) → AreCounted counts way f → AreCounted counts way g
 counted-ext counts way f g same has t = has t ∙ many-same (λ a. goes way (f a t)) (λ a. goes way (g a t)) (MOST_AGENT + 1) (λ a _. same a t)
@@ -31,9 +31,6 @@ HasFlows-each flows f up left right down Down = down
 
 pub none_counted : (counts : List ℕ) (way : Way) → ((t : ℕ) → slice_index counts t ≡ 0) → AreCounted counts way (λ _ _. None)
 none_counted counts way is t = is t ∙ sym (many-none (λ a. goes way None) (MOST_AGENT + 1) (λ a. refl))
-
-same_or_apart : (a b : ℕ) → (a ≡ b) ⊎ (a ≢ b)
-same_or_apart a b = grind arith
 
 module _ (way : Way) (f : ℕ → ℕ → Option Hop) (agent time : ℕ) (v : Option Hop) where
   away : (a t : ℕ) → ((a ≡ agent) → (t ≡ time) → ⊥) → goes way (f a t) ≡ goes way (set_at f agent time v a t)

@@ -6,13 +6,14 @@ use Rattle.std.specs.List.Sorted.{IsStrictlySortedBy}
 use Rattle.std.specs.Ordering.{nat_cmp, ordering_then}
 use Rattle.std.specs.Cmp.{IsTotalOrder}
 use Rattle.std.proofs.lemmas.Cmp.{nat_cmp_total, on_total, then_total}
+use Rattle.std.proofs.lemmas.Map.Keys.{Less-from_sorted}
 use Rattle.std.proofs.lemmas.Map.Lookups.{CmpEqualImpliesEq, exact_unsigned}
 use Rattle.plan_table.specs.Order.{ComesBefore}
 use Rattle.where_index.specs.declared.spot_sets.Spot.{Spot}
 use Rattle.where_index.specs.declared.passings.Passing.{Passing}
 use Rattle.where_index.specs.Shown.{passing_cmp}
 use Rattle.plan_table.proofs.Order.{Contains-nil, Contains-cons_head, Contains-cons_tail, Contains-cons_cases}
-use Rattle.where_index.proofs.SpotOrder.{then_equal, then_end, ascends}
+use Rattle.where_index.proofs.SpotOrder.{then_equal, then_end}
 
 pub passing_total : IsTotalOrder passing_cmp
 passing_total = then_total (on_total (λ (p : Passing). p.time) nat_cmp_total) (on_total (λ (p : Passing). p.agent) nat_cmp_total)
@@ -74,10 +75,10 @@ module _ {K : Type 0} (R : Spot → K → Type 0) where
 
 -- ---- strictly sorted lists ascend
 pub agents_ascend : (agents : List ℕ) → IsStrictlySortedBy nat_cmp agents → AllPairs (λ a b. ComesBefore (a ∷ []) (b ∷ [])) agents
-agents_ascend agents sorted i j d lt within = then_end _ ∙ ascends nat_cmp agents sorted i j d lt within
+agents_ascend agents sorted i j d lt within = then_end _ ∙ Less-from_sorted nat_cmp agents i j d sorted lt within
 
 pub passings_ascend : (passings : List Passing) → IsStrictlySortedBy passing_cmp passings → AllPairs (λ (p q : Passing). ComesBefore (p.time ∷ p.agent ∷ []) (q.time ∷ q.agent ∷ [])) passings
 passings_ascend passings sorted i j d lt within =
     let p = get_or passings i d in
     let q = get_or passings j d in
-    ap (λ o. ordering_then (nat_cmp p.time q.time) o) (then_end (nat_cmp p.agent q.agent)) ∙ ascends passing_cmp passings sorted i j d lt within
+    ap (λ o. ordering_then (nat_cmp p.time q.time) o) (then_end (nat_cmp p.agent q.agent)) ∙ Less-from_sorted passing_cmp passings i j d sorted lt within

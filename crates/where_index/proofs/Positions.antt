@@ -299,9 +299,6 @@ hop_moves path leaves t h is =
     let within = slice_get_within path (t + 1) h.to parts.1 in
     (step_place path leaves t (omega arith) ∙ parts.0, step_place path leaves (t + 1) (omega arith) ∙ parts.1, apart_points h.from h.to parts.2)
 
-two_or_one : (path : List Point) (t : ℕ) → (t + 1 < length path) ⊎ (length path ≤ t + 1)
-two_or_one path t = grind arith
-
 other_points : (a b : Point) (v : Bool) → same_point a b ≡ v → (a ≢ b) → v ≡ false
 other_points a b false e apart = refl
 other_points a b true e apart = absurd (apart (points a b e)) where
@@ -313,7 +310,7 @@ other_points a b true e apart = absurd (apart (points a b e)) where
 
 -- a move out of a cell is a record Move
 pub moves_hop : (path : List Point) (leaves : Bool) (t : ℕ) (from to : Point) → position (route path leaves) t ≡ Some from → position (route path leaves) (t + 1) ≡ Some to → from ≢ to → hop_at path t ≡ Some (record { from = from; to = to })
-moves_hop path leaves t from to starts arrives apart = elim (two_or_one path t) [
+moves_hop path leaves t from to starts arrives apart = elim (early_or_late path t) [
   | inl early ↦
       let a : slice_get path t ≡ Some from = sym (step_place path leaves t (omega arith)) ∙ starts in
       let b : slice_get path (t + 1) ≡ Some to = sym (step_place path leaves (t + 1) early) ∙ arrives in

@@ -1,5 +1,5 @@
 -- The order of spots.
-use Rattle.std.proofs.Common.{◌≡◌, ◌≤◌, ◌<◌, ◌⊎◌, ℕ, refl, sym, ap, ◌∙◌, subst, List, [], ◌∷◌, Contains, Bool, true, false, ◌&&◌, arith, inl, inr}
+use Rattle.std.proofs.Common.{◌≡◌, ◌≤◌, ◌<◌, ◌⊎◌, ℕ, refl, sym, ap, ◌∙◌, subst, List, ◌∷◌, Contains, Bool, true, false, ◌&&◌, arith, inl, inr}
 use mathlib.Core.Logic.{◌↔◌}
 use Rattle.std.specs.List.{filter, AllPairs}
 use Rattle.std.specs.List.Sorted.{IsStrictlySortedBy}
@@ -9,9 +9,9 @@ use Rattle.std.specs.Ordering.{MatchOrdering, is_le, nat_cmp, ordering_then}
 use Rattle.std.specs.declared.cmp.Ordering.{Ordering}
 use Rattle.std.specs.declared.cmp.Ordering.TheVariants.{Less, Equal, Greater}
 use Rattle.std.specs.declared.ops.Bound.TheVariants.{Included, Unbounded}
-use Rattle.std.proofs.lemmas.List.Elements.{All-from_recursion}
-use Rattle.std.proofs.lemmas.List.Kept.{AllPairs-cons, IsStrictlySortedBy-filter}
-use Rattle.std.proofs.lemmas.Cmp.{ranked, nat_cmp_total, on_total, then_total}
+use Rattle.std.proofs.lemmas.List.Kept.{IsStrictlySortedBy-filter}
+use Rattle.std.proofs.lemmas.Cmp.{ranked, by_ranked, nat_cmp_total, on_total, then_total}
+use Rattle.std.proofs.lemmas.Map.Keys.{Less-from_sorted}
 use Rattle.std.proofs.lemmas.Map.Lookups.{CmpEqualImpliesEq, exact_unsigned}
 use Rattle.grid_cells.specs.Cell.{Point, point}
 use Rattle.plan_table.proofs.Order.{Contains-cons_head, Contains-cons_cases, AllPairs-head}
@@ -57,34 +57,22 @@ from_lt a b e = subst (λ o. MatchOrdering o (a < b) (a ≡ b) (b < a)) e (ranke
 pub from_eq : (a b : ℕ) → nat_cmp a b ≡ Equal → a ≡ b
 from_eq a b e = exact_unsigned _ _ e
 
-from_gt : (a b : ℕ) → nat_cmp a b ≡ Greater → b < a
-from_gt a b e = subst (λ o. MatchOrdering o (a < b) (a ≡ b) (b < a)) e (ranked a b (nat_cmp a b) refl)
-
 pub cases3 : (o : Ordering) → (o ≡ Less) ⊎ ((o ≡ Equal) ⊎ (o ≡ Greater))
 cases3 Less = inl refl
 cases3 Equal = inr (inl refl)
 cases3 Greater = inr (inr refl)
 
 place_le : (a b : ℕ) (o : Ordering) → is_le (ordering_then (nat_cmp a b) o) ≡ true → (a < b) ⊎ ((a ≡ b) × (is_le o ≡ true))
-place_le a b o e = elim (cases3 (nat_cmp a b)) [
-  | inl lt ↦ inl (from_lt a b lt)
-  | inr more ↦ elim more [
-    | inl same ↦ inr (from_eq a b same, subst (λ v. is_le (ordering_then v o) ≡ true) same e)
-    | inr gt ↦ let wrong : false ≡ true = subst (λ v. is_le (ordering_then v o) ≡ true) gt e in absurd (cc)
-  ]
-]
+place_le a b o e = by_ranked (a < b) (a ≡ b) (b < a) (nat_cmp a b) (ranked a b (nat_cmp a b) refl) (λ _ lt. inl lt)
+    (λ is same. inr (same, subst (λ v. is_le (ordering_then v o) ≡ true) is e))
+    (λ is _. let wrong : false ≡ true = subst (λ v. is_le (ordering_then v o) ≡ true) is e in absurd (cc))
 
 from_le : (a b : ℕ) (o : Ordering) → is_le (ordering_then (nat_cmp a b) o) ≡ true → a ≤ b
 from_le a b o e = elim (place_le a b o e) [ inl lt ↦ omega arith | inr same ↦ omega arith ]
 
 le_then : (a b : ℕ) (o : Ordering) → a ≤ b → is_le o ≡ true → is_le (ordering_then (nat_cmp a b) o) ≡ true
-le_then a b o h e = elim (cases3 (nat_cmp a b)) [
-  | inl lt ↦ ap (λ v. is_le (ordering_then v o)) lt
-  | inr more ↦ elim more [
-    | inl same ↦ ap (λ v. is_le (ordering_then v o)) same ∙ e
-    | inr gt ↦ absurd (omega (arith, from_gt a b gt))
-  ]
-]
+le_then a b o h e = by_ranked (a < b) (a ≡ b) (b < a) (nat_cmp a b) (ranked a b (nat_cmp a b) refl) (λ is _. ap (λ v. is_le (ordering_then v o)) is)
+    (λ is _. ap (λ v. is_le (ordering_then v o)) is ∙ e) (λ _ gt. absurd (omega arith))
 
 pub then_end : (o : Ordering) → ordering_then o Equal ≡ o
 then_end Less = refl
@@ -99,11 +87,6 @@ squeeze a b o p low high = elim (place_le a b o low) [
 ]
 
 -- ---- from a time on
-pub ascends : {X : Type 0} (R : X → X → Ordering) (xs : List X) → IsStrictlySortedBy R xs → AllPairs (λ a b. R a b ≡ Less) xs
-unfolding IsStrictlySortedBy
-ascends R [] sorted = λ i j d lt within. absurd (omega arith)
-ascends R (x ∷ xs) sorted = AllPairs-cons (λ a b. R a b ≡ Less) x xs (All-from_recursion (λ y. R x y ≡ Less) xs sorted.0) (ascends R xs sorted.1)
-
 -- the spots from an agent's place on
 abbrev pub from_place : ℕ → ℕ → Spot → Bool
 from_place time agent s = is_le (spot_cmp (spot time agent (point 0 0)) s)
@@ -140,7 +123,7 @@ module _ (time agent : ℕ) (spots found : List Spot) where
 
     module _ (sorted : IsStrictlySortedBy spot_cmp spots) where
       ascend : AllPairs (λ a b. spot_cmp a b ≡ Less) found
-      ascend = subst (λ (l : List Spot). AllPairs (λ a b. spot_cmp a b ≡ Less) l) (sym is) (ascends spot_cmp (filter (from_place time agent) spots) (IsStrictlySortedBy-filter spot_cmp (from_place time agent) spots sorted))
+      ascend i j d lt within = Less-from_sorted spot_cmp found i j d (subst (IsStrictlySortedBy spot_cmp) (sym is) (IsStrictlySortedBy-filter spot_cmp (from_place time agent) spots sorted)) lt within
 
       pub are_rising : AreRising found
       are_rising i j d lt within = from_le _ _ _ (ap is_le (ascend i j d lt within))

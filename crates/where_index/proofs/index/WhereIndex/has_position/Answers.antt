@@ -1,4 +1,5 @@
-use Rattle.std.proofs.Common.{◌≡◌, Option, ◌≤◌, ◌<◌, ◌⊎◌, None, ℕ, inl, inr, Bool, true, false, not, leb, IsTrue, refl, sym, subst, arith}
+use Rattle.std.proofs.Common.{◌≡◌, Option, ◌≤◌, ◌<◌, ◌⊎◌, None, ℕ, inl, inr, leb, IsTrue, sym, subst, arith}
+use Rattle.std.proofs.lemmas.Bool.{not-true, not-false}
 use Rattle.std.proofs.lemmas.Bool.Decides.{nat_tests}
 use Rattle.std.specs.Option.{IsSome, option_and_then}
 use Rattle.grid_cells.specs.Cell.{Point}
@@ -6,14 +7,6 @@ use Rattle.plan_table.specs.Route.{Route, position}
 use Rattle.where_index.specs.Ends.{IsEndOf}
 use Rattle.where_index.proofs.Positions.{has_place, no_place, unended}
 use Rattle.where_index.proofs.index.WhereIndex.has_position.Goals as goal
-
-negated : (b : Bool) → not b ≡ true → b ≡ false
-negated true e = cc
-negated false e = refl
-
-affirmed : (b : Bool) → not b ≡ false → b ≡ true
-affirmed true e = refl
-affirmed false e = cc
 
 within : (a b : ℕ) → IsTrue (leb a b) → a ≤ b
 within a b h = grind (arith, nat_tests)
@@ -24,7 +17,7 @@ early_or_late a b = grind (arith, nat_tests)
 pub returns-then-not-end : goal.returns-then-not-end
 returns-then-not-end c = λ fleet has.
     let is = subst (λ e. IsEndOf e (fleet c.args.agent)) (sym c.in-Some.ensures) (has.ends c.args.agent) in
-    ((λ h. has_place c.in-Some.end (fleet c.args.agent) c.args.step is (inl (negated _ c.if-not-end.true))), (λ h. c.if-not-end.true))
+    ((λ h. has_place c.in-Some.end (fleet c.args.agent) c.args.step is (inl (not-true _ c.if-not-end.true))), (λ h. c.if-not-end.true))
 
 pub returns-else-not-end : goal.returns-else-not-end
 returns-else-not-end c = λ fleet has.
@@ -32,7 +25,7 @@ returns-else-not-end c = λ fleet has.
       (λ h. has_place c.in-Some.end (fleet c.args.agent) c.args.step is (inr (omega (arith, within _ _ h, c.number.ensures)))),
       (λ h. elim (early_or_late c.number.result c.in-Some.end.last) [
         | inl early ↦ early
-        | inr late ↦ absurd (no_place c.in-Some.end (fleet c.args.agent) c.args.step is (affirmed _ c.if-not-end.false) (omega (arith, late, c.number.ensures)) h)
+        | inr late ↦ absurd (no_place c.in-Some.end (fleet c.args.agent) c.args.step is (not-false _ c.if-not-end.false) (omega (arith, late, c.number.ensures)) h)
       ]),
     )
 

@@ -1,4 +1,5 @@
-use Rattle.std.proofs.Common.{◌≡◌, ◌≤◌, List, Contains, refl, sym, ap, ◌∙◌, subst, arith, inl, inr, not, Bool, true, false}
+use Rattle.std.proofs.Common.{◌≡◌, ◌≤◌, List, Contains, sym, ap, ◌∙◌, subst, arith, inl, inr}
+use Rattle.std.proofs.lemmas.Bool.{not-true, not-false}
 use Rattle.where_index.specs.declared.spot_sets.Spot.{Spot}
 use Rattle.where_index.specs.Spots.{spot, AreRising}
 use Rattle.plan_table.proofs.Order.{AllPairs-tail, Contains-nil, Contains-cons_head, Contains-cons_tail, Contains-cons_cases}
@@ -6,14 +7,6 @@ use Rattle.where_index.specs.ByCell.{cell_eq, spots_at}
 use Rattle.where_index.proofs.ByCell.{cell_exact, apart_from}
 use Rattle.where_index.proofs.SpotOrder.{first_least}
 use Rattle.where_index.proofs.spots.Spots.mover.Goals as goal
-
-negated : (b : Bool) → not b ≡ true → b ≡ false
-negated true e = absurd (cc)
-negated false e = refl
-
-affirmed : (b : Bool) → not b ≡ false → b ≡ true
-affirmed true e = refl
-affirmed false e = absurd (cc)
 
 pub loop-spot-init : goal.loop-spot-init
 loop-spot-init c =
@@ -30,7 +23,7 @@ returns-then-ne-clause-some c =
     let is = c.loop-spot.invariant.only s (subst (λ (l : List Spot). Contains l s) (sym c.in-Some.ensures.steps) (Contains-cons_head s c.next.new.self)) in
     let times : s.time ≡ c.args.time = c.if-spot-time.false in
     let one : s ≡ spot c.args.time s.step.agent s.step.to = λ i. record { time = times i; step = s.step } in
-    (subst (λ q. Contains (spots_at c.args.self.now c.args.cell) q) one is.0, apart_from s.step.to c.args.cell (negated (cell_eq s.step.to c.args.cell) (sym c.ne.ensures ∙ c.if-ne.true)))
+    (subst (λ q. Contains (spots_at c.args.self.now c.args.cell) q) one is.0, apart_from s.step.to c.args.cell (not-true (cell_eq s.step.to c.args.cell) (sym c.ne.ensures ∙ c.if-ne.true)))
 
 pub loop-spot-preserved : goal.loop-spot-preserved
 loop-spot-preserved c =
@@ -41,7 +34,7 @@ loop-spot-preserved c =
       left = λ step h.
           let q = spot c.args.time step.agent step.to in
           elim (Contains-cons_cases s c.next.new.self q (subst (λ (l : List Spot). Contains l q) c.in-Some.ensures.steps (c.loop-spot.invariant.left step h))) [
-            | inl is ↦ absurd (h.1 (sym (cell_exact s.step.to c.args.cell (affirmed (cell_eq s.step.to c.args.cell) (sym c.ne.ensures ∙ c.if-ne.false))) ∙ ap (λ (v : Spot). v.step.to) is))
+            | inl is ↦ absurd (h.1 (sym (cell_exact s.step.to c.args.cell (not-false (cell_eq s.step.to c.args.cell) (sym c.ne.ensures ∙ c.if-ne.false))) ∙ ap (λ (v : Spot). v.step.to) is))
             | inr later ↦ later
           ];
     }
