@@ -1,5 +1,5 @@
 -- Spots kept by cell.
-use Rattle.std.proofs.Common.{◌≡◌, ◌⊎◌, inl, inr, List, [], ◌≤◌, Contains, refl, sym, ap, ◌∙◌, subst, Option, Bool, true, false, cond, arith}
+use Rattle.std.proofs.Common.{◌≡◌, ◌⊎◌, inl, inr, List, [], ◌≤◌, Contains, refl, sym, ap, subst, Option, Bool, true, false, cond, arith}
 use mathlib.Core.Logic.{◌↔◌}
 use Rattle.std.specs.Option.{unwrap_or}
 use Rattle.std.specs.Map.{lookup}
@@ -19,17 +19,8 @@ cell_exact a b e =
     let xs : a.x ≡ b.x = eqb-true a.x b.x (second_so _ _ e) in
     λ i. record { x = xs i; y = ys i }
 
-cell_tied : (a : Point) → cell_eq a a ≡ true
-cell_tied a = grind (arith, nat_tests)
-
 pub apart_from : (a b : Point) → cell_eq a b ≡ false → b ≡ a → ⊥
 apart_from a b apart is = grind (arith, nat_tests, apart, is)
-
-same_or_not : (a b : Point) → (a ≡ b) ⊎ (cell_eq a b ≡ false)
-same_or_not a b = go (cell_eq a b) refl where
-  go : (v : Bool) → cell_eq a b ≡ v → (a ≡ b) ⊎ (cell_eq a b ≡ false)
-  go true e = inl (cell_exact a b e)
-  go false e = inr e
 
 -- ---- what is kept at one cell changes
 -- new has those spots at the cell, and those of old at the others
@@ -40,14 +31,10 @@ module _ (old new : ByCell) (cell : Point) (set : Option (List Spot)) (puts : Pu
   -- what holds of the spots before and after there, and of the same ones elsewhere, holds at each cell
   at_each : (P : Point → List Spot → List Spot → Type 0) → P cell (spots_at old cell) (unwrap_or set []) → ((q : Point) → (q ≡ cell → ⊥) → P q (spots_at old q) (spots_at old q))
       → (q : Point) → P q (spots_at old q) (spots_at new q)
-  at_each P here there q = elim (same_or_not cell q) [
-    | inl is ↦
-        let now : spots_at new cell ≡ unwrap_or set [] = ap (λ o. unwrap_or o []) (puts cell ∙ ap (λ b. cond b set (lookup (cell_eq cell) old)) (cell_tied cell)) in
-        subst (λ c. P c (spots_at old c) (spots_at new c)) is (subst (P cell (spots_at old cell)) (sym now) here)
-    | inr apart ↦
-        let now : spots_at new q ≡ spots_at old q = ap (λ o. unwrap_or o []) (puts q ∙ ap (λ b. cond b set (lookup (cell_eq q) old)) apart) in
-        subst (P q (spots_at old q)) (sym now) (there q (apart_from cell q apart))
-  ]
+  at_each P here there q = subst (P q (spots_at old q)) (sym (ap (λ o. unwrap_or o []) (puts q))) (go (cell_eq cell q) refl) where
+    go : (v : Bool) → cell_eq cell q ≡ v → P q (spots_at old q) (unwrap_or (cond v set (lookup (cell_eq q) old)) [])
+    go true e = subst (λ c. P c (spots_at old c) (unwrap_or set [])) (cell_exact cell q e) here
+    go false e = there q (apart_from cell q e)
 
   pub gains_at : (s : Spot) → Gains (spots_at old cell) (unwrap_or set []) s → GainsAt old new cell s
   gains_at s gains = at_each (λ q before after. (v : Spot) → Contains after v ↔ (Contains before v ⊎ ((q ≡ cell) × (v ≡ s))))

@@ -1,5 +1,5 @@
 -- One record put in or taken out, as a change of the agents' records over time.
-use Rattle.std.proofs.Common.{◌≡◌, ◌≢◌, ◌⊎◌, inl, inr, ℕ, zero, suc, ◌+◌, ◌<◌, ◌≤◌, nat_lt, Option, Some, None, true, false, cond, ◌&&◌, ◌==◌, refl, sym, ap, ◌∙◌, subst, arith}
+use Rattle.std.proofs.Common.{◌≡◌, ◌≢◌, ◌⊎◌, inl, inr, ℕ, zero, suc, ◌+◌, ◌<◌, ◌≤◌, Option, Some, None, true, cond, ◌&&◌, refl, sym, ap, ◌∙◌, subst, arith}
 use Rattle.std.proofs.lemmas.Bool.Decides.{nat_tests}
 use Rattle.grid_cells.specs.Cell.{Point}
 use Rattle.plan_table.specs.Route.{Route}
@@ -21,27 +21,14 @@ pub same_rest : {old new : Route} {t : ℕ} → HaveSameAt old new t → rest_at
 same_rest same = ap (λ o. leg_between o None) same.tails
 
 -- whether it is that agent at that time
-pub at_cases : (a b x y : ℕ) → (((a ≡ b) × (x ≡ y)) × ((a == b && (x == y)) ≡ true)) ⊎ (((a ≡ b) → (x ≡ y) → ⊥) × ((a == b && (x == y)) ≡ false))
-at_cases a b x y = grind (arith, nat_tests)
-
-module _ {X : Type 0} (f : ℕ → ℕ → X) (agent time : ℕ) (v : X) where
-  pub set_here : (a t : ℕ) → (a == agent && (t == time)) ≡ true → set_at f agent time v a t ≡ v
-  set_here a t e = ap (λ b. cond b v (f a t)) e
-
-  pub set_there : (a t : ℕ) → (a == agent && (t == time)) ≡ false → set_at f agent time v a t ≡ f a t
-  set_there a t e = ap (λ b. cond b v (f a t)) e
+at_or_away : (a b x y : ℕ) → ((a ≡ b) × (x ≡ y)) ⊎ ((a ≡ b) → (x ≡ y) → ⊥)
+at_or_away a b x y = grind arith
 
 pub set_same : {X : Type 0} (f : ℕ → ℕ → X) (agent time : ℕ) (v : X) → f agent time ≡ v → (a t : ℕ) → f a t ≡ set_at f agent time v a t
-set_same f agent time v is a t = elim (at_cases a agent t time) [
-  | inl at ↦ ap (λ q. f q t) at.0.0 ∙ (ap (λ q. f agent q) at.0.1 ∙ (is ∙ sym (set_here f agent time v a t at.1)))
-  | inr away ↦ sym (set_there f agent time v a t away.1)
-]
+set_same f agent time v is a t = grind (arith, nat_tests)
 
 pub set_twice : {X : Type 0} (f : ℕ → ℕ → X) (agent time : ℕ) (u v : X) (a t : ℕ) → set_at (set_at f agent time u) agent time v a t ≡ set_at f agent time v a t
-set_twice f agent time u v a t = elim (at_cases a agent t time) [
-  | inl at ↦ set_here (set_at f agent time u) agent time v a t at.1 ∙ sym (set_here f agent time v a t at.1)
-  | inr away ↦ set_there (set_at f agent time u) agent time v a t away.1 ∙ (set_there f agent time u a t away.1 ∙ sym (set_there f agent time v a t away.1))
-]
+set_twice f agent time u v a t = grind (arith, nat_tests)
 
 spot_is : (cell : Point) (s : Spot) (leg : Hop) (time agent : ℕ) → hop cell s.step.to ≡ leg → s.time ≡ time → s.step.agent ≡ agent → (cell ≡ leg.from) × (s ≡ spot time agent leg.to)
 spot_is cell s leg time agent a b c = (ap (λ (h : Hop). h.from) a, λ i. record { time = b i; step = record { agent = c i; to = (a i).to } })
@@ -53,160 +40,66 @@ pub some_one : {X : Type 0} (o : Option X) (x y : X) → o ≡ Some x → o ≡ 
 some_one o x y a b = cc
 
 pub clears : (old new : ByCell) (agent time : ℕ) (leg : Hop) (f : ℕ → ℕ → Option Hop) → LosesAt old new leg.from (spot time agent leg.to) → HasSpots old f → f agent time ≡ Some leg → HasSpots new (set_at f agent time None)
-clears old new agent time leg f loses has is cell s = elim (at_cases s.step.agent agent s.time time) [
+clears old new agent time leg f loses has is cell s = elim (at_or_away s.step.agent agent s.time time) [
   | inl at ↦
-      let now = set_here f agent time None s.step.agent s.time at.1 in
-      let same : f s.step.agent s.time ≡ Some leg = ap (λ q. f q s.time) at.0.0 ∙ (ap (λ q. f agent q) at.0.1 ∙ is) in (
-        (λ h. let old_s = (loses cell s).0 h in absurd (old_s.1 (spot_is cell s leg time agent (some_one _ _ _ ((has cell s).0 old_s.0) same) at.0.1 at.0.0))),
+      let now : set_at f agent time None s.step.agent s.time ≡ None = grind (arith, nat_tests) in
+      let same : f s.step.agent s.time ≡ Some leg = grind (arith, nat_tests) in (
+        (λ h. let old_s = (loses cell s).0 h in absurd (old_s.1 (spot_is cell s leg time agent (some_one _ _ _ ((has cell s).0 old_s.0) same) at.1 at.0))),
         (λ h. none_some _ _ now h),
       )
   | inr away ↦
-      let now = set_there f agent time None s.step.agent s.time away.1 in (
+      let now : set_at f agent time None s.step.agent s.time ≡ f s.step.agent s.time = grind (arith, nat_tests) in (
         (λ h. now ∙ (has cell s).0 ((loses cell s).0 h).0),
-        (λ h. (loses cell s).1 ((has cell s).1 (sym now ∙ h), λ one. away.0 (ap (λ (q : Spot). q.step.agent) one.1) (ap (λ (q : Spot). q.time) one.1))),
+        (λ h. (loses cell s).1 ((has cell s).1 (sym now ∙ h), λ one. away (ap (λ (q : Spot). q.step.agent) one.1) (ap (λ (q : Spot). q.time) one.1))),
       )
 ]
 
 pub fills : (old new : ByCell) (agent time : ℕ) (leg : Hop) (f : ℕ → ℕ → Option Hop) → GainsAt old new leg.from (spot time agent leg.to) → HasSpots old f → f agent time ≡ None → HasSpots new (set_at f agent time (Some leg))
-fills old new agent time leg f gains has is cell s = elim (at_cases s.step.agent agent s.time time) [
+fills old new agent time leg f gains has is cell s = elim (at_or_away s.step.agent agent s.time time) [
   | inl at ↦
-      let now = set_here f agent time (Some leg) s.step.agent s.time at.1 in
-      let same : f s.step.agent s.time ≡ None = ap (λ q. f q s.time) at.0.0 ∙ (ap (λ q. f agent q) at.0.1 ∙ is) in (
+      let now : set_at f agent time (Some leg) s.step.agent s.time ≡ Some leg = grind (arith, nat_tests) in
+      let same : f s.step.agent s.time ≡ None = grind (arith, nat_tests) in (
         (λ h. elim ((gains cell s).0 h) [
           | inl o ↦ none_some _ _ same ((has cell s).0 o)
           | inr one ↦ now ∙ λ i. Some (hop (sym one.0 i) (sym one.1 i).step.to)
         ]),
-        (λ h. (gains cell s).1 (inr (spot_is cell s leg time agent (some_one _ _ _ h now) at.0.1 at.0.0))),
+        (λ h. (gains cell s).1 (inr (spot_is cell s leg time agent (some_one _ _ _ h now) at.1 at.0))),
       )
   | inr away ↦
-      let now = set_there f agent time (Some leg) s.step.agent s.time away.1 in (
+      let now : set_at f agent time (Some leg) s.step.agent s.time ≡ f s.step.agent s.time = grind (arith, nat_tests) in (
         (λ h. elim ((gains cell s).0 h) [
           | inl o ↦ now ∙ (has cell s).0 o
-          | inr one ↦ absurd (away.0 (ap (λ (q : Spot). q.step.agent) one.1) (ap (λ (q : Spot). q.time) one.1))
+          | inr one ↦ absurd (away (ap (λ (q : Spot). q.step.agent) one.1) (ap (λ (q : Spot). q.time) one.1))
         ]),
         (λ h. (gains cell s).1 (inl ((has cell s).1 (sym now ∙ h)))),
       )
 ]
 
 pub set_itself : {X : Type 0} (f : ℕ → ℕ → X) (agent time : ℕ) (v : X) → set_at f agent time v agent time ≡ v
-set_itself f agent time v = elim (at_cases agent agent time time) [
-  | inl at ↦ set_here f agent time v agent time at.1
-  | inr away ↦ absurd (away.0 refl refl)
-]
+set_itself f agent time v = grind (arith, nat_tests)
 
 pub set_other : {X : Type 0} (f : ℕ → ℕ → X) (agent time : ℕ) (v : X) (t : ℕ) → t ≢ time → set_at f agent time v agent t ≡ f agent t
-set_other f agent time v t apart = elim (at_cases agent agent t time) [
-  | inl at ↦ absurd (apart at.0.1)
-  | inr away ↦ set_there f agent time v agent t away.1
-]
-
-pub row_cases : (a b : ℕ) → ((a ≡ b) × ((a == b) ≡ true)) ⊎ ((a ≢ b) × ((a == b) ≡ false))
-row_cases a b = grind (arith, nat_tests)
-
-time_cases : (t x : ℕ) → ((t < x) × (nat_lt t x ≡ true)) ⊎ ((x ≤ t) × (nat_lt t x ≡ false))
-time_cases t x = grind (arith, nat_tests)
+set_other f agent time v t apart = grind (arith, nat_tests)
 
 module _ {X : Type 0} (f : ℕ → ℕ → X) (agent : ℕ) (o n : ℕ → X) where
-  pub row_here : (v : ℕ → X) (a t : ℕ) → (a == agent) ≡ true → set_row f agent v a t ≡ v t
-  row_here v a t e = ap (λ b. cond b (v t) (f a t)) e
-
-  pub row_there : (v : ℕ → X) (a t : ℕ) → (a == agent) ≡ false → set_row f agent v a t ≡ f a t
-  row_there v a t e = ap (λ b. cond b (v t) (f a t)) e
-
-  mixed_new : (x t : ℕ) → nat_lt t x ≡ true → mixed o n x t ≡ n t
-  mixed_new x t e = ap (λ b. cond b (n t) (o t)) e
-
-  mixed_old : (x t : ℕ) → nat_lt t x ≡ false → mixed o n x t ≡ o t
-  mixed_old x t e = ap (λ b. cond b (n t) (o t)) e
-
   pub mixed_start : (from : ℕ) → ((t : ℕ) → t < from → o t ≡ n t) → ((t : ℕ) → f agent t ≡ o t) → (a t : ℕ) → f a t ≡ set_row f agent (mixed o n from) a t
-  mixed_start from same agree a t = elim (row_cases a agent) [
-    | inl at ↦
-        let is : f a t ≡ o t = ap (λ q. f q t) at.0 ∙ agree t in
-        elim (time_cases t from) [
-          | inl early ↦ is ∙ (same t early.0 ∙ (sym (mixed_new from t early.1) ∙ sym (row_here (mixed o n from) a t at.1)))
-          | inr late ↦ is ∙ (sym (mixed_old from t late.1) ∙ sym (row_here (mixed o n from) a t at.1))
-        ]
-    | inr away ↦ sym (row_there (mixed o n from) a t away.1)
-  ]
+  mixed_start from same agree a t = grind (arith, nat_tests, same t, agree t)
 
   pub mixed_here : (x : ℕ) → set_row f agent (mixed o n x) agent x ≡ o x
-  mixed_here x = elim (row_cases agent agent) [
-    | inl at ↦ elim (time_cases x x) [
-      | inl early ↦ absurd (omega (arith, early.0))
-      | inr late ↦ row_here (mixed o n x) agent x at.1 ∙ mixed_old x x late.1
-    ]
-    | inr away ↦ absurd (away.0 refl)
-  ]
+  mixed_here x = grind (arith, nat_tests)
 
   pub mixed_more : (x a t : ℕ) → set_at (set_row f agent (mixed o n x)) agent x (n x) a t ≡ set_row f agent (mixed o n (x + 1)) a t
-  mixed_more x a t = elim (row_cases a agent) [
-    | inl at ↦
-        let next = row_here (mixed o n (x + 1)) a t at.1 in
-        elim (at_cases a agent t x) [
-          | inl now ↦ elim (time_cases t (x + 1)) [
-            | inl early ↦ set_here (set_row f agent (mixed o n x)) agent x (n x) a t now.1 ∙ (sym (ap n now.0.1) ∙ (sym (mixed_new (x + 1) t early.1) ∙ sym next))
-            | inr late ↦ absurd (omega (arith, late.0, now.0.1))
-          ]
-          | inr other ↦
-              let before = set_there (set_row f agent (mixed o n x)) agent x (n x) a t other.1 ∙ row_here (mixed o n x) a t at.1 in
-              elim (time_cases t x) [
-                | inl early ↦ elim (time_cases t (x + 1)) [
-                  | inl more ↦ before ∙ (mixed_new x t early.1 ∙ (sym (mixed_new (x + 1) t more.1) ∙ sym next))
-                  | inr late ↦ absurd (omega (arith, late.0, early.0))
-                ]
-                | inr late ↦ elim (time_cases t (x + 1)) [
-                  | inl more ↦ elim (same_or_apart t x) [
-                    | inl is ↦ absurd (other.0 at.0 is)
-                    | inr apart ↦ absurd (apart (omega (arith, late.0, more.0)))
-                  ]
-                  | inr later ↦ before ∙ (mixed_old x t late.1 ∙ (sym (mixed_old (x + 1) t later.1) ∙ sym next))
-                ]
-              ]
-        ]
-    | inr away ↦ elim (at_cases a agent t x) [
-      | inl now ↦ absurd (away.0 now.0.0)
-      | inr other ↦ set_there (set_row f agent (mixed o n x)) agent x (n x) a t other.1 ∙ (row_there (mixed o n x) a t away.1 ∙ sym (row_there (mixed o n (x + 1)) a t away.1))
-    ]
-  ]
+  mixed_more x a t = grind (arith, nat_tests)
 
   pub mixed_end : (to : ℕ) → ((t : ℕ) → to ≤ t → o t ≡ n t) → (a t : ℕ) → set_row f agent (mixed o n to) a t ≡ set_row f agent n a t
-  mixed_end to same a t = elim (row_cases a agent) [
-    | inl at ↦ elim (time_cases t to) [
-      | inl early ↦ row_here (mixed o n to) a t at.1 ∙ (mixed_new to t early.1 ∙ sym (row_here n a t at.1))
-      | inr late ↦ row_here (mixed o n to) a t at.1 ∙ (mixed_old to t late.1 ∙ (same t late.0 ∙ sym (row_here n a t at.1)))
-    ]
-    | inr away ↦ row_there (mixed o n to) a t away.1 ∙ sym (row_there n a t away.1)
-  ]
+  mixed_end to same a t = grind (arith, nat_tests, same t)
 
+  -- f with new values at a time or two is the row of them, where old and new differ there alone
   pub one_set : (x : ℕ) → ((t : ℕ) → t ≢ x → o t ≡ n t) → ((t : ℕ) → f agent t ≡ o t) → (a t : ℕ) → set_at f agent x (n x) a t ≡ set_row f agent n a t
-  one_set x same agree a t = elim (row_cases a agent) [
-    | inl at ↦
-        let next = row_here n a t at.1 in
-        elim (at_cases a agent t x) [
-          | inl now ↦ set_here f agent x (n x) a t now.1 ∙ (sym (ap n now.0.1) ∙ sym next)
-          | inr other ↦ set_there f agent x (n x) a t other.1 ∙ (ap (λ q. f q t) at.0 ∙ (agree t ∙ (same t (other.0 at.0) ∙ sym next)))
-        ]
-    | inr away ↦ elim (at_cases a agent t x) [
-      | inl now ↦ absurd (away.0 now.0.0)
-      | inr other ↦ set_there f agent x (n x) a t other.1 ∙ sym (row_there n a t away.1)
-    ]
-  ]
+  one_set x same agree a t = grind (arith, nat_tests, same t, agree t)
 
--- f with new values at two times is the row of them, where old and new differ there alone
-pub two_sets : {X : Type 0} (f : ℕ → ℕ → X) (agent : ℕ) (o n : ℕ → X) (x y : ℕ) → ((t : ℕ) → t ≢ x → t ≢ y → o t ≡ n t) → ((t : ℕ) → f agent t ≡ o t) → (a t : ℕ) → set_at (set_at f agent x (n x)) agent y (n y) a t ≡ set_row f agent n a t
-two_sets f agent o n x y same agree a t = elim (at_cases a agent t y) [
-  | inl now ↦ set_here (set_at f agent x (n x)) agent y (n y) a t now.1 ∙ (sym (ap n now.0.1) ∙ sym (row_here f agent o n n a t (row now.0.0)))
-  | inr other ↦ set_there (set_at f agent x (n x)) agent y (n y) a t other.1 ∙ elim (at_cases a agent t x) [
-    | inl now ↦ set_here f agent x (n x) a t now.1 ∙ (sym (ap n now.0.1) ∙ sym (row_here f agent o n n a t (row now.0.0)))
-    | inr apart ↦ set_there f agent x (n x) a t apart.1 ∙ elim (row_cases a agent) [
-      | inl at ↦ ap (λ q. f q t) at.0 ∙ (agree t ∙ (same t (apart.0 at.0) (other.0 at.0) ∙ sym (row_here f agent o n n a t at.1)))
-      | inr away ↦ sym (row_there f agent o n n a t away.1)
-    ]
-  ]
-] where
-  row : a ≡ agent → (a == agent) ≡ true
-  row is = grind (arith, nat_tests)
+  pub two_sets : (x y : ℕ) → ((t : ℕ) → t ≢ x → t ≢ y → o t ≡ n t) → ((t : ℕ) → f agent t ≡ o t) → (a t : ℕ) → set_at (set_at f agent x (n x)) agent y (n y) a t ≡ set_row f agent n a t
+  two_sets x y same agree a t = grind (arith, nat_tests, same t, agree t)
 
 pub none_below : {X : Type 0} (change : X → X → ℕ) (o n : ℕ → X) → ((a : X) → change a a ≡ 0) → (from : ℕ) → ((t : ℕ) → t < from → o t ≡ n t) → changes_below change o n from ≡ 0
 none_below change o n itself zero same = refl
@@ -261,7 +154,7 @@ one_more change o n x count more a b =
     let next : suc x ≡ x + 1 = omega arith in
     subst (λ q. count + more ≡ changes_below change o n q) next (omega arith)
 
-same_points : (a : Point) → same_point a a ≡ true
+pub same_points : (a : Point) → same_point a a ≡ true
 same_points a = grind (arith, nat_tests)
 
 pub changed_itself : (a : Option Point) → changed a a ≡ 0

@@ -2,7 +2,7 @@
 use Rattle.std.proofs.Common.{◌≡◌, ◌≢◌, ◌⊎◌, inl, inr, ℕ, zero, suc, ◌+◌, ◌<◌, ◌≤◌, max, List, [], ◌∷◌, ◌++◌, length, Contains, Option, Some, None, Bool, true, false, cond, ◌&&◌, refl, sym, ap, ◌∙◌, subst, arith}
 use mathlib.Core.Logic.{◌↔◌}
 use Rattle.std.specs.List.{AllPairs}
-use Rattle.std.proofs.lemmas.Bool.Decides.{nat_tests}
+use Rattle.std.specs.Cmp.{first_so, second_so}
 use Rattle.std.proofs.lemmas.List.{length-append}
 use Rattle.std.proofs.lemmas.List.Elements.{Contains-append_left, Contains-append_right, Contains-append_cases, Contains-get_or}
 use Rattle.std.proofs.lemmas.List.Kept.{AllPairs-cons}
@@ -13,6 +13,8 @@ use Rattle.where_index.specs.declared.trails.Hop.{Hop}
 use Rattle.where_index.specs.Records.{stand_at, tail_at, hop_at, same_point, changed, changed_hop, changes_below, records_apart}
 use Rattle.where_index.specs.Counted.{Record, Stand, Tail, Move, TellsApart}
 use Rattle.where_index.specs.Laws.{RecordsAreCounted}
+use Rattle.where_index.proofs.Changes.{same_points}
+use Rattle.where_index.proofs.Positions.{points_one}
 use Rattle.where_index.proofs.Standing.{stand_past, rest_past, hop_past}
 
 -- ---- lists without repetitions
@@ -172,32 +174,28 @@ module _ {X : Type 0} (mk : ℕ → X → Record) (times : (t s : ℕ) (v w : X)
     below_length change counts zero = refl
     below_length change counts (suc x) = length-append (below x) (only x (o x) (n x)) ∙ (ap (λ k. k + length (only x (o x) (n x))) (below_length change counts x) ∙ ap (λ k. changes_below change o n x + k) (counts x (o x) (n x)))
 
+  only_length : (change : Option X → Option X → ℕ) → change None None ≡ 0 → ((a : X) → change None (Some a) ≡ 1) → ((a : X) → change (Some a) None ≡ 1) → ((a b : X) → change (Some a) (Some b) ≡ cond (same a b) 0 2) → (t : ℕ) (a b : Option X) → length (only t a b) ≡ change a b
+  unfolding only
+  only_length change none last first both t None None = sym none
+  only_length change none last first both t None (Some b) = sym (last b)
+  only_length change none last first both t (Some a) None = sym (first a)
+  only_length change none last first both t (Some a) (Some b) = go (same a b) ∙ sym (both a b) where
+    go : (v : Bool) → length (cond v [] (mk t a ∷ mk t b ∷ [])) ≡ cond v 0 2
+    go true = refl
+    go false = refl
+
 -- ---- the three kinds
-points_one : (a b : Point) → same_point a b ≡ true → a ≡ b
-points_one a b is =
-    let xs : a.x ≡ b.x = grind (arith, nat_tests) in
-    let ys : a.y ≡ b.y = grind (arith, nat_tests) in
-    λ i. record { x = xs i; y = ys i }
-
-points_two : (a : Point) → same_point a a ≡ true
-points_two a = grind (arith, nat_tests)
-
 abbrev same_hop : Hop → Hop → Bool
 same_hop a b = same_point a.from b.from && same_point a.to b.to
 
-both_true : (a b : Bool) → (a && b) ≡ true → (a ≡ true) × (b ≡ true)
-both_true true b e = (refl, e)
-both_true false b e = absurd (cc)
-
 hops_one : (a b : Hop) → same_hop a b ≡ true → a ≡ b
 hops_one a b is =
-    let parts = both_true (same_point a.from b.from) (same_point a.to b.to) is in
-    let froms = points_one a.from b.from parts.0 in
-    let tos = points_one a.to b.to parts.1 in
+    let froms = points_one a.from b.from (first_so _ _ is) in
+    let tos = points_one a.to b.to (second_so _ _ is) in
     λ i. record { from = froms i; to = tos i }
 
 hops_two : (a : Hop) → same_hop a a ≡ true
-hops_two a = ap (λ b. b && same_point a.to a.to) (points_two a.from) ∙ points_two a.to
+hops_two a = ap (λ b. b && same_point a.to a.to) (same_points a.from) ∙ same_points a.to
 
 abbrev move : ℕ → Hop → Record
 move time hop = Move time hop.from hop.to
@@ -223,57 +221,27 @@ move_values t s v w e =
     let tos : v.to ≡ w.to = cc in
     λ i. record { from = froms i; to = tos i }
 
-stands_counted : (t : ℕ) (a b : Option Point) → length (only Stand stand_times stand_values same_point points_one points_two t a b) ≡ changed a b
-unfolding only
-stands_counted t None None = refl
-stands_counted t None (Some b) = refl
-stands_counted t (Some a) None = refl
-stands_counted t (Some a) (Some b) = go (same_point a b) where
-  go : (v : Bool) → length (cond v [] (Stand t a ∷ Stand t b ∷ [])) ≡ cond v 0 2
-  go true = refl
-  go false = refl
-
-tails_counted : (t : ℕ) (a b : Option Point) → length (only Tail tail_times tail_values same_point points_one points_two t a b) ≡ changed a b
-unfolding only
-tails_counted t None None = refl
-tails_counted t None (Some b) = refl
-tails_counted t (Some a) None = refl
-tails_counted t (Some a) (Some b) = go (same_point a b) where
-  go : (v : Bool) → length (cond v [] (Tail t a ∷ Tail t b ∷ [])) ≡ cond v 0 2
-  go true = refl
-  go false = refl
-
-moves_counted : (t : ℕ) (a b : Option Hop) → length (only move move_times move_values same_hop hops_one hops_two t a b) ≡ changed_hop a b
-unfolding only
-moves_counted t None None = refl
-moves_counted t None (Some b) = refl
-moves_counted t (Some a) None = refl
-moves_counted t (Some a) (Some b) = go (same_hop a b) where
-  go : (v : Bool) → length (cond v [] (move t a ∷ move t b ∷ [])) ≡ cond v 0 2
-  go true = refl
-  go false = refl
-
 -- ---- all records of two routes
 module _ (old new : Route) where
   until : ℕ
   until = max (length old.path) (length new.path)
 
   stands : List Record
-  stands = below Stand stand_times stand_values same_point points_one points_two (stand_at old) (stand_at new) until
+  stands = below Stand stand_times stand_values same_point points_one same_points (stand_at old) (stand_at new) until
 
   tails : List Record
-  tails = below Tail tail_times tail_values same_point points_one points_two (tail_at old) (tail_at new) until
+  tails = below Tail tail_times tail_values same_point points_one same_points (tail_at old) (tail_at new) until
 
   moves : List Record
   moves = below move move_times move_values same_hop hops_one hops_two (hop_at old.path) (hop_at new.path) until
 
   stands_show : (r : Record) → Contains stands r ↔ ((t : ℕ) × (t < until) × ((v : Point) × (r ≡ Stand t v) × OneIs (stand_at old t) (stand_at new t) v))
   unfolding stands
-  stands_show = below_shows Stand stand_times stand_values same_point points_one points_two (stand_at old) (stand_at new) until
+  stands_show = below_shows Stand stand_times stand_values same_point points_one same_points (stand_at old) (stand_at new) until
 
   tails_show : (r : Record) → Contains tails r ↔ ((t : ℕ) × (t < until) × ((v : Point) × (r ≡ Tail t v) × OneIs (tail_at old t) (tail_at new t) v))
   unfolding tails
-  tails_show = below_shows Tail tail_times tail_values same_point points_one points_two (tail_at old) (tail_at new) until
+  tails_show = below_shows Tail tail_times tail_values same_point points_one same_points (tail_at old) (tail_at new) until
 
   moves_show : (r : Record) → Contains moves r ↔ ((t : ℕ) × (t < until) × ((v : Hop) × (r ≡ move t v) × OneIs (hop_at old.path t) (hop_at new.path t) v))
   unfolding moves
@@ -319,11 +287,11 @@ module _ (old new : Route) where
 
   stands_once : Once stands
   unfolding stands
-  stands_once = below_once Stand stand_times stand_values same_point points_one points_two (stand_at old) (stand_at new) until
+  stands_once = below_once Stand stand_times stand_values same_point points_one same_points (stand_at old) (stand_at new) until
 
   tails_once : Once tails
   unfolding tails
-  tails_once = below_once Tail tail_times tail_values same_point points_one points_two (tail_at old) (tail_at new) until
+  tails_once = below_once Tail tail_times tail_values same_point points_one same_points (tail_at old) (tail_at new) until
 
   moves_once : Once moves
   unfolding moves
@@ -357,9 +325,9 @@ module _ (old new : Route) where
   all_length : length (stands ++ (tails ++ moves)) ≡ records_apart old new
   unfolding stands tails moves until
   all_length =
-      let a = below_length Stand stand_times stand_values same_point points_one points_two (stand_at old) (stand_at new) changed stands_counted until in
-      let b = below_length Tail tail_times tail_values same_point points_one points_two (tail_at old) (tail_at new) changed tails_counted until in
-      let d = below_length move move_times move_values same_hop hops_one hops_two (hop_at old.path) (hop_at new.path) changed_hop moves_counted until in
+      let a = below_length Stand stand_times stand_values same_point points_one same_points (stand_at old) (stand_at new) changed (only_length Stand stand_times stand_values same_point points_one same_points changed refl (λ _. refl) (λ _. refl) (λ _ _. refl)) until in
+      let b = below_length Tail tail_times tail_values same_point points_one same_points (tail_at old) (tail_at new) changed (only_length Tail tail_times tail_values same_point points_one same_points changed refl (λ _. refl) (λ _. refl) (λ _ _. refl)) until in
+      let d = below_length move move_times move_values same_hop hops_one hops_two (hop_at old.path) (hop_at new.path) changed_hop (only_length move move_times move_values same_hop hops_one hops_two changed_hop refl (λ _. refl) (λ _. refl) (λ _ _. refl)) until in
       let sum = length-append stands (tails ++ moves) in
       let rest = length-append tails moves in
       omega (arith, a, b, d, sum, rest)

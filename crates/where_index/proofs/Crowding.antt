@@ -14,7 +14,8 @@ use Rattle.where_index.specs.Moves.{PutsMove}
 use Rattle.where_index.specs.Changes.{set_at}
 use Rattle.where_index.specs.Crowds.{place, place_eq, crowd_at, Moves, IsCrowd, HasCrowds, ChangesAt, IsBeside, begun, IsJoined, IsLessened, IsLeft, HasFew}
 use Rattle.plan_table.proofs.Order.{Contains-nil, Contains-cons_head, Contains-cons_cases}
-use Rattle.where_index.proofs.Changes.{at_cases, set_here, set_there, none_some, some_one}
+use Rattle.where_index.proofs.Counts.{same_or_apart}
+use Rattle.where_index.proofs.Changes.{set_itself, none_some, some_one}
 
 -- ---- one place
 place_exact : (cell : Point) (time : ℕ) (c : Point) (t : ℕ) → place_eq (place cell time) (place c t) ≡ true → (c ≡ cell) × (t ≡ time)
@@ -99,9 +100,6 @@ IsCrowd-ext None P Q same is = λ m n p q. is m n ((same m).1 p) ((same n).1 q)
 pub HasCrowds-ext : (lists : List (Place × List Move)) (f g : ℕ → ℕ → Option Hop) → ((a t : ℕ) → f a t ≡ g a t) → HasCrowds lists f → HasCrowds lists g
 HasCrowds-ext lists f g same has cell time = IsCrowd-ext (crowd_at lists cell time) (Moves f cell time) (Moves g cell time) (λ m. ((λ h. (sym (same m.agent time) ∙ h.0, h.1)), (λ h. (same m.agent time ∙ h.0, h.1)))) (has cell time)
 
-pub no_crowds : HasCrowds [] (λ _ _. None)
-no_crowds cell time m n p q = none_some None (hop cell m.to) refl p.0
-
 -- an agent's leg in a step is another one, and neither is a move out of that cell then
 module _ (f : ℕ → ℕ → Option Hop) (agent time : ℕ) (v : Option Hop) where
   module _ (c : Point) (t : ℕ) where
@@ -109,28 +107,14 @@ module _ (f : ℕ → ℕ → Option Hop) (agent time : ℕ) (v : Option Hop) wh
     None-goes o = (to : Point) → (t ≡ time) → o ≡ Some (hop c to) → c ≢ to → ⊥
 
     off : None-goes (f agent time) → None-goes v → (m : Move) → Moves f c t m ↔ Moves (set_at f agent time v) c t m
-    off before after m = elim (at_cases m.agent agent t time) [
-      | inl at ↦
-          let was : f m.agent t ≡ f agent time = ap (λ q. f q t) at.0.0 ∙ ap (λ q. f agent q) at.0.1 in
-          ((λ h. absurd (before m.to at.0.1 (sym was ∙ h.0) h.1)), (λ h. absurd (after m.to at.0.1 (sym (set_here f agent time v m.agent t at.1) ∙ h.0) h.1)))
-      | inr away ↦ let same = set_there f agent time v m.agent t away.1 in ((λ h. (same ∙ h.0, h.1)), (λ h. (sym same ∙ h.0, h.1)))
-    ]
+    off before after m = grind (arith, nat_tests, before m.to, after m.to)
 
   -- at a place: the others' moves, and the agent's
   others : (cell : Point) (m : Move) → m.agent ≢ agent → Moves f cell time m ↔ Moves (set_at f agent time v) cell time m
-  others cell m apart = elim (at_cases m.agent agent time time) [
-    | inl at ↦ absurd (apart at.0.0)
-    | inr away ↦ let same = set_there f agent time v m.agent time away.1 in ((λ h. (same ∙ h.0, h.1)), (λ h. (sym same ∙ h.0, h.1)))
-  ]
+  others cell m apart = grind (arith, nat_tests)
 
   own : (cell : Point) (m : Move) → m.agent ≡ agent → Moves (set_at f agent time v) cell time m → v ≡ Some (hop cell m.to)
-  own cell m same h = elim (at_cases m.agent agent time time) [
-    | inl at ↦ sym (set_here f agent time v m.agent time at.1) ∙ h.0
-    | inr away ↦ absurd (away.0 same refl)
-  ]
-
-same_agent : (a b : ℕ) → (a ≡ b) ⊎ (a ≢ b)
-same_agent a b = grind arith
+  own cell m same h = grind (arith, nat_tests)
 
 -- ---- an agent comes
 module _ (f : ℕ → ℕ → Option Hop) (agent time : ℕ) (leg : Hop) (absent : f agent time ≡ None) where
@@ -153,16 +137,13 @@ module _ (f : ℕ → ℕ → Option Hop) (agent time : ℕ) (leg : Hop) (absent
   added = record { agent = agent; to = leg.to }
 
   here : leg.from ≢ leg.to → (m : Move) → Moves next leg.from time m ↔ ((Moves f leg.from time m × (m.agent ≢ agent)) ⊎ (m ≡ added))
-  here apart m = elim (same_agent m.agent agent) [
+  here apart m = elim (same_or_apart m.agent agent) [
     | inl is ↦ (
       (λ h. let one : leg ≡ hop leg.from m.to = some_one _ _ _ refl (own f agent time (Some leg) leg.from m is h) in
           inr (λ i. record { agent = is i; to = (sym one i).to })),
       (λ h. elim h [
         | inl o ↦ absurd (o.1 is)
-        | inr one ↦ subst (λ q. Moves next leg.from time q) (sym one) (elim (at_cases agent agent time time) [
-          | inl at ↦ (set_here f agent time (Some leg) agent time at.1, apart)
-          | inr away ↦ absurd (away.0 refl refl)
-        ])
+        | inr one ↦ subst (λ q. Moves next leg.from time q) (sym one) (set_itself f agent time (Some leg), apart)
       ]),
     )
     | inr not ↦ (

@@ -1,5 +1,5 @@
 -- What an index keeps fixes its fleet.
-use Rattle.std.proofs.Common.{◌≡◌, ◌⊎◌, inl, inr, ℕ, ◌+◌, ◌<◌, ◌≤◌, List, length, slice_get, Option, Some, None, Bool, true, false, cond, not, nat_lt, ◌&&◌, ◌||◌, ◌==◌, refl, sym, ap, ◌∙◌, arith}
+use Rattle.std.proofs.Common.{◌≡◌, ℕ, List, length, slice_get, Option, Some, None, refl, sym, ap, ◌∙◌, arith}
 use Rattle.std.specs.Option.{option_and_then, option_map, unwrap_or}
 use Rattle.std.proofs.lemmas.Bool.Decides.{nat_tests}
 use Rattle.std.proofs.lemmas.List.{same_lists}
@@ -17,7 +17,7 @@ use Rattle.where_index.specs.Changes.{HasSpots}
 use Rattle.where_index.specs.Ends.{IsEndOf}
 use Rattle.where_index.specs.Index.{all_of}
 use Rattle.where_index.specs.Laws.{OneFleet}
-use Rattle.where_index.proofs.Standing.{past, early_stand}
+use Rattle.where_index.proofs.Standing.{past}
 
 -- an option is fixed by the values that it can be
 same_option : {X : Type 0} (o p : Option X) → ((x : X) → o ≡ Some x → p ≡ Some x) → ((x : X) → p ≡ Some x → o ≡ Some x) → o ≡ p
@@ -42,32 +42,8 @@ same_starts g k o p t same = sym (starts o) ∙ (ap (option_map (λ (h : Hop). h
   starts None = refl
   starts (Some r) = start_of (g r t) (k r t)
 
-ends_or : (n t : ℕ) → (t + 1 < n) ⊎ ((t + 1 ≡ n) ⊎ (n ≤ t))
-ends_or n t = grind arith
-
--- at the last index one of the two records has the cell
-stand_last : (r : Route) (t : ℕ) → r.leaves ≡ true → t + 1 ≡ length r.path → stand_at r t ≡ slice_get r.path t
-stand_last r t leaves end =
-    let test : (t + 1 == length r.path) ≡ true = grind (arith, nat_tests) in
-    let more : nat_lt (t + 1) (length r.path) ≡ false = grind (arith, nat_tests) in
-    ap (λ b. cond (b || (r.leaves && (t + 1 == length r.path))) (slice_get r.path t) None) more ∙ (ap (λ b. cond (b && (t + 1 == length r.path)) (slice_get r.path t) None) leaves ∙ ap (λ b. cond b (slice_get r.path t) None) test)
-
-tail_last : (r : Route) (t : ℕ) → r.leaves ≡ false → t + 1 ≡ length r.path → tail_at r t ≡ slice_get r.path t
-tail_last r t leaves end =
-    let test : (t + 1 == length r.path) ≡ true = grind (arith, nat_tests) in
-    ap (λ b. cond (not b && (t + 1 == length r.path)) (slice_get r.path t) None) leaves ∙ ap (λ b. cond b (slice_get r.path t) None) test
-
 same_cell : (r q : Route) (t : ℕ) → length r.path ≡ length q.path → r.leaves ≡ q.leaves → stand_at r t ≡ stand_at q t → tail_at r t ≡ tail_at q t → slice_get r.path t ≡ slice_get q.path t
-same_cell r q t long leaves stands tails = elim (ends_or (length r.path) t) [
-  | inl early ↦ sym (early_stand r t early) ∙ (stands ∙ early_stand q t (omega (arith, early, long)))
-  | inr more ↦ elim more [
-    | inl end ↦ at_end r.leaves refl end
-    | inr late ↦ past r.path t late ∙ sym (past q.path t (omega (arith, late, long)))
-  ]
-] where
-  at_end : (v : Bool) → r.leaves ≡ v → t + 1 ≡ length r.path → slice_get r.path t ≡ slice_get q.path t
-  at_end true is end = sym (stand_last r t is end) ∙ (stands ∙ stand_last q t (sym leaves ∙ is) (end ∙ long))
-  at_end false is end = sym (tail_last r t is end) ∙ (tails ∙ tail_last q t (sym leaves ∙ is) (end ∙ long))
+same_cell r q t long leaves stands tails = grind (arith, nat_tests, past r.path t, past q.path t)
 
 same_path : (xs ys : List Point) → length xs ≡ length ys → ((k : ℕ) → slice_get xs k ≡ slice_get ys k) → xs ≡ ys
 same_path xs ys long same = same_lists xs ys long (λ k d h. sym (unwrap_or-slice_get xs k d) ∙ (ap (λ o. unwrap_or o d) (same k) ∙ unwrap_or-slice_get ys k d))

@@ -1,5 +1,6 @@
 -- Moves put in and taken out, by the cell that they leave and by their way.
 use Rattle.std.proofs.Common.{◌≡◌, ◌≢◌, inl, inr, ℕ, ◌+◌, ◌-◌, min, ◌<◌, ◌≤◌, Bool, true, false, List, Option, None, slice_index, refl, sym, ap, ◌∙◌, subst, arith}
+use Rattle.std.proofs.lemmas.Bool.Decides.{nat_tests}
 use Rattle.grid_cells.specs.declared.numbers.TheConstants.{MOST_AGENT}
 use Rattle.where_index.specs.declared.trails.Hop.{Hop}
 use Rattle.where_index.specs.declared.ways.Way.{Way}
@@ -9,7 +10,7 @@ use Rattle.where_index.specs.declared.traffic.Traffic.{Traffic}
 use Rattle.where_index.specs.Changes.{set_at}
 use Rattle.where_index.specs.Flows.{many_below, goes, AreCounted, HasFlows}
 use Rattle.where_index.specs.Traffic.{HasTraffic}
-use Rattle.where_index.proofs.Changes.{HasSpots-ext, at_cases, set_here, set_there, set_itself}
+use Rattle.where_index.proofs.Changes.{HasSpots-ext, set_itself}
 use Rattle.where_index.proofs.Crowding.{HasCrowds-ext}
 use Rattle.where_index.proofs.Counts.{same_or_apart, many-same, many-none, many-le, many-more}
 
@@ -34,17 +35,11 @@ none_counted counts way is t = is t ∙ sym (many-none (λ a. goes way None) (MO
 
 module _ (way : Way) (f : ℕ → ℕ → Option Hop) (agent time : ℕ) (v : Option Hop) where
   away : (a t : ℕ) → ((a ≡ agent) → (t ≡ time) → ⊥) → goes way (f a t) ≡ goes way (set_at f agent time v a t)
-  away a t apart = elim (at_cases a agent t time) [
-    | inl at ↦ absurd (apart at.0.0 at.0.1)
-    | inr off ↦ ap (λ o. goes way o) (sym (set_there f agent time v a t off.1))
-  ]
+  away a t apart = grind (arith, nat_tests)
 
   -- where neither goes that way
   pub keeps : (counts : List ℕ) → goes way (f agent time) ≡ goes way v → AreCounted counts way f → AreCounted counts way (set_at f agent time v)
-  keeps counts same = counted-ext counts way f (set_at f agent time v) (λ a t. elim (at_cases a agent t time) [
-    | inl at ↦ ap (λ q. goes way (f q t)) at.0.0 ∙ (ap (λ q. goes way (f agent q)) at.0.1 ∙ (same ∙ ap (λ o. goes way o) (sym (set_here f agent time v a t at.1))))
-    | inr off ↦ ap (λ o. goes way o) (sym (set_there f agent time v a t off.1))
-  ])
+  keeps counts same = counted-ext counts way f (set_at f agent time v) (λ a t. grind (arith, nat_tests))
 
   now : goes way (set_at f agent time v agent time) ≡ goes way v
   now = ap (λ o. goes way o) (set_itself f agent time v)

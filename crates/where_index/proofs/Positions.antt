@@ -1,11 +1,11 @@
 -- Where an agent is, by its records.
-use Rattle.std.proofs.Common.{◌≡◌, ◌≢◌, ◌⊎◌, inl, inr, ℕ, zero, suc, ◌+◌, ◌-◌, min, ◌<◌, ◌≤◌, nat_lt, List, [], ◌∷◌, length, slice_get, Contains, Option, Some, None, Bool, true, false, cond, ◌&&◌, ◌||◌, ◌==◌, not, IsTrue, refl, sym, ap, ◌∙◌, subst, arith}
+use Rattle.std.proofs.Common.{◌≡◌, ◌≢◌, ◌⊎◌, inl, inr, ℕ, zero, suc, ◌+◌, min, ◌<◌, ◌≤◌, List, [], ◌∷◌, length, slice_get, Contains, Option, Some, None, Bool, true, false, cond, IsTrue, refl, sym, ap, ◌∙◌, subst, arith}
 use mathlib.Core.Logic.{◌↔◌}
 use Rattle.std.specs.Option.{option_and_then, option_map, unwrap_or, IsSome}
 use Rattle.std.proofs.lemmas.Bool.Decides.{nat_tests}
 use Rattle.std.proofs.lemmas.Option.{slice_get_within}
 use Rattle.grid_cells.specs.Cell.{Point}
-use Rattle.plan_table.specs.Path.{last_index, place}
+use Rattle.plan_table.specs.Path.{last_index}
 use Rattle.plan_table.specs.Route.{Route, Fleet, position, position_of, last_of}
 use Rattle.where_index.specs.declared.spot_sets.Spot.{Spot}
 use Rattle.where_index.specs.Spots.{AreFrom, AreRising, spot, HasAt}
@@ -19,7 +19,7 @@ use Rattle.where_index.specs.declared.passings.Passing.{Passing}
 use Rattle.where_index.specs.declared.ends.End.{End}
 use Rattle.where_index.specs.declared.occupants.Occupants.{Occupants}
 use Rattle.where_index.specs.Crowds.{Moves}
-use Rattle.where_index.specs.Ends.{IsEndOfRoute, IsEndOf}
+use Rattle.where_index.specs.Ends.{IsEndOf}
 use Rattle.where_index.specs.Asked.{MovesFrom, Passes, AreOccupants}
 use Rattle.where_index.specs.Index.{all_of}
 use Rattle.where_index.proofs.Standing.{early_stand}
@@ -29,51 +29,19 @@ guarded true o cell e = (refl, e)
 guarded false o cell e = absurd (cc)
 
 from_stand : (path : List Point) (leaves : Bool) (t : ℕ) (cell : Point) → stand_at (route path leaves) t ≡ Some cell → position (route path leaves) t ≡ Some cell
-from_stand path true t cell e =
-    let h = guarded _ _ _ e in
-    let within = slice_get_within path t cell h.1 in
-    let late : nat_lt (last_index path) t ≡ false = grind (arith, nat_tests) in
-    ap (λ b. cond b None (place path t)) late ∙ (ap (slice_get path) {x = min t (last_index path)} (omega arith) ∙ h.1)
-from_stand path false t cell e =
-    let h = guarded _ _ _ e in
-    let within = slice_get_within path t cell h.1 in
-    ap (slice_get path) {x = min t (last_index path)} (omega arith) ∙ h.1
-
-end_test : (a b : ℕ) → (a == b) ≡ true → a ≡ b
-end_test a b e = grind (arith, nat_tests)
+from_stand path leaves t cell e = grind (arith, nat_tests, slice_get_within path t cell)
 
 from_rest : (path : List Point) (leaves : Bool) (x t : ℕ) (cell : Point) → tail_at (route path leaves) x ≡ Some cell → x ≤ t → position (route path leaves) t ≡ Some cell
-from_rest path true x t cell e h = absurd (cc)
-from_rest path false x t cell e h =
-    let g = guarded _ _ _ e in
-    let end = end_test (x + 1) (length path) g.0 in
-    ap (slice_get path) {x = min t (last_index path)} (omega arith) ∙ g.1
+from_rest path leaves x t cell e h = grind (arith, nat_tests)
 
 early_or_late : (path : List Point) (t : ℕ) → (t + 1 < length path) ⊎ (length path ≤ t + 1)
 early_or_late path t = grind arith
 
 to_either : (path : List Point) (leaves : Bool) (t : ℕ) (cell : Point) → position (route path leaves) t ≡ Some cell → (stand_at (route path leaves) t ≡ Some cell) ⊎ ((x : ℕ) × (x ≤ t) × (tail_at (route path leaves) x ≡ Some cell))
-to_either path true t cell e = elim (late_cases (last_index path) t) [
-  | inl late ↦ let wrong : None ≡ Some cell = sym (ap (λ b. cond b None (place path t)) late.1) ∙ e in absurd (cc)
-  | inr early ↦
-      let at : place path t ≡ Some cell = sym (ap (λ b. cond b None (place path t)) early.1) ∙ e in
-      let here : slice_get path t ≡ Some cell = subst (λ q. slice_get path q ≡ Some cell) {x = min t (last_index path)} (omega (arith, early.0)) at in
-      let within = slice_get_within path t cell here in
-      let test : (nat_lt (t + 1) (length path) || (t + 1 == length path)) ≡ true = grind (arith, nat_tests) in
-      inl (ap (λ b. cond b (slice_get path t) None) test ∙ here)
-] where
-  late_cases : (l t : ℕ) → ((l < t) × (nat_lt l t ≡ true)) ⊎ ((t ≤ l) × (nat_lt l t ≡ false))
-  late_cases l t = grind (arith, nat_tests)
+to_either path true t cell e = inl (grind (arith, nat_tests, slice_get_within path t cell, slice_get_within path (last_index path) cell))
 to_either path false t cell e = elim (early_or_late path t) [
-  | inl early ↦
-      let here : slice_get path t ≡ Some cell = subst (λ q. slice_get path q ≡ Some cell) {x = min t (last_index path)} (omega arith) e in
-      let test : nat_lt (t + 1) (length path) ≡ true = grind (arith, nat_tests) in
-      inl (ap (λ b. cond (b || false) (slice_get path t) None) test ∙ here)
-  | inr late ↦
-      let here : slice_get path (last_index path) ≡ Some cell = subst (λ q. slice_get path q ≡ Some cell) {x = min t (last_index path)} (omega arith) e in
-      let within = slice_get_within path (last_index path) cell here in
-      let test : (last_index path + 1 == length path) ≡ true = grind (arith, nat_tests) in
-      inr (last_index path, omega arith, ap (λ b. cond b (slice_get path (last_index path)) None) test ∙ here)
+  | inl early ↦ inl (grind (arith, nat_tests))
+  | inr late ↦ inr (last_index path, grind (arith, nat_tests, slice_get_within path (last_index path) cell), grind (arith, nat_tests, slice_get_within path (last_index path) cell))
 ]
 
 module _ (t : ℕ) (cell : Point) where
@@ -123,18 +91,15 @@ stands_show stands fleet has = show stand_at (λ r t. hop_at r.path t) stands fl
 pub tails_show : (tails : ByCell) (fleet : Fleet) → HasSpots tails (all_of rest_at fleet) → ShowCells tails (all_of tail_at fleet)
 tails_show tails fleet has = show tail_at (λ r t. None) tails fleet has
 
-same_record : (f : ℕ → ℕ → Option Point) (s : Spot) (a time : ℕ) (cell : Point) → s.step.agent ≡ a → s.time ≡ time → f s.step.agent s.time ≡ Some cell → f a time ≡ Some cell
-same_record f s a time cell x y e = ap (λ q. f q time) (sym x) ∙ (ap (λ q. f s.step.agent q) (sym y) ∙ e)
-
 pub standing_exact : (stands tails : ByCell) (s1 s2 : List Spot) (fleet : Fleet) (cell : Point) (time : ℕ) → ShowCells stands (all_of stand_at fleet) → ShowCells tails (all_of tail_at fleet) → AreFrom (spots_at stands cell) time s1 → AreFrom (spots_at tails cell) 0 s2 → (a : ℕ) → (HasAgentBy time s1 a ⊎ HasAgentBy time s2 a) ↔ (position_of fleet a time ≡ Some cell)
 standing_exact stands tails s1 s2 fleet cell time has_s has_r b1 b2 a = (
   (λ h. elim h [
     | inl (s, within, (is, early)) ↦
         let inside = (b1 s).0 within in
-        stands_is time cell (fleet a) (same_record (all_of stand_at fleet) s a time cell is (omega (arith, inside.1)) (has_s.0 cell s inside.0))
+        let stood = subst (λ q. all_of stand_at fleet s.step.agent q ≡ Some cell) {x = s.time} (omega (arith, inside.1)) (has_s.0 cell s inside.0) in
+        subst (λ q. position_of fleet q time ≡ Some cell) is (stands_is time cell (fleet s.step.agent) stood)
     | inr (s, within, (is, early)) ↦
-        let inside = (b2 s).0 within in
-        rests_is time cell s.time early (fleet a) (same_record (all_of tail_at fleet) s a s.time cell is refl (has_r.0 cell s inside.0))
+        subst (λ q. position_of fleet q time ≡ Some cell) is (rests_is time cell s.time early (fleet s.step.agent) (has_r.0 cell s ((b2 s).0 within).0))
   ]),
   (λ h. elim (either_is time cell (fleet a) h) [
     | inl stood ↦ let v = has_s.1 cell time a stood in inl (spot time a v.0, (b1 (spot time a v.0)).1 (v.1, omega arith), (refl, omega arith))
@@ -149,48 +114,34 @@ stand_early (Some r) t cell e =
     let within = slice_get_within r.path t cell (guarded _ _ _ e).1 in
     omega arith
 
-before_last : (n t : ℕ) → (nat_lt (t + 1) n || false) ≡ true → t < n - 1
-before_last n t is = grind (arith, nat_tests)
-
 -- and before it, where its agent doesn't leave
 stand_passes : (o : Option Route) (t : ℕ) (cell : Point) → option_and_then (λ r. stand_at r t) o ≡ Some cell → (t < unwrap_or (option_map (λ (r : Route). last_index r.path) o) 0) ⊎ IsTrue (unwrap_or (option_map (λ (r : Route). r.leaves) o) false)
 stand_passes None t cell e = absurd (cc)
-stand_passes (Some r) t cell e = go r.leaves refl (guarded _ _ _ e).0 where
-  go : (v : Bool) → r.leaves ≡ v → (nat_lt (t + 1) (length r.path) || (v && (t + 1 == length r.path))) ≡ true → (t < last_index r.path) ⊎ IsTrue r.leaves
-  go true leaves is = inr leaves
-  go false leaves is = inl (before_last (length r.path) t is)
+stand_passes (Some r) t cell e = grind (arith, nat_tests, slice_get_within r.path t cell)
 
 tail_last : (o : Option Route) (t : ℕ) (cell : Point) → option_and_then (λ r. tail_at r t) o ≡ Some cell → t ≡ unwrap_or (option_map (λ (r : Route). last_index r.path) o) 0
 tail_last None t cell e = absurd (cc)
-tail_last (Some r) t cell e = go r.leaves (guarded _ _ _ e).0 where
-  go : (v : Bool) → (not v && (t + 1 == length r.path)) ≡ true → t ≡ last_index r.path
-  go true is = absurd (cc)
-  go false is = let end = end_test (t + 1) (length r.path) is in omega arith
+tail_last (Some r) t cell e = grind (arith, nat_tests)
 
 pub passing_exact : (stands tails : ByCell) (s1 s2 : List Spot) (fleet : Fleet) (cell : Point) (from : ℕ) → ShowCells stands (all_of stand_at fleet) → ShowCells tails (all_of tail_at fleet) → AreFrom (spots_at stands cell) from s1 → AreFrom (spots_at tails cell) from s2 → (p : Passing) → (HasPassing s1 p ⊎ HasPassing s2 p) ↔ Passes fleet cell from p
 passing_exact stands tails s1 s2 fleet cell from has_s has_r b1 b2 p = (
   (λ h. elim h [
     | inl (s, within, is) ↦
         let inside = (b1 s).0 within in
-        let agents : s.step.agent ≡ p.agent = ap (λ (q : Passing). q.agent) is in
-        let times : s.time ≡ p.time = ap (λ (q : Passing). q.time) is in
-        let stood = same_record (all_of stand_at fleet) s p.agent p.time cell agents times (has_s.0 cell s inside.0) in
-        record {
-          not_before = omega (arith, inside.1);
-          not_after = stand_early (fleet p.agent) p.time cell stood;
-          there = stands_is p.time cell (fleet p.agent) stood;
-        }
+        let stood = has_s.0 cell s inside.0 in
+        subst (λ q. Passes fleet cell from q) is (record {
+          not_before = inside.1;
+          not_after = stand_early (fleet s.step.agent) s.time cell stood;
+          there = stands_is s.time cell (fleet s.step.agent) stood;
+        })
     | inr (s, within, is) ↦
         let inside = (b2 s).0 within in
-        let agents : s.step.agent ≡ p.agent = ap (λ (q : Passing). q.agent) is in
-        let times : s.time ≡ p.time = ap (λ (q : Passing). q.time) is in
-        let rested = same_record (all_of tail_at fleet) s p.agent p.time cell agents times (has_r.0 cell s inside.0) in
-        let last : p.time ≡ last_of fleet p.agent = tail_last (fleet p.agent) p.time cell rested in
-        record {
-          not_before = omega (arith, inside.1);
-          not_after = omega (arith, last);
-          there = rests_is p.time cell p.time (omega arith) (fleet p.agent) rested;
-        }
+        let rested = has_r.0 cell s inside.0 in
+        subst (λ q. Passes fleet cell from q) is (record {
+          not_before = inside.1;
+          not_after = omega (arith, tail_last (fleet s.step.agent) s.time cell rested);
+          there = rests_is s.time cell s.time (omega arith) (fleet s.step.agent) rested;
+        })
   ]),
   (λ h. elim (either_is p.time cell (fleet p.agent) h.there) [
     | inl stood ↦
@@ -208,10 +159,6 @@ passing_exact stands tails s1 s2 fleet cell from has_s has_r b1 b2 p = (
 )
 
 -- ---- what the end of an agent's route says
-pub ended : (end : End) (o : Option Route) → IsEndOf (Some end) o → (r : Route) × (o ≡ Some r) × IsEndOfRoute end r
-ended end None is = absurd is
-ended end (Some r) is = (r, refl, is)
-
 pub unended : (o : Option Route) → IsEndOf None o → o ≡ None
 unended None is = refl
 unended (Some r) is = absurd is
@@ -224,30 +171,14 @@ some_within (c ∷ path) (suc i) h = some_within path i (omega arith)
 -- whether an agent with that end has a position
 pub has_place : (end : End) (o : Option Route) (t : ℕ) → IsEndOf (Some end) o → (end.leaves ≡ false) ⊎ (t ≤ end.last) → IsSome (option_and_then (λ r. position r t) o)
 has_place end None t is h = absurd is
-has_place end (Some r) t is h = go r.leaves refl where
-  some : IsSome (place r.path t)
-  some =
-      let within = slice_get_within r.path (last_index r.path) end.cell is.cell in
-      some_within r.path (min t (last_index r.path)) (omega arith)
-
-  go : (v : Bool) → r.leaves ≡ v → IsSome (position r t)
-  go false e = subst (λ b. IsSome (cond (b && nat_lt (last_index r.path) t) None (place r.path t))) (sym e) some
-  go true e = elim h [
-    | inl stays ↦ let wrong : true ≡ false = sym e ∙ (sym is.leaves ∙ stays) in absurd (cc)
-    | inr early ↦
-        let late : nat_lt (last_index r.path) t ≡ false = grind (arith, nat_tests, is.last) in
-        subst (λ b. IsSome (cond (b && nat_lt (last_index r.path) t) None (place r.path t))) (sym e)
-        (subst (λ b. IsSome (cond b None (place r.path t))) (sym late) some)
-  ]
+has_place end (Some r) t is h =
+    let within = slice_get_within r.path (last_index r.path) end.cell is.cell in
+    let some = some_within r.path (min t (last_index r.path)) (omega arith) in
+    grind (arith, nat_tests, some, is.last, is.leaves)
 
 pub no_place : (end : End) (o : Option Route) (t : ℕ) → IsEndOf (Some end) o → end.leaves ≡ true → end.last < t → IsSome (option_and_then (λ r. position r t) o) → ⊥
 no_place end None t is leaves late h = is
-no_place end (Some r) t is leaves late h =
-    let on : r.leaves ≡ true = sym is.leaves ∙ leaves in
-    let test : nat_lt (last_index r.path) t ≡ true = grind (arith, nat_tests, is.last) in
-    let gone : position r t ≡ None = ap (λ b. cond (b && nat_lt (last_index r.path) t) None (place r.path t)) on ∙ ap (λ b. cond b None (place r.path t)) test in
-    let wrong : IsSome {T = Point} None = subst (λ (p : Option Point). IsSome p) gone h in
-    cc
+no_place end (Some r) t is leaves late h = grind (arith, nat_tests, is.last, is.leaves)
 
 -- where an agent with that end is, by the sets
 pub is_there : (stands tails : ByCell) (fleet : Fleet) (cell : Point) (agent time : ℕ) (end : End) → ShowCells stands (all_of stand_at fleet) → ShowCells tails (all_of tail_at fleet) → IsEndOf (Some end) (fleet agent) → end.last ≤ time → HasAt (spots_at tails cell) end.last agent → position_of fleet agent time ≡ Some cell
@@ -282,16 +213,10 @@ hop_cases (Some a) (Some b) h is =
     (ap (λ (q : Point). Some q) parts.0, ap (λ (q : Point). Some q) parts.1, subst (λ q. same_point q h.to ≡ false) parts.0 (subst (λ q. same_point a q ≡ false) parts.1 parts.2))
 
 apart_points : (a b : Point) → same_point a b ≡ false → a ≢ b
-apart_points a b e is =
-    let same : same_point a a ≡ true = grind (arith, nat_tests) in
-    let wrong : true ≡ false = sym same ∙ subst (λ q. same_point a q ≡ false) (sym is) e in
-    cc
+apart_points a b e is = grind (arith, nat_tests)
 
 step_place : (path : List Point) (leaves : Bool) (t : ℕ) → t < length path → position (route path leaves) t ≡ slice_get path t
-step_place path true t h =
-    let late : nat_lt (last_index path) t ≡ false = grind (arith, nat_tests) in
-    ap (λ b. cond b None (place path t)) late ∙ ap (slice_get path) {x = min t (last_index path)} (omega arith)
-step_place path false t h = ap (slice_get path) {x = min t (last_index path)} (omega arith)
+step_place path leaves t h = grind (arith, nat_tests)
 
 pub hop_moves : (path : List Point) (leaves : Bool) (t : ℕ) (h : Hop) → hop_at path t ≡ Some h → (position (route path leaves) t ≡ Some h.from) × (position (route path leaves) (t + 1) ≡ Some h.to) × (h.from ≢ h.to)
 hop_moves path leaves t h is =
@@ -299,35 +224,22 @@ hop_moves path leaves t h is =
     let within = slice_get_within path (t + 1) h.to parts.1 in
     (step_place path leaves t (omega arith) ∙ parts.0, step_place path leaves (t + 1) (omega arith) ∙ parts.1, apart_points h.from h.to parts.2)
 
+pub points_one : (a b : Point) → same_point a b ≡ true → a ≡ b
+points_one a b is =
+    let xs : a.x ≡ b.x = grind (arith, nat_tests) in
+    let ys : a.y ≡ b.y = grind (arith, nat_tests) in
+    λ i. record { x = xs i; y = ys i }
+
 other_points : (a b : Point) (v : Bool) → same_point a b ≡ v → (a ≢ b) → v ≡ false
 other_points a b false e apart = refl
-other_points a b true e apart = absurd (apart (points a b e)) where
-  points : (p q : Point) → same_point p q ≡ true → p ≡ q
-  points p q is =
-      let xs : p.x ≡ q.x = grind (arith, nat_tests) in
-      let ys : p.y ≡ q.y = grind (arith, nat_tests) in
-      λ i. record { x = xs i; y = ys i }
+other_points a b true e apart = absurd (apart (points_one a b e))
 
 -- a move out of a cell is a record Move
 pub moves_hop : (path : List Point) (leaves : Bool) (t : ℕ) (from to : Point) → position (route path leaves) t ≡ Some from → position (route path leaves) (t + 1) ≡ Some to → from ≢ to → hop_at path t ≡ Some (record { from = from; to = to })
 moves_hop path leaves t from to starts arrives apart = elim (early_or_late path t) [
-  | inl early ↦
-      let a : slice_get path t ≡ Some from = sym (step_place path leaves t (omega arith)) ∙ starts in
-      let b : slice_get path (t + 1) ≡ Some to = sym (step_place path leaves (t + 1) early) ∙ arrives in
-      let test : same_point from to ≡ false = other_points from to (same_point from to) refl apart in
-      ap (λ o. hop_between o (slice_get path (t + 1))) a ∙ (ap (λ o. hop_between (Some from) o) b ∙ ap (λ v. cond v None (Some (record { from = from; to = to }))) test)
-  | inr late ↦ absurd (ends leaves starts arrives late)
-] where
-  ends : (v : Bool) → position (route path v) t ≡ Some from → position (route path v) (t + 1) ≡ Some to → length path ≤ t + 1 → ⊥
-  ends true s e late =
-      let test : nat_lt (last_index path) (t + 1) ≡ true = grind (arith, nat_tests) in
-      let wrong : None ≡ Some to = sym (ap (λ b. cond b None (place path (t + 1))) test) ∙ e in
-      cc
-  ends false s e late =
-      let a : slice_get path (last_index path) ≡ Some from = subst (λ q. slice_get path q ≡ Some from) {x = min t (last_index path)} (omega arith) s in
-      let b : slice_get path (last_index path) ≡ Some to = subst (λ q. slice_get path q ≡ Some to) {x = min (t + 1) (last_index path)} (omega arith) e in
-      let both : Some from ≡ Some to = sym a ∙ b in
-      apart (cc)
+  | inl early ↦ grind (arith, nat_tests, other_points from to (same_point from to) refl apart)
+  | inr late ↦ absurd (grind (arith, nat_tests))
+]
 
 -- ---- the moves of a fleet
 pub hop_of : (o : Option Route) (t : ℕ) (h : Hop) → option_and_then (λ r. hop_at r.path t) o ≡ Some h → (option_and_then (λ r. position r t) o ≡ Some h.from) × (option_and_then (λ r. position r (t + 1)) o ≡ Some h.to) × (h.from ≢ h.to)

@@ -84,7 +84,3 @@ module _ {X : Type 0} (f : X → ℕ) where
         let b : (k : ℕ) → k < at → f (get_or (remove xs at) k d) ≡ f (get_or xs k d) = λ k h. ap f (rest_below d k h) in
         let a : (k : ℕ) → at ≤ k → f (get_or (remove xs at) k d) ≡ f (get_or xs (k + 1) d) = λ k h. ap f (rest_above d k h) in
         grind (arith, b i, a i, b j, a j, rise i j d, rise i (j + 1) d, rise (i + 1) (j + 1) d)
-
-  -- nothing is lost where nothing has the number
-  pub keeps_all : (xs : List X) (n : ℕ) → ((k : ℕ) (d : X) → k < length xs → f (get_or xs k d) ≢ n) → (z : X) → Contains xs z ↔ (Contains xs z × (f z ≢ n))
-  keeps_all xs n none z = ((λ h. (h, λ same. none h.0 z h.1 (ap f h.2 ∙ same))), (λ h. h.0))

@@ -49,9 +49,6 @@ tied_or_not Equal = inl refl
 tied_or_not Greater = inr refl
 
 module _ {K : Type 0} {R : K → K → Ordering} (o : IsTotalOrder R) (exact : CmpEqualImpliesEq R) where
-  pub set_has : (s : BTreeSet K) (k : K) (b : Bool) → b ≡ sorted.contains R s k → IsTrue b ↔ Contains s.keys k
-  set_has s k b e = subst (λ v. IsTrue v ↔ Contains s.keys k) (sym e) (btree_set_contains_iff o exact s k)
-
   pub set_gains : (s n : BTreeSet K) (k : K) → sorted.Updates R s n k true → (q : K) → Contains n.keys q ↔ (Contains s.keys q ⊎ (q ≡ k))
   set_gains s n k h q =
       let now = btree_set_contains_iff o exact n q in

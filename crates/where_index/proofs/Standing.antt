@@ -1,12 +1,10 @@
 -- An index after one route is changed.
-use Rattle.std.proofs.Common.{◌≡◌, ◌≢◌, inl, inr, ℕ, zero, suc, ◌+◌, min, ◌<◌, ◌≤◌, nat_lt, List, [], ◌∷◌, length, slice_get, Option, Some, None, Bool, true, false, cond, ◌&&◌, ◌||◌, ◌==◌, not, refl, sym, ap, ◌∙◌, subst, arith}
+use Rattle.std.proofs.Common.{◌≡◌, ◌≢◌, ℕ, zero, suc, ◌+◌, ◌<◌, ◌≤◌, List, [], ◌∷◌, length, slice_get, Option, Some, None, Bool, true, false, cond, ◌==◌, refl, sym, ap, ◌∙◌, subst, arith}
 use Rattle.std.specs.Option.{unwrap_or, option_and_then, option_map}
 use Rattle.std.specs.Ordering.{nat_cmp, is_eq}
 use Rattle.std.proofs.lemmas.Bool.Decides.{nat_tests}
-use Rattle.std.proofs.lemmas.Cmp.{nat_cmp_total, tied_itself}
-use Rattle.std.proofs.lemmas.Map.Lookups.{exact_unsigned}
 use Rattle.grid_cells.specs.Cell.{Point}
-use Rattle.plan_table.specs.Path.{last_index, place}
+use Rattle.plan_table.specs.Path.{last_index}
 use Rattle.plan_table.specs.Route.{Route, Fleet, last_of, position}
 use Rattle.where_index.specs.declared.ends.End.{End}
 use Rattle.where_index.specs.Records.{stand_at, tail_at, hop_at, hop_between, leg_between, leg_at, rest_at}
@@ -15,8 +13,7 @@ use Rattle.where_index.specs.Traffic.{ChangesLegs}
 use Rattle.where_index.specs.Index.{Contents, end_in, all_of, StandsFor, with_route}
 use Rattle.where_index.specs.Ends.{IsEndOf}
 use Rattle.where_index.specs.Records.{nothing}
-use Rattle.where_index.proofs.Sets.{tied_or_not}
-use Rattle.where_index.proofs.Changes.{HasSpots-ext, row_cases}
+use Rattle.where_index.proofs.Changes.{HasSpots-ext}
 use Rattle.where_index.proofs.Flowing.{HasTraffic-ext}
 
 -- ---- no records after the end
@@ -25,25 +22,14 @@ past [] t h = refl
 past (x ∷ path) zero h = absurd (omega arith)
 past (x ∷ path) (suc t) h = past path t (omega arith)
 
-tests_past : (n t : ℕ) (leaves : Bool) → n ≤ t → (nat_lt (t + 1) n || (leaves && (t + 1 == n))) ≡ false
-tests_past n t true h = grind (arith, nat_tests)
-tests_past n t false h = grind (arith, nat_tests)
-
-test_past : (n t : ℕ) (leaves : Bool) → n ≤ t → (not leaves && (t + 1 == n)) ≡ false
-test_past n t true h = grind (arith, nat_tests)
-test_past n t false h = grind (arith, nat_tests)
-
 pub stand_past : (r : Route) (t : ℕ) → length r.path ≤ t → stand_at r t ≡ None
-stand_past r t h = ap (λ b. cond b (slice_get r.path t) None) (tests_past (length r.path) t r.leaves h)
+stand_past r t h = grind (arith, nat_tests)
 
 pub rest_past : (r : Route) (t : ℕ) → length r.path ≤ t → tail_at r t ≡ None
-rest_past r t h = ap (λ b. cond b (slice_get r.path t) None) (test_past (length r.path) t r.leaves h)
+rest_past r t h = grind (arith, nat_tests)
 
 tail_elsewhere : (r : Route) (t : ℕ) → t ≢ last_index r.path → tail_at r t ≡ None
-tail_elsewhere r t h = ap (λ b. cond b (slice_get r.path t) None) (test r.leaves) where
-  test : (leaves : Bool) → (not leaves && (t + 1 == length r.path)) ≡ false
-  test true = grind (arith, nat_tests)
-  test false = grind (arith, nat_tests)
+tail_elsewhere r t h = grind (arith, nat_tests)
 
 -- two routes have the same tails, but for the times of their last indices
 pub same_elsewhere : (old new : Route) (t : ℕ) → t ≢ last_index old.path → t ≢ last_index new.path → tail_at old t ≡ tail_at new t
@@ -73,10 +59,7 @@ module _ (fleet : Fleet) (agent : ℕ) (before next : Option Route) (was : fleet
     agrees t = ap (λ o. option_and_then (λ r. g r t) o) was ∙ at_option before t
 
     pub row_next : (a t : ℕ) → set_row (all_of g fleet) agent (g (unwrap_or next nothing)) a t ≡ all_of g (with_route fleet agent next) a t
-    row_next a t = elim (row_cases a agent) [
-      | inl at ↦ ap (λ b. cond b (g (unwrap_or next nothing) t) (all_of g fleet a t)) at.1 ∙ (sym (at_option next t) ∙ sym (ap (λ b. option_and_then (λ r. g r t) (cond b next (fleet a))) at.1))
-      | inr away ↦ ap (λ b. cond b (g (unwrap_or next nothing) t) (all_of g fleet a t)) away.1 ∙ sym (ap (λ b. option_and_then (λ r. g r t) (cond b next (fleet a))) away.1)
-    ]
+    row_next a t = grind (arith, nat_tests, at_option next t)
 
   no_leg : (t : ℕ) → leg_at nothing t ≡ None
   no_leg t = ap (λ o. leg_between o (hop_at [] t)) (stand_past nothing t (omega arith))
@@ -85,26 +68,16 @@ module _ (fleet : Fleet) (agent : ℕ) (before next : Option Route) (was : fleet
   no_rest t = ap (λ o. leg_between o None) (rest_past nothing t (omega arith))
 
   ends_next : (old new : List (ℕ × End)) (end : Option End) → ((q : ℕ) → end_in new q ≡ cond (is_eq (nat_cmp agent q)) end (end_in old q)) → ((a : ℕ) → IsEndOf (end_in old a) (fleet a)) → IsEndOf end next → (a : ℕ) → IsEndOf (end_in new a) (with_route fleet agent next a)
-  ends_next old new end puts has is a = elim (row_cases a agent) [
-    | inl at ↦
-        let tied : is_eq (nat_cmp agent a) ≡ true = subst (λ q. is_eq (nat_cmp agent q) ≡ true) (sym at.0) (ap is_eq (tied_itself nat_cmp_total agent)) in
-        let now : end_in new a ≡ end = puts a ∙ ap (λ b. cond b end (end_in old a)) tied in
-        let route_now : with_route fleet agent next a ≡ next = ap (λ b. cond b next (fleet a)) at.1 in
-        subst (λ e. IsEndOf e (with_route fleet agent next a)) (sym now) (subst (λ r. IsEndOf end r) (sym route_now) is)
-    | inr away ↦ elim (tied_or_not (nat_cmp agent a)) [
-      | inl same ↦ absurd (away.0 (sym (exact_unsigned _ _ same)))
-      | inr apart ↦
-          let now : end_in new a ≡ end_in old a = puts a ∙ ap (λ b. cond b end (end_in old a)) apart in
-          let route_now : with_route fleet agent next a ≡ fleet a = ap (λ b. cond b next (fleet a)) away.1 in
-          subst (λ e. IsEndOf e (with_route fleet agent next a)) (sym now) (subst (λ r. IsEndOf (end_in old a) r) (sym route_now) (has a))
-    ]
-  ]
+  ends_next old new end puts has is a = subst (λ e. IsEndOf e (with_route fleet agent next a)) (sym (puts a ∙ ap (λ b. cond b end (end_in old a)) tied)) (go (a == agent)) where
+    tied : is_eq (nat_cmp agent a) ≡ (a == agent)
+    tied = grind (arith, nat_tests)
+
+    go : (v : Bool) → IsEndOf (cond v end (end_in old a)) (cond v next (fleet a))
+    go true = is
+    go false = has a
 
   horizon_next : (old new : ℕ) → ((a : ℕ) → last_of fleet a ≤ old) → old ≤ new → last_index (unwrap_or next nothing).path ≤ new → (a : ℕ) → last_of (with_route fleet agent next) a ≤ new
-  horizon_next old new has more last a = elim (row_cases a agent) [
-    | inl at ↦ subst (λ r. unwrap_or (option_map (λ (q : Route). last_index q.path) r) 0 ≤ new) (sym (ap (λ b. cond b next (fleet a)) at.1)) (last_le next last)
-    | inr away ↦ subst (λ r. unwrap_or (option_map (λ (q : Route). last_index q.path) r) 0 ≤ new) (sym (ap (λ b. cond b next (fleet a)) away.1)) (let h = has a in omega arith)
-  ] where
+  horizon_next old new has more last a = grind (arith, nat_tests, has a, last_le next last) where
     last_le : (o : Option Route) → last_index (unwrap_or o nothing).path ≤ new → unwrap_or (option_map (λ (q : Route). last_index q.path) o) 0 ≤ new
     last_le None h = omega arith
     last_le (Some r) h = h
@@ -123,29 +96,15 @@ module _ (fleet : Fleet) (agent : ℕ) (before next : Option Route) (was : fleet
     horizon = horizon_next index.horizon new.horizon has.horizon more last;
   }
 
--- the end of a path
-pub end_place : (path : List Point) (t : ℕ) (cell : Point) → t ≡ last_index path → place path t ≡ Some cell → slice_get path (last_index path) ≡ Some cell
-end_place path t cell is at = subst (λ q. slice_get path q ≡ Some cell) {x = min t (last_index path)} (omega arith) at
-
 -- ---- the same records where the positions are the same, well before both ends
 early_place : (r : Route) (t : ℕ) → t + 1 < length r.path → position r t ≡ slice_get r.path t
-early_place r t h = go r.leaves refl where
-  go : (v : Bool) → r.leaves ≡ v → position r t ≡ slice_get r.path t
-  go false e = ap (λ b. cond (b && nat_lt (last_index r.path) t) None (place r.path t)) e ∙ ap (slice_get r.path) {x = min t (last_index r.path)} (omega arith)
-  go true e =
-      let late : nat_lt (last_index r.path) t ≡ false = grind (arith, nat_tests) in
-      ap (λ b. cond (b && nat_lt (last_index r.path) t) None (place r.path t)) e ∙ (ap (λ b. cond b None (place r.path t)) late ∙ ap (slice_get r.path) {x = min t (last_index r.path)} (omega arith))
+early_place r t h = grind (arith, nat_tests)
 
 pub early_stand : (r : Route) (t : ℕ) → t + 1 < length r.path → stand_at r t ≡ slice_get r.path t
-early_stand r t h =
-    let early : nat_lt (t + 1) (length r.path) ≡ true = grind (arith, nat_tests) in
-    ap (λ b. cond (b || (r.leaves && (t + 1 == length r.path))) (slice_get r.path t) None) early
+early_stand r t h = grind (arith, nat_tests)
 
 pub early_rest : (r : Route) (t : ℕ) → t + 1 < length r.path → tail_at r t ≡ None
-early_rest r t h = go (not r.leaves) where
-  go : (v : Bool) → cond (v && (t + 1 == length r.path)) (slice_get r.path t) None ≡ None
-  go false = refl
-  go true = let early : (t + 1 == length r.path) ≡ false = grind (arith, nat_tests) in ap (λ b. cond b (slice_get r.path t) None) early
+early_rest r t h = grind (arith, nat_tests)
 
 pub same_early : (old new : Route) (since t : ℕ) → ((x : ℕ) → x < since → position old x ≡ position new x) → t + 1 < since → t + 2 < length old.path → t + 2 < length new.path → HaveSameAt old new t
 same_early old new since t same h a b =
