@@ -16,7 +16,7 @@ use Rattle.desk_books.specs.Aims.{aim}
 use Rattle.desk_books.specs.Goals.{HoldAimed}
 use Rattle.desk_books.specs.Prices.{Rows, with_row, AimsAt, Prices, AreOf}
 use Rattle.desk_books.specs.PriceLaws.{SameRowsSameBooks}
-use Rattle.desk_books.proofs.RowAims.{AreAims, aims_same, row_here, row_elsewhere, aims_put, aims_take, aims_stay, aims_moved}
+use Rattle.desk_books.proofs.RowAims.{AreAims, aims_same, row_here, row_elsewhere, rows_changed, aims_put, aims_take, aims_stay, aims_moved}
 use Rattle.desk_books.specs.declared.aims.Aim.{Aim}
 
 pub same_books : SameRowsSameBooks
@@ -61,16 +61,10 @@ held_of grid fleet books are goal = (
 
 -- books in which one agent's row has changed
 module _ (grid : Chart) (fleet : Rows) (old : Prices) (agent : ℕ) (changed : Option Row) (costs : Ledger) (are : AreOf grid fleet old) (change : ChangesRow old.costs.rows costs.rows agent changed) (by_agent : IsByAgent costs.rows) (stands : StandsFor costs grid) where
-  rows_changed : (other : ℕ) → row_of costs.rows other ≡ with_row fleet agent changed other
-  rows_changed other = elim (eqb_tells other agent) [
-    | inl is ↦ ap (row_of costs.rows) is.1 ∙ change.this_agent ∙ sym (row_here fleet agent changed other is.0)
-    | inr apart ↦ change.other_agents other apart.1 ∙ are.rows other ∙ sym (row_elsewhere fleet agent changed other apart.0)
-  ]
-
   books_changed : (aims : List Aim) (fields : List Standing) → AreAims (with_row fleet agent changed) aims → StandFor grid fields → HoldAimed aims fields → AreOf grid (with_row fleet agent changed) (record { costs = costs; aims = aims; fields = fields })
   books_changed aims fields are_aims stand held = record {
     by_agent = by_agent;
-    rows = rows_changed;
+    rows = rows_changed fleet old.costs.rows costs.rows agent changed are.rows change;
     costs = stands;
     aims = are_aims;
     fields = stand;

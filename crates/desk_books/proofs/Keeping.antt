@@ -9,9 +9,10 @@ use Rattle.where_index.specs.Index.{with_route}
 use Rattle.desk_books.specs.Fleet as fleets
 use Rattle.desk_books.specs.Prices as prices
 use Rattle.desk_books.specs.Books.{BooksState, Keep, fleet_of}
+use Rattle.desk_books.specs.Lines.{WhereLinesStand}
 use Rattle.desk_books.proofs.Rows.{fleet_with}
 
--- the fleet and the prices change alike
-pub keep_with : (mode : Mode) (grid : Chart) (rows : prices.Rows) (agent : ℕ) (row : Option Row) (books : BooksState) → fleets.AreOf (with_route (fleet_of mode rows) agent (option_map (route_in mode) row)) books.fleet → prices.AreOf grid (prices.with_row rows agent row) books.prices → Keep mode grid (prices.with_row rows agent row) books
-keep_with mode grid rows agent row books fleet priced =
-    record { fleet = subst (λ (f : Fleet). fleets.AreOf f books.fleet) (sym (fleet_with mode rows agent row)) fleet; prices = priced }
+-- the fleet, the prices and the lines change alike
+pub keep_with : (mode : Mode) (grid : Chart) (rows : prices.Rows) (agent : ℕ) (row : Option Row) (books : BooksState) → fleets.AreOf (with_route (fleet_of mode rows) agent (option_map (route_in mode) row)) books.fleet → prices.AreOf grid (prices.with_row rows agent row) books.prices → WhereLinesStand grid (prices.with_row rows agent row) books.lines → Keep mode grid (prices.with_row rows agent row) books
+keep_with mode grid rows agent row books fleet priced lines =
+    record { fleet = subst (λ (f : Fleet). fleets.AreOf f books.fleet) (sym (fleet_with mode rows agent row)) fleet; prices = priced; lines = lines }

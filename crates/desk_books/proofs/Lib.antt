@@ -1,6 +1,9 @@
 pub mod Entering
 pub mod Rows
 pub mod Keeping
+pub mod Mending
+pub mod Telling
+pub mod Staying
 pub mod Leaving
 pub mod Live
 pub mod Behind

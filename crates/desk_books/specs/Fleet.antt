@@ -1,7 +1,7 @@
 -- What the books of a fleet keep: who stands and moves where, and the conflict entries (this project's choice).
-use Rattle.std.specs.Prelude.{List}
-use Rattle.plan_table.specs.Route.{Fleet}
-use Rattle.where_index.specs.Index.{Contents, StandsFor}
+use Rattle.std.specs.Prelude.{◌≡◌, ℕ, Option, List}
+use Rattle.plan_table.specs.Route.{Route, Fleet}
+use Rattle.where_index.specs.Index.{Contents, StandsFor, with_route}
 use Rattle.conflict_ledger.specs.Kept.{HasEntries}
 use Rattle.mapf_rules.specs.declared.entries.Conflict.{Conflict}
 
@@ -14,3 +14,7 @@ pub record FleetState : Type 0 where
 pub record AreOf (fleet : Fleet) (books : FleetState) : Type 0 where
   pub index : StandsFor books.index fleet
   pub entries : HasEntries books.conflicts fleet
+
+-- books of any fleet in which the agent has the one route become those of the fleet with the other in its place
+abbrev pub Reroutes : ℕ → Option Route → Option Route → FleetState → FleetState → Type 0
+Reroutes agent before after old new = (fleet : Fleet) → AreOf fleet old → fleet agent ≡ before → AreOf (with_route fleet agent after) new

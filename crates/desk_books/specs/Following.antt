@@ -18,6 +18,10 @@ pub record ChangedBy (before : SceneState) (changes : List Change) (scene : Scen
   pub changed : AreChanges before edits changes
   pub made : scene ≡ edited_all before edits
 
+-- the relation holds of each scene and the one that edits with those changes make of it
+abbrev pub HoldsOver : List Change → (SceneState → SceneState → Type 0) → Type 0
+HoldsOver changes R = (before : SceneState) (edits : List Edit) → IsScene before → AreAllowed before edits → AreChanges before edits changes → R before (edited_all before edits)
+
 -- the books are those of a scene that edits with those changes made the present one
 pub record AreBehind (changes : List Change) (scene : SceneState) (books : BooksState) : Type 0 where
   pub before : SceneState

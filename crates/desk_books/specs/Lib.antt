@@ -1,4 +1,5 @@
 pub mod Books
+pub mod Lines
 pub mod Following
 pub mod Flips
 pub mod Formers

@@ -37,3 +37,7 @@ pub record AreOf (grid : Chart) (fleet : Rows) (books : Prices) : Type 0 where
   pub aims : (aim : Aim) → Contains books.aims aim ↔ AimsAt fleet aim.agent aim.goal
   pub fields : StandFor grid books.fields
   pub goals : (goal : Point) → HasGoal books.fields goal ↔ ((agent : ℕ) × AimsAt fleet agent goal)
+
+-- books of any rows among which the agent has the one row become those of the rows with the other in its place
+abbrev pub Reprices : Chart → ℕ → Option Row → Option Row → Prices → Prices → Type 0
+Reprices grid agent before after old new = (rows : Rows) → AreOf grid rows old → rows agent ≡ before → AreOf grid (with_row rows agent after) new

@@ -10,9 +10,9 @@ ghost use Rattle.desk_books.specs.Following.{AreBehind};
 
 use crate::fleet::FleetBooks;
 use crate::flipped_cells::flipped;
+use crate::lines::Lines;
 use crate::named_agents::formers;
 use crate::prices::PriceBooks;
-use crate::reports::quick_report;
 use desk_report::Report;
 use grid_cells::{Cell, OutOfMemory};
 use scene_edits::{Change, Scene};
@@ -20,12 +20,13 @@ use std::alloc::Global;
 use std::marker::Model;
 
 /// What is kept of a scene: where its agents stand and move, their conflict entries, costs and
-/// blocked visits, and the distances to their goals.
+/// blocked visits, the distances to their goals, and from a report to a flip of a cell their lines.
 #[derive(Drop)]
 pub struct Books {
     pub(crate) alloc: Global,
     pub(crate) fleet: FleetBooks,
     pub(crate) prices: PriceBooks,
+    pub(crate) lines: Option<Lines>,
 }
 
 impl Model for Books {
@@ -33,7 +34,7 @@ impl Model for Books {
 
     ghost Value = { BooksState };
 
-    ghost view = { λ b. record { fleet = b.fleet; prices = b.prices } };
+    ghost view = { λ b. record { fleet = b.fleet; prices = b.prices; lines = b.lines } };
 }
 
 impl Books {
@@ -49,6 +50,7 @@ impl Books {
             alloc,
             fleet: FleetBooks::new(alloc),
             prices: PriceBooks::new(alloc),
+            lines: None,
         };
         let plans = scene.plans();
         for rank in 0..plans.count() {
@@ -83,30 +85,27 @@ impl Books {
         books.catch_up(&formers, scene)
     }
 
-    /// The report of the scene. The cost follows the agents, the entries and the visits.
+    /// The report of the scene. It copies the agents' lines, which are made where none stand; else the
+    /// cost follows the entries and the visits.
     ///
     /// # Errors
     ///
     /// Want of memory.
-    pub fn report(&self, scene: &Scene) -> Result<Report, OutOfMemory>
-        requires { AreOf scene.now self.now }
-        ensures { IfOk result (IsReportOf scene.now.grid scene.now.mode scene.now.rows) }
+    pub fn report(&mut self, scene: &Scene) -> Result<Report, OutOfMemory>
+        requires { AreOf scene.now self.old }
+        ensures kept { AreOf scene.now self.new }
+        ensures report { IfOk result (IsReportOf scene.now.grid scene.now.mode scene.now.rows) }
     {
-        let conflicts = self.fleet.conflicts()?;
-        quick_report(
-            self.alloc,
-            scene.grid(),
-            scene.mode(),
-            scene.plans(),
-            conflicts,
-            self.prices.costs(),
-            self.prices.fields(),
-        )
+        let lines = self.take_lines(scene)?;
+        let report = self.report_by(&lines, scene);
+        drop(self.lines.replace(lines));
+        report
     }
 
     /// The distance in steps of the cell to the goal of an agent of the scene, if there is one.
     pub fn distance(&self, from: Cell, goal: Cell) -> Option<u32>
-        ensures { (scene : SceneState) (agent : ℕ) (row : Row) → AreOf scene self.now → row_of scene.rows agent ≡ Some row → row.goal ≡ goal → Holds scene.grid.size from → IsDistance scene.grid from goal result }
+        ensures { (scene : SceneState) (agent : ℕ) (row : Row) → AreOf scene self.now → row_of scene.rows agent ≡ Some row
+            → row.goal ≡ goal → Holds scene.grid.size from → IsDistance scene.grid from goal result }
     {
         match self.prices.fields().field(goal) {
             Some(field) => field.distance(from),

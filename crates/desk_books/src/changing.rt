@@ -1,16 +1,17 @@
 //! One agent's row becomes another.
 ghost use Rattle.std.specs.Prelude.{◌≡◌, IfOk, Some, None};
 ghost use Rattle.grid_cells.specs.Size.{Holds};
-ghost use Rattle.desk_books.specs.Prices.{Rows, with_row};
+ghost use Rattle.desk_books.specs.Prices.{Rows};
 ghost use Rattle.desk_books.specs.Prices as priced;
 ghost use Rattle.desk_books.specs.Formers.{former_row};
 ghost use Rattle.plan_table.specs.Plans.{row_of};
-ghost use Rattle.desk_books.specs.Books.{Keep, Know};
+ghost use Rattle.desk_books.specs.Books.{Know, Renews};
 
 use crate::books::Books;
 use crate::former::{is_same_plan, track_of};
 use crate::named_agents::Former;
 use crate::prices::PriceBooks;
+use crate::standing_lines::{with_line, without_line};
 use grid_cells::{Agent, Cell, Grid, OutOfMemory};
 use plan_table::{Plan, Row};
 use scene_edits::Scene;
@@ -19,7 +20,7 @@ impl Books {
     // The agent's row before becomes its row in the scene.
     pub(crate) fn change(self, former: &Former<'_>, scene: &Scene) -> Result<Books, OutOfMemory>
         requires { Know scene.now.mode scene.now.grid former.now.agent (former_row former.now) self }
-        ensures { IfOk result (λ books. (rows : Rows) → Keep scene.now.mode scene.now.grid rows self → rows former.now.agent ≡ former_row former.now → Keep scene.now.mode scene.now.grid (with_row rows former.now.agent (row_of scene.now.rows former.now.agent)) books) }
+        ensures { IfOk result (Renews scene.now.mode scene.now.grid former.now.agent (former_row former.now) (row_of scene.now.rows former.now.agent) self) }
     {
         let agent = former.agent;
         match (former.row(), scene.plans().row(agent)) {
@@ -34,25 +35,28 @@ impl Books {
     pub(crate) fn enter(self, agent: Agent, row: &Row, scene: &Scene) -> Result<Books, OutOfMemory>
         requires know { Know scene.now.mode scene.now.grid agent None self }
         requires inside { Holds scene.now.grid.size row.now.goal }
-        ensures { IfOk result (λ books. (rows : Rows) → Keep scene.now.mode scene.now.grid rows self → rows agent ≡ None → Keep scene.now.mode scene.now.grid (with_row rows agent (Some row.now)) books) }
+        ensures { IfOk result (Renews scene.now.mode scene.now.grid agent None (Some row.now) self) }
     {
         let Books {
             alloc,
             fleet,
             prices,
+            lines,
         } = self;
         let Ok(fleet) = fleet.admit(agent, row.track(scene.mode())) else {
-            drop(prices);
+            drop((prices, lines));
             return Err(OutOfMemory);
         };
         let Ok(prices) = prices.put(agent, row.goal, &row.plan, scene.grid()) else {
-            drop(fleet);
+            drop((fleet, lines));
             return Err(OutOfMemory);
         };
+        let lines = with_line(lines, agent, row, prices.fields());
         Ok(Books {
             alloc,
             fleet,
             prices,
+            lines,
         })
     }
 
@@ -64,22 +68,25 @@ impl Books {
         plan: &Plan,
         scene: &Scene,
     ) -> Result<Books, OutOfMemory>
-        ensures { IfOk result (λ books. (rows : Rows) → Keep scene.now.mode scene.now.grid rows self → rows agent ≡ Some (record { goal = goal; plan = plan.now }) → Keep scene.now.mode scene.now.grid (with_row rows agent None) books) }
+        ensures { IfOk result (Renews scene.now.mode scene.now.grid agent (Some (record { goal = goal; plan = plan.now })) None self) }
     {
         let Books {
             alloc,
             fleet,
             mut prices,
+            lines,
         } = self;
         let Ok(fleet) = fleet.retract(agent, track_of(goal, plan, scene.mode())) else {
-            drop(prices);
+            drop((prices, lines));
             return Err(OutOfMemory);
         };
         prices.take(agent, goal);
+        let lines = without_line(lines, agent);
         Ok(Books {
             alloc,
             fleet,
             prices,
+            lines,
         })
     }
 
@@ -94,26 +101,29 @@ impl Books {
     ) -> Result<Books, OutOfMemory>
         requires know { Know scene.now.mode scene.now.grid agent (Some (record { goal = goal; plan = plan.now })) self }
         requires inside { Holds scene.now.grid.size row.now.goal }
-        ensures { IfOk result (λ books. (rows : Rows) → Keep scene.now.mode scene.now.grid rows self → rows agent ≡ Some (record { goal = goal; plan = plan.now }) → Keep scene.now.mode scene.now.grid (with_row rows agent (Some row.now)) books) }
+        ensures { IfOk result (Renews scene.now.mode scene.now.grid agent (Some (record { goal = goal; plan = plan.now })) (Some row.now) self) }
     {
         let Books {
             alloc,
             fleet,
             prices,
+            lines,
         } = self;
         let mode = scene.mode();
         let Ok(fleet) = fleet.revise(agent, track_of(goal, plan, mode), row.track(mode)) else {
-            drop(prices);
+            drop((prices, lines));
             return Err(OutOfMemory);
         };
         let Ok(prices) = reprice(prices, agent, goal, plan, row, scene.grid()) else {
-            drop(fleet);
+            drop((fleet, lines));
             return Err(OutOfMemory);
         };
+        let lines = with_line(lines, agent, row, prices.fields());
         Ok(Books {
             alloc,
             fleet,
             prices,
+            lines,
         })
     }
 }
@@ -129,7 +139,7 @@ fn reprice(
 ) -> Result<PriceBooks, OutOfMemory>
     requires inside { Holds grid.now.size row.now.goal }
     requires know { (rows : Rows) × priced.AreOf grid.now rows prices × (rows agent ≡ Some (record { goal = goal; plan = plan.now })) }
-    ensures { IfOk result (λ books. (rows : Rows) → priced.AreOf grid.now rows prices → rows agent ≡ Some (record { goal = goal; plan = plan.now }) → priced.AreOf grid.now (with_row rows agent (Some row.now)) books) }
+    ensures { IfOk result (priced.Reprices grid.now agent (Some (record { goal = goal; plan = plan.now })) (Some row.now) prices) }
 {
     let planned = replan(prices, agent, goal, plan, row, grid)?;
     planned.aim(agent, goal, row.goal, grid)
@@ -144,7 +154,8 @@ fn replan(
     row: &Row,
     grid: &Grid,
 ) -> Result<PriceBooks, OutOfMemory>
-    ensures { IfOk result (λ books. (rows : Rows) → priced.AreOf grid.now rows prices → rows agent ≡ Some (record { goal = goal; plan = plan.now }) → priced.AreOf grid.now (with_row rows agent (Some (record { goal = goal; plan = row.now.plan }))) books) }
+    ensures { IfOk result (priced.Reprices grid.now agent (Some (record { goal = goal; plan = plan.now }))
+        (Some (record { goal = goal; plan = row.now.plan })) prices) }
 {
     if is_same_plan(plan, &row.plan) {
         return Ok(prices);

@@ -3,11 +3,10 @@ ghost use Rattle.plan_table.specs.Route.{Fleet, route_of, tracks_of};
 ghost use Rattle.plan_table.specs.declared.plans.Row.{Row};
 ghost use Rattle.plan_table.specs.declared.tracks.Mode.{Mode};
 ghost use Rattle.where_index.specs.Records.{nothing, records_apart};
-ghost use Rattle.where_index.specs.Index.{with_route};
 ghost use Rattle.mapf_rules.specs.ConflictList.{AreConflicts};
 ghost use Rattle.cost_ledger.specs.Through.{AreThrough};
 ghost use Rattle.scene_edits.specs.Since.{IsSince};
-ghost use Rattle.desk_books.specs.Fleet.{AreOf};
+ghost use Rattle.desk_books.specs.Fleet.{AreOf, Reroutes};
 
 use crate::visitors::visits_to;
 use conflict_ledger::ConflictLedger;
@@ -53,7 +52,7 @@ impl FleetBooks {
     ///
     /// Want of memory: the books are gone then.
     pub fn admit(self, agent: Agent, track: Track<'_>) -> Result<FleetBooks, OutOfMemory>
-        ensures books { IfOk result (λ books. (fleet : Fleet) → AreOf fleet self → fleet agent ≡ None → AreOf (with_route fleet agent (Some (route_of track.entry))) books) }
+        ensures books { IfOk result (Reroutes agent None (Some (route_of track.entry)) self) }
         ensures touched { IfOk result (λ books. books.index.touched ≡ min (self.index.touched + records_apart nothing (route_of track.entry)) u64.MAX) }
     {
         let FleetBooks { index, conflicts } = self;
@@ -74,7 +73,7 @@ impl FleetBooks {
     ///
     /// Want of memory, since a removal can make a ring: the books are gone then.
     pub fn retract(self, agent: Agent, track: Track<'_>) -> Result<FleetBooks, OutOfMemory>
-        ensures books { IfOk result (λ books. (fleet : Fleet) → AreOf fleet self → fleet agent ≡ Some (route_of track.entry) → AreOf (with_route fleet agent None) books) }
+        ensures books { IfOk result (Reroutes agent (Some (route_of track.entry)) None self) }
         ensures touched { IfOk result (λ books. books.index.touched ≡ min (self.index.touched + records_apart (route_of track.entry) nothing) u64.MAX) }
     {
         let FleetBooks { index, conflicts } = self;
@@ -98,8 +97,9 @@ impl FleetBooks {
         old: Track<'_>,
         new: Track<'_>,
     ) -> Result<FleetBooks, OutOfMemory>
-        ensures books { IfOk result (λ books. (fleet : Fleet) → AreOf fleet self → fleet agent ≡ Some (route_of old.entry) → AreOf (with_route fleet agent (Some (route_of new.entry))) books) }
-        ensures touched { IfOk result (λ books. books.index.touched ≡ min (self.index.touched + records_apart (route_of old.entry) (route_of new.entry)) u64.MAX) }
+        ensures books { IfOk result (Reroutes agent (Some (route_of old.entry)) (Some (route_of new.entry)) self) }
+        ensures touched { IfOk result (λ books.
+            books.index.touched ≡ min (self.index.touched + records_apart (route_of old.entry) (route_of new.entry)) u64.MAX) }
     {
         let _touched = self.touched();
         let Some(since) = since_of(old, new) else {

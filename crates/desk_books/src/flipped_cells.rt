@@ -1,7 +1,5 @@
 ghost use Rattle.std.specs.Prelude.{IfOk, List, Contains, All};
-ghost use Rattle.scene_edits.specs.Scene.{SceneState, IsScene};
-ghost use Rattle.scene_edits.specs.InOrder.{edited_all, AreAllowed, AreChanges};
-ghost use Rattle.scene_edits.specs.declared.edits.Edit.{Edit};
+ghost use Rattle.desk_books.specs.Following.{HoldsOver};
 ghost use Rattle.desk_books.specs.Flips.{HoldFlips};
 
 use grid_cells::{Cell, OutOfMemory};
@@ -11,7 +9,7 @@ use std::alloc::Global;
 /// Cells that the changes opened or closed: each cell of the map whose state before them isn't the
 /// state after them is among these.
 pub fn flipped(alloc: Global, changes: &[Change]) -> Result<Vec<Cell>, OutOfMemory>
-    ensures flips { IfOk result (λ cells. (before : SceneState) (edits : List Edit) → IsScene before → AreAllowed before edits → AreChanges before edits changes.now → HoldFlips before.grid (edited_all before edits).grid cells.items) }
+    ensures flips { IfOk result (λ cells. HoldsOver changes.now (λ before after. HoldFlips before.grid after.grid cells.items)) }
     ensures named { IfOk result (λ cells. All (λ cell. Contains changes.now (Change.Flipped cell)) cells.items) }
 {
     let mut cells = Vec::new(alloc);

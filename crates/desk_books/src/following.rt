@@ -9,6 +9,7 @@ ghost use Rattle.desk_books.specs.Following.{AreLeft};
 
 use crate::books::Books;
 use crate::named_agents::Former;
+use crate::standing_lines::unflipped;
 use grid_cells::{Cell, OutOfMemory};
 use scene_edits::Scene;
 
@@ -16,21 +17,25 @@ impl Books {
     // The map becomes that of the scene, which has another state at no other cell than those.
     pub(crate) fn flip(self, cells: &[Cell], scene: &Scene) -> Result<Books, OutOfMemory>
         requires { (old : Chart) × (rows : Rows) × Keep scene.now.mode old rows self × (old.size ≡ scene.now.grid.size) × Covers cells.now old scene.now.grid }
-        ensures { IfOk result (λ books. (old : Chart) (rows : Rows) → Keep scene.now.mode old rows self → old.size ≡ scene.now.grid.size → Covers cells.now old scene.now.grid → Keep scene.now.mode scene.now.grid rows books) }
+        ensures { IfOk result (λ books. (old : Chart) (rows : Rows) → Keep scene.now.mode old rows self
+            → old.size ≡ scene.now.grid.size → Covers cells.now old scene.now.grid → Keep scene.now.mode scene.now.grid rows books) }
     {
         let Books {
             alloc,
             fleet,
             prices,
+            lines,
         } = self;
+        let lines = unflipped(lines, cells, &prices, scene.grid());
         let Ok(prices) = prices.flip(alloc, cells, &fleet, scene.grid()) else {
-            drop(fleet);
+            drop((fleet, lines));
             return Err(OutOfMemory);
         };
         Ok(Books {
             alloc,
             fleet,
             prices,
+            lines,
         })
     }
 

@@ -2,9 +2,7 @@ ghost use Rattle.std.specs.Prelude.{◌≡◌, ℕ, List, IfOk, All, map};
 ghost use Rattle.std.specs.Option.{option_map};
 ghost use Rattle.std.specs.Ordering.{nat_cmp};
 ghost use Rattle.std.specs.BTreeMap.{IsOrdered};
-ghost use Rattle.scene_edits.specs.Scene.{SceneState, IsScene};
-ghost use Rattle.scene_edits.specs.InOrder.{edited_all, AreAllowed, AreChanges};
-ghost use Rattle.scene_edits.specs.declared.edits.Edit.{Edit};
+ghost use Rattle.desk_books.specs.Following.{HoldsOver};
 ghost use Rattle.desk_books.specs.Named.{IsNamed};
 ghost use Rattle.desk_books.specs.Formers.{as_row, former_row, former_of, AreFormers};
 
@@ -53,7 +51,8 @@ pub fn formers<'a>(
     changes: &'a [Change],
     plans: &'a Plans,
 ) -> Result<Vec<Former<'a>>, OutOfMemory>
-    ensures rows { IfOk result (λ formers. (before : SceneState) (edits : List Edit) → IsScene before → AreAllowed before edits → AreChanges before edits changes.now → (edited_all before edits).rows ≡ plans.now.rows → AreFormers before.rows plans.now.rows formers.items) }
+    ensures rows { IfOk result (λ formers. HoldsOver changes.now (λ before after.
+        after.rows ≡ plans.now.rows → AreFormers before.rows plans.now.rows formers.items)) }
     ensures named { IfOk result (λ formers. All (λ former. IsNamed changes.now former.agent) formers.items) }
 {
     let mut rows = BTreeMap::new(alloc);

@@ -75,7 +75,8 @@ impl PriceBooks {
         requires absent { row_of self.costs.rows agent ≡ None }
         requires inside { Holds grid.now.size goal }
         requires stand { StandFor grid.now self.fields }
-        ensures kept { IfOk result (λ books. (fleet : Rows) → AreOf grid.now fleet self → AreOf grid.now (with_row fleet agent (Some (record { goal = goal; plan = plan.now }))) books) }
+        ensures kept { IfOk result (λ books. (fleet : Rows) → AreOf grid.now fleet self
+            → AreOf grid.now (with_row fleet agent (Some (record { goal = goal; plan = plan.now }))) books) }
         ensures stand { IfOk result (λ books. StandFor grid.now books.fields) }
     {
         let PriceBooks { costs, goals } = self;
@@ -114,7 +115,8 @@ impl PriceBooks {
     ) -> Result<PriceBooks, OutOfMemory>
         requires inside { Holds grid.now.size goal }
         requires stand { StandFor grid.now self.fields }
-        ensures kept { IfOk result (λ books. (fleet : Rows) (row : Row) → AreOf grid.now fleet self → fleet agent ≡ Some row → row.goal ≡ before → AreOf grid.now (with_row fleet agent (Some (record row { goal = goal }))) books) }
+        ensures kept { IfOk result (λ books. (fleet : Rows) (row : Row) → AreOf grid.now fleet self
+            → fleet agent ≡ Some row → row.goal ≡ before → AreOf grid.now (with_row fleet agent (Some (record row { goal = goal }))) books) }
         ensures stand { IfOk result (λ books. StandFor grid.now books.fields) }
     {
         if before == goal {
@@ -143,7 +145,8 @@ impl PriceBooks {
         plan: &Plan,
         grid: &Grid,
     ) -> Result<PriceBooks, OutOfMemory>
-        ensures kept { IfOk result (λ books. (fleet : Rows) → AreOf grid.now fleet self → AimsAt fleet agent goal → AreOf grid.now (with_row fleet agent (Some (record { goal = goal; plan = plan.now }))) books) }
+        ensures kept { IfOk result (λ books. (fleet : Rows) → AreOf grid.now fleet self → AimsAt fleet agent goal
+            → AreOf grid.now (with_row fleet agent (Some (record { goal = goal; plan = plan.now }))) books) }
         ensures fields { IfOk result (λ books. books.fields ≡ self.fields) }
     {
         let PriceBooks { costs, goals } = self;
@@ -170,7 +173,7 @@ impl PriceBooks {
         requires same_size { All (λ field. grid.now.size ≡ field.grid.size) self.fields }
         requires covered { All (λ field. Covers cells.now field.grid grid.now) self.fields }
         ensures kept { IfOk result (λ books. (mode : Mode) (old : Chart) (rows : Rows)
-            → Keep mode old rows (record { fleet = fleet.now; prices = self })
+            → Keep mode old rows (record { fleet = fleet.now; prices = self; lines = None })
             → old.size ≡ grid.now.size → Covers cells.now old grid.now → AreOf grid.now rows books) }
         ensures stand { IfOk result (λ books. StandFor grid.now books.fields) }
     {

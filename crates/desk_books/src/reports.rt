@@ -1,48 +1,45 @@
-ghost use Rattle.std.specs.Prelude.{◌≡◌, IfOk};
+ghost use Rattle.std.specs.Prelude.{◌≡◌, ◌+◌, ◌≤◌, IfOk, length};
+ghost use Rattle.grid_cells.specs.Grid.{Chart};
 ghost use Rattle.plan_table.specs.Route.{tracks_of};
+ghost use Rattle.plan_table.specs.declared.tracks.Mode.{Mode};
 ghost use Rattle.mapf_rules.specs.ConflictList.{AreConflicts};
 ghost use Rattle.cost_ledger.specs.Ledger.{StandsFor};
-ghost use Rattle.goal_fields.specs.Held.{StandFor};
 ghost use Rattle.desk_report.specs.Report.{IsReportOf};
-ghost use Rattle.desk_books.specs.Rows.{HaveFields, HavePathsOn};
+ghost use Rattle.desk_books.specs.Lines.{AreOpenLines};
+ghost use Rattle.desk_books.specs.Rows.{HavePathsOn};
 
-use crate::lines::lines;
+use crate::lines::Lines;
+use crate::told_lines::told_lines;
 use crate::totals::{sum_of_bounds, sum_of_gaps};
 use cost_ledger::CostLedger;
 use desk_report::Report;
-use goal_fields::Fields;
-use grid_cells::{Grid, List, OutOfMemory};
+use grid_cells::{List, MOST_AGENT, OutOfMemory};
 use mapf_rules::Conflict;
-use plan_table::{Mode, Plans};
 use std::alloc::Global;
 
-/// The report of the map, the mode and the plans, where the conflicts are theirs, the ledger has
-/// the rows of the plans and stands for the map, and the fields stand for the map. Its cost follows
-/// the agents, the entries and the visits, not the steps of the plans.
+/// The report of the rows that the ledger of costs has, where the conflicts and the lines are theirs
+/// and the ledger stands for the map. Its cost is that of a copy of the lines, the entries and the
+/// visits.
 ///
 /// # Errors
 ///
 /// Want of memory.
 pub fn quick_report(
     alloc: Global,
-    grid: &Grid,
-    mode: Mode,
-    plans: &Plans,
     conflicts: List<Conflict>,
     costs: &CostLedger,
-    fields: &Fields,
+    lines: &Lines,
 ) -> Result<Report, OutOfMemory>
-    requires { HaveFields plans.now.rows fields.now.fields }
-    ensures { IfOk result (λ report.
-        costs.now.rows ≡ plans.now.rows
-        → StandsFor costs.now grid.now
-        → StandFor grid.now fields.now.fields
-        → HavePathsOn grid.now plans.now.rows
-        → AreConflicts (tracks_of mode plans.now.rows) conflicts
-        → IsReportOf grid.now mode plans.now.rows report) }
+    requires { length lines.now ≤ MOST_AGENT + 1 }
+    ensures { IfOk result (λ report. (grid : Chart) (mode : Mode) →
+        StandsFor costs.now grid
+        → AreOpenLines grid costs.now.rows lines.now
+        → HavePathsOn grid costs.now.rows
+        → AreConflicts (tracks_of mode costs.now.rows) conflicts
+        → IsReportOf grid mode costs.now.rows report) }
 {
     let visits = costs.blocked_visits()?;
-    let lines = lines(alloc, plans, fields, visits.items())?;
+    let lines = told_lines(alloc, lines.items(), visits.items())?;
     let bounds = sum_of_bounds(&lines);
     let total_gap = sum_of_gaps(&lines);
     Ok(Report {

@@ -26,7 +26,8 @@ pub(crate) fn take_back<'a>(
     change: &'a Change,
     plans: &'a Plans,
 ) -> Result<(), OutOfMemory>
-    ensures rows { OnOk result ((agent : ℕ) → row_known rows.new plans.now.rows agent ≡ before_change change.now agent (row_known rows.old plans.now.rows agent)) }
+    ensures rows { OnOk result ((agent : ℕ)
+        → row_known rows.new plans.now.rows agent ≡ before_change change.now agent (row_known rows.old plans.now.rows agent)) }
     ensures named { OnOk result (JoinBy change.now (keys rows.old) (keys rows.new)) }
 {
     match change {
@@ -55,7 +56,8 @@ fn keep<'a>(
     goal: Cell,
     plan: Option<&'a Plan>,
 ) -> Result<(), OutOfMemory>
-    ensures rows { OnOk result ((table : List (ℕ × Row)) (other : ℕ) → row_known rows.new table other ≡ (if agent == other then row_with goal plan.entry else row_known rows.old table other)) }
+    ensures rows { OnOk result ((table : List (ℕ × Row)) (other : ℕ)
+        → row_known rows.new table other ≡ (if agent == other then row_with goal plan.entry else row_known rows.old table other)) }
     ensures named { OnOk result (All (λ key. Contains (keys rows.old) key ⊎ (agent ≡ key)) (keys rows.new)) }
 {
     match rows.insert(agent, Kept { goal, plan }) {

@@ -102,8 +102,8 @@ impl Desk {
         ensures shown { IfOk result (Shows self.old) }
     {
         let version = self.version();
-        let books = self.take_books()?;
-        let report = report(&books, &self.scene);
+        let mut books = self.take_books()?;
+        let report = report(&mut books, &self.scene);
         self.put_back(books);
         match report {
             Ok(report) => Ok(Reading { version, report }),

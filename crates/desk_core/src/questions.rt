@@ -14,8 +14,9 @@ use scene_edits::Scene;
 
 // The report of the scene, from its books. Its law: where an agent is finished and has no blocked
 // visit, its bound is given, and its settle time is the bound and the gap.
-pub(crate) fn report(books: &Books, scene: &Scene) -> Result<Report, OutOfMemory>
-    requires { AreOf scene.now books.now }
+pub(crate) fn report(books: &mut Books, scene: &Scene) -> Result<Report, OutOfMemory>
+    requires { AreOf scene.now books.old }
+    ensures kept { AreOf scene.now books.new }
     ensures report { IfOk result (IsReportOf scene.now.grid scene.now.mode scene.now.rows) }
     ensures priced { IfOk result (λ report. ArePriced scene.now.grid scene.now.rows report.lines) }
 {

@@ -7,5 +7,8 @@ of_ok : {T E : Type 0} (r : Result T E) (P : T → Type 0) (x : T) → result_ok
 of_ok (Ok v) P x e h = subst P (ap (λ o. unwrap_or o v) e) h
 of_ok (Err w) P x e h = let wrong : false ≡ true = ap is_some e in absurd (cc)
 
+pub follow-requires : goal.follow-requires
+follow-requires c = record { before = c.requires.0; changed = c.requires.1; are = c.requires.2 c.in_ok-books.field-0 c.in_ok-books.was }
+
 pub returns : goal.returns
 returns c = λ x is. of_ok c.follow.result _ x (sym c.ok.ensures.value ∙ is) c.follow.ensures

@@ -8,7 +8,7 @@ use Rattle.desk_books.proofs.Live.{goal_inside_at}
 use Rattle.desk_books.proofs.books.Books.of.Goals as goal
 
 pub loop-rank-init : goal.loop-rank-init
-loop-rank-init c = record { fleet = c.new.ensures.books; prices = c.new-2.ensures c.args.scene.now.grid }
+loop-rank-init c = record { fleet = c.new.ensures.books; prices = c.new-2.ensures c.args.scene.now.grid; lines = tt }
 
 pub enter-requires-clause-know : goal.enter-requires-clause-know
 enter-requires-clause-know c =

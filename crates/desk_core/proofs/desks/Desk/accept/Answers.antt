@@ -9,6 +9,15 @@ use Rattle.desk_core.specs.Stamps.{AreOnMap, WhereTheyStand}
 use Rattle.desk_core.proofs.Stamping.{all_on, same_size_all, on_map_push}
 use Rattle.desk_core.proofs.desks.Desk.accept.Goals as goal
 
+pub followed-books-requires : goal.followed-books-requires
+followed-books-requires c =
+    let scene = c.self.inside.scene in
+    let changed = rw c.edits.ensures.is at c.in-Ok.ensures.applied in (
+      scene,
+      record { edits = c.args.commit.edits; is_scene = c.grid.ensures.scene; allowed = changed.0; changed = rw c.items.ensures changed.1; made = changed.2 },
+      rw c.take.ensures.value c.self.invariant.booked,
+    )
+
 pub with_entry-stamps-requires-clause-on_map : goal.with_entry-stamps-requires-clause-on_map
 with_entry-stamps-requires-clause-on_map c =
     let allowed : AreAllowed c.self.inside.scene c.args.commit.edits = rw c.edits.ensures.is at c.in-Ok.ensures.applied.0 in
