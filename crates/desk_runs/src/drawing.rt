@@ -78,13 +78,21 @@ pub fn run_draw<T: Threads + Wait, W: Sink>(
         Courses::Journal(journal) => {
             let agents = agents.unwrap_or(0);
             match open_desk(alloc, map, scen, agents, limit, mode, journal) {
-                Ok(desk) => draw_scene(rt, alloc, desk.scene(), frame, workers, writer),
+                Ok(desk) => {
+                    let drawn = draw_scene(rt, alloc, desk.scene(), frame, workers, writer);
+                    drop(desk);
+                    drawn
+                }
                 Err(fault) => Err(CheckFault::from(fault)),
             }
         }
         Courses::Solver(paths) => {
             match planned_scene(alloc, map, scen, agents, mode, paths, None) {
-                Ok(scene) => draw_scene(rt, alloc, &scene, frame, workers, writer),
+                Ok(scene) => {
+                    let drawn = draw_scene(rt, alloc, &scene, frame, workers, writer);
+                    drop(scene);
+                    drawn
+                }
                 Err(fault) => Err(fault),
             }
         }
