@@ -109,8 +109,7 @@ fn line_of(alloc: Global, text: Option<&[u8]>, number: Option<usize>) -> Option<
 // An entry of a journal, counted from 1, and why it was refused.
 fn entry_of(alloc: Global, text: Option<&[u8]>, number: usize, why: Refusal) -> Option<String> {
     let text = text?;
-    let mut shown = String::new(alloc);
-    refusal_text(&mut shown, why).ok()?;
+    let mut shown = refusal_text(alloc, why).ok()?;
     shown.push_str(": ").ok()?;
     let mut entry: usize = 0;
     let mut fresh = true;
@@ -139,28 +138,30 @@ fn put_shown(shown: &mut String, byte: u8) -> Result<(), AllocError> {
 }
 
 // Why an entry is refused, in the words of a session.
-fn refusal_text(shown: &mut String, why: Refusal) -> Result<(), AllocError> {
-    let alloc = *shown.allocator();
-    let text = match why {
-        Refusal::JournalFull { limit } => format!(in alloc; "journal-full {limit}")?,
-        Refusal::Ahead { now } => format!(in alloc; "ahead {now}")?,
-        Refusal::NoEdits => format!(in alloc; "no-edits")?,
-        Refusal::Stale { now, thing, at } => match thing {
-            Thing::Agent(agent) => {
-                format!(in alloc; "stale {now} agent {} {at}", agent.number())?
-            }
-            Thing::Cell(cell) => {
-                format!(in alloc; "stale {now} cell {},{} {at}", cell.x(), cell.y())?
-            }
-            Thing::Map => format!(in alloc; "stale {now} map {at}")?,
-        },
-        Refusal::Faulty { index, why } => match why {
-            EditFault::NotAStep { at } => format!(in alloc; "faulty {index} not-a-step {at}")?,
-            why => format!(in alloc; "faulty {index} {}", fault_word(why))?,
-        },
-        Refusal::OutOfMemory => format!(in alloc; "memory")?,
-    };
-    shown.push_str(text.as_str())
+fn refusal_text(alloc: Global, why: Refusal) -> Result<String, AllocError> {
+    match why {
+        Refusal::JournalFull { limit } => format!(in alloc; "journal-full {limit}"),
+        Refusal::Ahead { now } => format!(in alloc; "ahead {now}"),
+        Refusal::NoEdits => format!(in alloc; "no-edits"),
+        Refusal::Stale { now, thing, at } => stale_text(alloc, now, thing, at),
+        Refusal::Faulty { index, why } => faulty_text(alloc, index, why),
+        Refusal::OutOfMemory => format!(in alloc; "memory"),
+    }
+}
+
+fn stale_text(alloc: Global, now: u64, thing: Thing, at: u64) -> Result<String, AllocError> {
+    match thing {
+        Thing::Agent(agent) => format!(in alloc; "stale {now} agent {} {at}", agent.number()),
+        Thing::Cell(cell) => format!(in alloc; "stale {now} cell {},{} {at}", cell.x(), cell.y()),
+        Thing::Map => format!(in alloc; "stale {now} map {at}"),
+    }
+}
+
+fn faulty_text(alloc: Global, index: usize, why: EditFault) -> Result<String, AllocError> {
+    match why {
+        EditFault::NotAStep { at } => format!(in alloc; "faulty {index} not-a-step {at}"),
+        why => format!(in alloc; "faulty {index} {}", fault_word(why)),
+    }
 }
 
 fn fault_word(why: EditFault) -> &'static str {

@@ -44,7 +44,11 @@ pub fn serve_streams<'a, R: Files + AllocGlobal + Print + Eprint + Input>(
     }
     let mut unsaved = More::none();
     let saved = match desk {
-        Some(desk) => save_named(rt, &desk, words.save, &mut unsaved),
+        Some(desk) => {
+            let saved = save_named(rt, &desk, words.save, &mut unsaved);
+            drop(desk);
+            saved
+        }
         None => Ok(()),
     };
     match saved {
@@ -142,7 +146,12 @@ fn serve_lines<I: Read + Drop, O: Write + Drop>(
         &mut reader,
         &mut writer,
     );
-    let (desk, fault) = match sat {
+    sat_of(sat)
+}
+
+// How a session went that ended so, where the system tells no reason.
+fn sat_of(ended: Result<(Desk, Result<u32, ServeFault>), RunFault>) -> Sat {
+    let (desk, fault) = match ended {
         Ok((desk, ended)) => match ended {
             Ok(_) => (Some(desk), None),
             Err(fault) => (Some(desk), Some(RunFault::from(fault))),

@@ -34,6 +34,17 @@ impl Tally {
             None
         }
     }
+
+    // Adds the line of a script that is in the file.
+    fn tell(&self, file: &str, lines: &mut String) -> Result<(), AllocError> {
+        let accepted = self.accepted.load(Ordering::SeqCst);
+        let refused = self.refused.load(Ordering::SeqCst);
+        let bad = self.bad.load(Ordering::SeqCst);
+        write!(
+            lines,
+            "  {file}: {accepted} accepted, {refused} refused, {bad} bad\n"
+        )
+    }
 }
 
 // Whether an answer that is no refusal begins with the word.
@@ -66,15 +77,8 @@ impl Tallies {
     pub fn lines(&self, alloc: Global, files: &[&str]) -> Result<String, AllocError> {
         let mut lines = String::new(alloc);
         for (tally, file) in self.each.iter().zip(files) {
-            let file = *file;
             if tally.begun.load(Ordering::SeqCst) {
-                let accepted = tally.accepted.load(Ordering::SeqCst);
-                let refused = tally.refused.load(Ordering::SeqCst);
-                let bad = tally.bad.load(Ordering::SeqCst);
-                let line = format!(in alloc;
-                    "  {file}: {accepted} accepted, {refused} refused, {bad} bad\n"
-                )?;
-                lines.push_str(line.as_str())?;
+                tally.tell(file, &mut lines)?;
             }
         }
         Ok(lines)
