@@ -31,6 +31,12 @@ fn over_desk<R: Source>(
     (ended, writer.into_inner())
 }
 
+// What was written is the text.
+fn has_text(rt: &impl Abort, written: Vec<u8>, text: &str, what: &str) {
+    assert_eq!(rt; written.as_slice(), text.as_bytes(), "{what}");
+    drop(written);
+}
+
 // A line of so many times the byte is heard with so many calls within those bounds, ends the session so,
 // and has that answer.
 fn is_heard(
@@ -42,12 +48,13 @@ fn is_heard(
     text: &str,
 ) {
     let (byte, left, calls) = line;
+    let what = format!(in alloc; "{left} times {byte}").expect(rt, "memory");
     let mut reader = Repeated::new(byte, left);
     let (got, written) = over_desk(rt, alloc, &mut reader, bounds);
-    assert_eq!(rt; got, ended, "{left} times {byte}");
-    assert_eq!(rt; reader.calls(), calls, "{left} times {byte}");
-    assert_eq!(rt; written.as_slice(), text.as_bytes(), "{left} times {byte}");
-    drop(written);
+    assert_eq!(rt; got, ended, "{what}");
+    assert_eq!(rt; reader.calls(), calls, "{what}");
+    has_text(rt, written, text, what.as_str());
+    drop(what);
 }
 
 #[test]
@@ -90,15 +97,12 @@ fn is_within(
     ended: Result<u32, ServeFault>,
     text: &str,
 ) {
+    let what = format!(in alloc; "{input:?} within {bounds:?}").expect(rt, "memory");
     let mut reader = Tap::new(input.as_bytes());
     let (got, written) = over_desk(rt, alloc, &mut reader, bounds);
-    assert_eq!(rt; got, ended, "{input:?} within {bounds:?}");
-    assert_eq!(rt;
-        written.as_slice(),
-        text.as_bytes(),
-        "{input:?} within {bounds:?}"
-    );
-    drop(written);
+    assert_eq!(rt; got, ended, "{what}");
+    has_text(rt, written, text, what.as_str());
+    drop(what);
 }
 
 #[test]

@@ -27,6 +27,26 @@ fn waited_for(other: &AtomicU64) -> bool {
     false
 }
 
+// A copy of the scene, held until the other thread has one too.
+fn copies<R: Wait + Abort>(
+    rt: &R,
+    alloc: Global,
+    shared: &SharedDesk,
+    pass: &mut Pass,
+    mine: &AtomicU64,
+    other: &AtomicU64,
+)
+    requires { Owns shared.now pass.old }
+    ensures { Owns shared.now pass.new }
+{
+    let copy = shared.snapshot(rt, pass).expect(rt, "memory");
+    mine.store(1, Ordering::SeqCst);
+    let waited = waited_for(other);
+    assert!(rt; copy.version == 0 && waited);
+    assert!(rt; is_scene(rt, alloc, &copy.scene, SCENE));
+    drop(copy);
+}
+
 // A copy of the scene, and once the other thread has one too, a commit of that agent's goal. The
 // number is that of the version that the commit made.
 fn plan<R: Wait + Abort>(
@@ -41,12 +61,7 @@ fn plan<R: Wait + Abort>(
     requires { Owns shared.now pass }
     ensures { Owns shared.now result.0 }
 {
-    let copy = shared.snapshot(rt, &mut pass).expect(rt, "memory");
-    mine.store(1, Ordering::SeqCst);
-    let waited = waited_for(other);
-    assert!(rt; copy.version == 0 && waited);
-    assert!(rt; is_scene(rt, alloc, &copy.scene, SCENE));
-    drop(copy);
+    copies(rt, alloc, shared, &mut pass, mine, other);
     let commit = commit(rt, alloc, pass.planner(), 0, &[line]);
     match shared.commit(rt, &mut pass, commit) {
         Ok(version) => (pass, version),
