@@ -3,12 +3,10 @@ use Rattle.std.proofs.Common.{◌≡◌, ℕ, List, Some, Option, refl, ◌∙�
 use Rattle.std.specs.Prelude.{IfSome, Result, Ok, Err, OnOk}
 use Rattle.std.specs.List.{Contains}
 use Rattle.std.proofs.lemmas.Option.{MatchOption-at_some}
-use Rattle.grid_cells.specs.Cell.{Point}
 use Rattle.mapf_rules.specs.Entries.{IsVertex, IsParked, IsEdge, IsFollowing, IsSwapping}
 use Rattle.mapf_rules.specs.ConflictList.{Stands}
 use Rattle.plan_table.specs.Route.{Fleet}
-use Rattle.mapf_rules.specs.Finding.{HasPair, HasRing, AllStand}
-use Rattle.mapf_rules.specs.Finding.{Offers}
+use Rattle.mapf_rules.specs.Finding.{AllStand, FindsVertex, FindsParked, FindsEdge, FindsFollowing, FindsSwapping, HasPair, HasRing, Offers}
 use Rattle.mapf_rules.specs.Naming.{IsOfPair}
 use Rattle.mapf_rules.specs.declared.entries.Conflict.{Conflict}
 use Rattle.mapf_rules.specs.declared.entries.Conflict.TheVariants.{Vertex, Parked, Edge, Following, Swapping, Cycle}
@@ -24,11 +22,8 @@ OnOk_then (Ok x) P Q f h = f h
 OnOk_then (Err e) P Q f h = h
 
 module _ (fleet : Fleet) (time first second : ℕ) (v p e f s : Option Conflict)
-    (vs : (cell : Point) → IsVertex fleet time first second cell → v ≡ Some (Vertex time first second cell))
-    (ps : (cell : Point) → IsParked fleet time first second cell → p ≡ Some (Parked time first second cell))
-    (es : (cell next : Point) → IsEdge fleet time first second cell next → e ≡ Some (Edge time first second cell next))
-    (fs : (cell : Point) → IsFollowing fleet time first second cell → f ≡ Some (Following time first second cell))
-    (ss : (cell other : Point) → IsSwapping fleet time first second cell other → s ≡ Some (Swapping time first second cell other)) where
+    (vs : FindsVertex fleet time first second v) (ps : FindsParked fleet time first second p) (es : FindsEdge fleet time first second e)
+    (fs : FindsFollowing fleet time first second f) (ss : FindsSwapping fleet time first second s) where
   -- an entry of the pair that stands is one of the five that were looked for
   pub one_of_five : (entry : Conflict) → Stands fleet entry → IsOfPair entry time first second → (v ≡ Some entry) ⊎ ((p ≡ Some entry) ⊎ ((e ≡ Some entry) ⊎ ((f ≡ Some entry) ⊎ (s ≡ Some entry))))
   one_of_five (Vertex x a b c) stands of =

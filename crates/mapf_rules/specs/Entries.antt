@@ -8,13 +8,17 @@ use Rattle.plan_table.specs.Route.{Fleet, position_of, last_of, Leaves}
 abbrev pub both_end_by : Fleet → ℕ → ℕ → ℕ
 both_end_by fleet first second = max (last_of fleet first) (last_of fleet second)
 
+-- one of the two agents still moves at the time, or is to leave
+abbrev pub OnePasses : Fleet → ℕ → ℕ → ℕ → Type 0
+OnePasses fleet time first second = (time < both_end_by fleet first second) ⊎ (Leaves fleet first ⊎ Leaves fleet second)
+
 -- two agents are in one cell, and one of them still moves or is to leave
 -- (Stern et al. 2019, vertex conflict; that a meeting at rest is a Parked entry is this project's choice)
 pub record IsVertex (fleet : Fleet) (time first second : ℕ) (cell : Point) : Type 0 where
   pub ordered : first < second
   pub first_there : position_of fleet first time ≡ Some cell
   pub second_there : position_of fleet second time ≡ Some cell
-  pub passes : (time < both_end_by fleet first second) ⊎ (Leaves fleet first ⊎ Leaves fleet second)
+  pub passes : OnePasses fleet time first second
 
 -- two agents that never leave rest in one cell for ever, from the time at which the later one comes to rest
 -- (Stern et al. 2019, stay at target; that it is one entry is this project's choice)

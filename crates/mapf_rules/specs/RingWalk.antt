@@ -1,5 +1,5 @@
 -- How a ring is found: from each agent to the next. Words for the program's own steps (this project's choice).
-use Rattle.std.specs.Prelude.{◌≡◌, ◌≢◌, ℕ, ◌+◌, ◌<◌, ◌≤◌, Some, List, length, slice_index, Contains, All, AllPairs}
+use Rattle.std.specs.Prelude.{◌≡◌, ◌≢◌, ℕ, ◌+◌, ◌<◌, ◌≤◌, Option, Some, IfSome, List, length, slice_index, Contains, All, AllPairs}
 use Rattle.grid_cells.specs.Cell.{Point}
 use Rattle.plan_table.specs.Route.{Fleet, position_of}
 use Rattle.mapf_rules.specs.Cycles.{MovesOut, IsRing}
@@ -13,6 +13,29 @@ pub record IsSoleMover (fleet : Fleet) (time : ℕ) (cell : Point) (agent : ℕ)
 pub record MovesTo (fleet : Fleet) (time agent : ℕ) (cell : Point) : Type 0 where
   pub to : position_of fleet agent (time + 1) ≡ Some cell
   pub moves : position_of fleet agent time ≢ Some cell
+
+-- in each fleet told, where the mover goes to the cell: a ring that was found has that member
+abbrev pub FindsRingWith : (Fleet → Type 0) → ℕ → ℕ → Point → ℕ → Option (List ℕ) → Type 0
+FindsRingWith Tells time mover to member found =
+    (fleet : Fleet) → Tells fleet → MovesTo fleet time mover to → IfSome found (λ ring. IsRing fleet time ring × Contains ring member)
+
+-- likewise: each ring that begins with the mover is the one that was found
+abbrev pub IsOnlyFrom : (Fleet → Type 0) → ℕ → ℕ → Point → Option (List ℕ) → Type 0
+IsOnlyFrom Tells time mover to found =
+    (fleet : Fleet) (ring : List ℕ) → Tells fleet → MovesTo fleet time mover to → IsRing fleet time ring
+    → slice_index ring 0 ≡ mover → found ≡ Some ring
+
+-- likewise: each ring that has the mover
+abbrev pub IsOnlyThrough : (Fleet → Type 0) → ℕ → ℕ → Point → Option (List ℕ) → Type 0
+IsOnlyThrough Tells time mover to found =
+    (fleet : Fleet) (ring : List ℕ) → Tells fleet → MovesTo fleet time mover to → IsRing fleet time ring
+    → Contains ring mover → found ≡ Some ring
+
+-- likewise: each ring that begins with the mover and has that member
+abbrev pub IsOnlyWith : (Fleet → Type 0) → ℕ → ℕ → Point → ℕ → Option (List ℕ) → Type 0
+IsOnlyWith Tells time mover to member found =
+    (fleet : Fleet) (ring : List ℕ) → Tells fleet → MovesTo fleet time mover to → IsRing fleet time ring
+    → slice_index ring 0 ≡ mover → Contains ring member → found ≡ Some ring
 
 -- the agent moves into the cell that the next one alone moves out of
 pub record IsNext (fleet : Fleet) (time agent next : ℕ) : Type 0 where

@@ -1,7 +1,7 @@
-ghost use Rattle.std.specs.Prelude.{◌≡◌, ◌+◌, ◌<◌, ◌≤◌, Some, None, IfSome, IsTrue, ◌↔◌, ◌⊎◌};
-ghost use Rattle.grid_cells.specs.Cell.{Point};
-ghost use Rattle.plan_table.specs.Route.{position_of, last_of, leaves_of, Leaves, tracks_of};
-ghost use Rattle.mapf_rules.specs.Entries.{IsVertex, IsParked, IsEdge, IsFollowing, IsSwapping, both_end_by};
+ghost use Rattle.std.specs.Prelude.{◌≡◌, ◌+◌, ◌<◌, ◌≤◌, Some, None, IfSome, IsTrue, ◌↔◌};
+ghost use Rattle.plan_table.specs.Route.{position_of, last_of, leaves_of, tracks_of};
+ghost use Rattle.mapf_rules.specs.Entries.{OnePasses, both_end_by};
+ghost use Rattle.mapf_rules.specs.Finding.{FindsVertex, FindsParked, FindsEdge, FindsFollowing, FindsSwapping};
 ghost use Rattle.mapf_rules.specs.ConflictList.{Stands};
 ghost use Rattle.mapf_rules.specs.Naming.{IsOfPair};
 
@@ -52,7 +52,7 @@ fn both_end(plans: &Plans, mode: Mode, first: Agent, second: Agent) -> u32
 
 // Whether one of the two agents still moves at the time, or is to leave.
 fn passes(plans: &Plans, mode: Mode, time: u32, first: Agent, second: Agent) -> bool
-    ensures { IsTrue result ↔ ((time < both_end_by (tracks_of mode plans.now.rows) first second) ⊎ (Leaves (tracks_of mode plans.now.rows) first ⊎ Leaves (tracks_of mode plans.now.rows) second)) }
+    ensures { IsTrue result ↔ OnePasses (tracks_of mode plans.now.rows) time first second }
 {
     time < both_end(plans, mode, first, second)
         || leaves(plans, mode, first)
@@ -68,7 +68,7 @@ pub(crate) fn vertex(
 ) -> Option<Conflict>
     ensures stands { IfSome result (Stands (tracks_of mode plans.now.rows)) }
     ensures pair { IfSome result (λ entry. IsOfPair entry time first second) }
-    ensures found { (cell : Point) → IsVertex (tracks_of mode plans.now.rows) time first second cell → result ≡ Some (Conflict.Vertex time first second cell) }
+    ensures found { FindsVertex (tracks_of mode plans.now.rows) time first second result }
 {
     let there = position(plans, mode, first, time)?;
     let other = position(plans, mode, second, time)?;
@@ -93,7 +93,7 @@ pub(crate) fn parked(
 ) -> Option<Conflict>
     ensures stands { IfSome result (Stands (tracks_of mode plans.now.rows)) }
     ensures pair { IfSome result (λ entry. IsOfPair entry time first second) }
-    ensures found { (cell : Point) → IsParked (tracks_of mode plans.now.rows) time first second cell → result ≡ Some (Conflict.Parked time first second cell) }
+    ensures found { FindsParked (tracks_of mode plans.now.rows) time first second result }
 {
     let there = position(plans, mode, first, time)?;
     let other = position(plans, mode, second, time)?;
@@ -121,7 +121,7 @@ pub(crate) fn edge(
     requires { time ≤ MOST_LAST_INDEX }
     ensures stands { IfSome result (Stands (tracks_of mode plans.now.rows)) }
     ensures pair { IfSome result (λ entry. IsOfPair entry time first second) }
-    ensures found { (cell next : Point) → IsEdge (tracks_of mode plans.now.rows) time first second cell next → result ≡ Some (Conflict.Edge time first second cell next) }
+    ensures found { FindsEdge (tracks_of mode plans.now.rows) time first second result }
 {
     let cell = position(plans, mode, first, time)?;
     let other = position(plans, mode, second, time)?;
@@ -150,7 +150,7 @@ pub(crate) fn following(
     requires { time ≤ MOST_LAST_INDEX }
     ensures stands { IfSome result (Stands (tracks_of mode plans.now.rows)) }
     ensures pair { IfSome result (λ entry. IsOfPair entry time follower leader) }
-    ensures found { (cell : Point) → IsFollowing (tracks_of mode plans.now.rows) time follower leader cell → result ≡ Some (Conflict.Following time follower leader cell) }
+    ensures found { FindsFollowing (tracks_of mode plans.now.rows) time follower leader result }
 {
     let cell = position(plans, mode, leader, time)?;
     let from = position(plans, mode, follower, time);
@@ -178,7 +178,7 @@ pub(crate) fn swapping(
     requires { time ≤ MOST_LAST_INDEX }
     ensures stands { IfSome result (Stands (tracks_of mode plans.now.rows)) }
     ensures pair { IfSome result (λ entry. IsOfPair entry time first second) }
-    ensures found { (cell other : Point) → IsSwapping (tracks_of mode plans.now.rows) time first second cell other → result ≡ Some (Conflict.Swapping time first second cell other) }
+    ensures found { FindsSwapping (tracks_of mode plans.now.rows) time first second result }
 {
     let cell = position(plans, mode, first, time)?;
     let other = position(plans, mode, second, time)?;

@@ -2,7 +2,7 @@
 ghost use Rattle.std.specs.Prelude.{◌≡◌, ◌⊎◌, ℕ, ◌<◌, ◌≤◌, ◌↔◌, List, Some, IfOk, IfSome, IsTrue, slice_index, Contains};
 ghost use Rattle.plan_table.specs.Route.{Fleet};
 ghost use Rattle.mapf_rules.specs.Cycles.{IsRing, IsRingAt};
-ghost use Rattle.mapf_rules.specs.RingWalk.{MovesTo};
+ghost use Rattle.mapf_rules.specs.RingWalk.{MovesTo, FindsRingWith, IsOnlyFrom, IsOnlyThrough, IsOnlyWith};
 
 use crate::entries::Ring;
 use crate::movers::Movers;
@@ -22,7 +22,7 @@ pub fn ring_from<M: Movers>(
     requires { time < u32.MAX }
     ensures ring { IfOk result (λ found. (fleet : Fleet) → M.tells movers.now fleet → MovesTo fleet time first to → IfSome found (IsRing fleet time)) }
     ensures first { IfOk result (λ found. IfSome found (λ ring. slice_index ring 0 ≡ first)) }
-    ensures only { IfOk result (λ found. (fleet : Fleet) (ring : List ℕ) → M.tells movers.now fleet → MovesTo fleet time first to → IsRing fleet time ring → slice_index ring 0 ≡ first → found ≡ Some ring) }
+    ensures only { IfOk result (IsOnlyFrom (M.tells movers.now) time first to) }
 {
     let mut chain = Vec::new(alloc);
     let mut seen = BTreeSet::new(alloc);
@@ -59,8 +59,8 @@ pub fn ring_through<M: Movers>(
     to: Cell,
 ) -> Result<Option<Ring>, OutOfMemory>
     requires { time < u32.MAX }
-    ensures ring { IfOk result (λ found. (fleet : Fleet) → M.tells movers.now fleet → MovesTo fleet time agent to → IfSome found (λ ring. IsRing fleet time ring × Contains ring agent)) }
-    ensures only { IfOk result (λ found. (fleet : Fleet) (ring : List ℕ) → M.tells movers.now fleet → MovesTo fleet time agent to → IsRing fleet time ring → Contains ring agent → found ≡ Some ring) }
+    ensures ring { IfOk result (FindsRingWith (M.tells movers.now) time agent to agent) }
+    ensures only { IfOk result (IsOnlyThrough (M.tells movers.now) time agent to) }
 {
     let mut seen = BTreeSet::new(alloc);
     seen.insert(agent)?;
@@ -120,8 +120,8 @@ fn ring_with<M: Movers>(
     agent: Agent,
 ) -> Result<Option<Ring>, OutOfMemory>
     requires { time < u32.MAX }
-    ensures ring { IfOk result (λ found. (fleet : Fleet) → M.tells movers.now fleet → MovesTo fleet time least to → IfSome found (λ ring. IsRing fleet time ring × Contains ring agent)) }
-    ensures only { IfOk result (λ found. (fleet : Fleet) (ring : List ℕ) → M.tells movers.now fleet → MovesTo fleet time least to → IsRing fleet time ring → slice_index ring 0 ≡ least → Contains ring agent → found ≡ Some ring) }
+    ensures ring { IfOk result (FindsRingWith (M.tells movers.now) time least to agent) }
+    ensures only { IfOk result (IsOnlyWith (M.tells movers.now) time least to agent) }
 {
     match ring_from(alloc, movers, time, least, to)? {
         Some(ring) => Ok(if has_agent(ring.items(), agent) {
