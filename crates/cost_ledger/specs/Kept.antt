@@ -3,6 +3,7 @@ use Rattle.std.specs.Prelude.{◌≡◌, ◌↔◌, ℕ, ◌+◌, ◌≤◌, Som
 use Rattle.std.specs.Ordering.{nat_cmp, ordering_then}
 use Rattle.std.specs.List.{slice_index_or}
 use Rattle.std.specs.declared.cmp.Ordering.{Ordering}
+use Rattle.grid_cells.specs.Cell.{Point}
 use Rattle.grid_cells.specs.declared.numbers.TheConstants.{MOST_AGENT}
 use Rattle.plan_table.specs.Path.{last_index, IsPath}
 use Rattle.plan_table.specs.Plans.{IsByAgent, row_of, ChangesRow}
@@ -46,6 +47,12 @@ pub record SwapsRow (old new : List (ℕ × Row)) (agent : ℕ) (before after : 
   pub was : row_of old agent ≡ Some before
   pub now : ChangesRow old new agent (Some after)
   pub sums : (number : Row → ℕ) → sum_of_rows number new + number before ≡ sum_of_rows number old + number after
+
+-- the agent's row gets that goal; how many paths of the row end elsewhere than at its goal, before and after
+abbrev pub AimsRow : List (ℕ × Row) → List (ℕ × Row) → ℕ → Point → ℕ × ℕ → Type 0
+AimsRow old new agent goal away =
+    (row : Row) × SwapsRow old new agent row (record row { goal = goal })
+    × (away.0 ≡ ends_elsewhere row) × (away.1 ≡ ends_elsewhere (record row { goal = goal }))
 
 -- what is kept beside the rows is theirs
 pub record Keeps (rows : List (ℕ × Row)) (rests : List Rest) (total elsewhere : ℕ) : Type 0 where

@@ -4,10 +4,8 @@ ghost use Rattle.plan_table.specs.Path.{last_index};
 ghost use Rattle.plan_table.specs.Plans.{row_of, ChangesRow, IsByAgent};
 ghost use Rattle.plan_table.specs.declared.plans.Row.{Row};
 ghost use Rattle.cost_ledger.specs.Kept.{ends_elsewhere, rest, sum_of_rows};
-ghost use Rattle.cost_ledger.specs.Sets.{Gains, GainsAll};
-ghost use Rattle.cost_ledger.specs.Through.{IsThrough};
-ghost use Rattle.mapf_rules.specs.VisitSearch.{IsVisitIn};
-ghost use Rattle.cost_ledger.specs.Replans.{Replaces, SameBelow, planned_row};
+ghost use Rattle.cost_ledger.specs.Sets.{Gains};
+ghost use Rattle.cost_ledger.specs.Replans.{GainsVisits, ReplacesRest, ReplacesVisits, SameBelow, planned_row};
 
 use crate::along::{block, unblock};
 use crate::blocked::Blocked;
@@ -34,7 +32,7 @@ pub fn add_row(
     planned: &Planned<'_>,
 ) -> Result<u32, OutOfMemory>
     requires absent { row_of rows.old planned.now.agent ≡ None }
-    ensures blocked { OnOk result (GainsAll blocked.old blocked.new (IsVisitIn planned.now.grid.now planned.now.agent planned.now.plan.now 0 (last_index planned.now.plan.now + 1))) }
+    ensures blocked { OnOk result (GainsVisits blocked.old blocked.new planned.now.grid.now planned.now.agent planned.now.plan.now 0) }
     ensures rests { OnOk result (Gains rests.old rests.new (rest (last_index planned.now.plan.now) planned.now.agent)) }
     ensures row { OnOk result (ChangesRow rows.old rows.new planned.now.agent (Some (planned_row planned.now))) }
     ensures sums { OnOk result ((number : Row → ℕ) → sum_of_rows number rows.new ≡ sum_of_rows number rows.old + number (planned_row planned.now)) }
@@ -65,8 +63,8 @@ pub fn follow_row(
 ) -> Result<u32, OutOfMemory>
     requires absent { row_of rows.old planned.now.agent ≡ None }
     requires same { SameBelow old.now planned.now.plan.now since }
-    ensures blocked { OnOk result (Replaces blocked.old blocked.new (IsThrough planned.now.agent old.now since (last_index old.now + 1)) (IsVisitIn planned.now.grid.now planned.now.agent planned.now.plan.now since (last_index planned.now.plan.now + 1))) }
-    ensures rests { OnOk result (Replaces rests.old rests.new (λ r. r ≡ rest (last_index old.now) planned.now.agent) (λ r. r ≡ rest (last_index planned.now.plan.now) planned.now.agent)) }
+    ensures blocked { OnOk result (ReplacesVisits blocked.old blocked.new planned.now.grid.now planned.now.agent old.now planned.now.plan.now since) }
+    ensures rests { OnOk result (ReplacesRest rests.old rests.new planned.now.agent old.now planned.now.plan.now) }
     ensures row { OnOk result (ChangesRow rows.old rows.new planned.now.agent (Some (planned_row planned.now))) }
     ensures sums { OnOk result ((number : Row → ℕ) → sum_of_rows number rows.new ≡ sum_of_rows number rows.old + number (planned_row planned.now)) }
     ensures by_agent { OnOk result (IsByAgent rows.new) }
@@ -102,7 +100,7 @@ pub fn follow_visits(
     since: u32,
 ) -> Result<(), OutOfMemory>
     requires { SameBelow old.now new.now since }
-    ensures { OnOk result (Replaces blocked.old blocked.new (IsThrough agent old.now since (last_index old.now + 1)) (IsVisitIn grid.now agent new.now since (last_index new.now + 1))) }
+    ensures { OnOk result (ReplacesVisits blocked.old blocked.new grid.now agent old.now new.now since) }
 {
     unblock(blocked, agent, old, since);
     block(blocked, grid, agent, new, since)?;

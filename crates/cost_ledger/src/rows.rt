@@ -2,7 +2,7 @@ ghost use Rattle.std.specs.Prelude.{◌≡◌, ◌+◌, ℕ, [], None, Some, OnO
 ghost use Rattle.std.specs.Option.{option_copied};
 ghost use Rattle.plan_table.specs.Plans.{row_of, ChangesRow, IsByAgent};
 ghost use Rattle.plan_table.specs.declared.plans.Row.{Row};
-ghost use Rattle.cost_ledger.specs.Kept.{ends_elsewhere, sum_of_rows, SwapsRow};
+ghost use Rattle.cost_ledger.specs.Kept.{ends_elsewhere, sum_of_rows, AimsRow};
 ghost use Rattle.cost_ledger.specs.Through.{AreThrough};
 
 use crate::along::add_through;
@@ -82,7 +82,7 @@ impl Rows {
     /// than at its goal, before and after.
     pub fn aim(&mut self, agent: Agent, goal: Cell) -> Option<(u32, u32)>
         ensures none { IfNone result ((row_of self.old agent ≡ None) × (self.new ≡ self.old)) }
-        ensures some { IfSome result (λ n. (row : Row) × SwapsRow self.old self.new agent row (record row { goal = goal }) × (n.0 ≡ ends_elsewhere row) × (n.1 ≡ ends_elsewhere (record row { goal = goal }))) }
+        ensures some { IfSome result (AimsRow self.old self.new agent goal) }
         ensures by_agent { IsByAgent self.new }
     {
         let Some(row) = self.rows.get_mut(&agent) else {
