@@ -9,7 +9,7 @@ use Rattle.mapf_rules.specs.ConflictList.{Stands, listing_key}
 use Rattle.mapf_rules.specs.Naming.{IsOfPair}
 use Rattle.mapf_rules.specs.declared.entries.Conflict.{Conflict}
 use Rattle.mapf_rules.specs.declared.entries.Conflict.TheVariants.{Vertex, Parked, Edge, Following, Swapping, Cycle}
-use Rattle.desk_audit.specs.Parts.{first_agent, IsRanked}
+use Rattle.desk_audit.specs.Parts.{first_agent, AreEntriesOf}
 use Rattle.desk_audit.specs.Seeking.{Finds, IsOfMet, IsOfPassed}
 use mathlib.Core.Logic.{◌↔◌}
 use Rattle.std.specs.List.{slice_get}
@@ -83,9 +83,7 @@ passed_split fleet after agent passes i pass is within entry of =
     ]
 
 -- the entries of an agent at a rank, after those of the agents before it
-pub ranked_more : (fleet : Fleet) (rows : List (ℕ × Row)) (from rank agent : ℕ) (old new : List Conflict) → from ≤ rank → slice_get (agents_of rows) rank ≡ Some agent → Finds fleet agent old new (λ entry. first_agent entry ≡ agent)
-    → ((entry : Conflict) → Contains old entry ↔ (Stands fleet entry × IsRanked rows from rank (first_agent entry)))
-    → (entry : Conflict) → Contains new entry ↔ (Stands fleet entry × IsRanked rows from (rank + 1) (first_agent entry))
+pub ranked_more : (fleet : Fleet) (rows : List (ℕ × Row)) (from rank agent : ℕ) (old new : List Conflict) → from ≤ rank → slice_get (agents_of rows) rank ≡ Some agent → Finds fleet agent old new (λ entry. first_agent entry ≡ agent) → AreEntriesOf fleet rows from rank old → AreEntriesOf fleet rows from (rank + 1) new
 ranked_more fleet rows from rank agent old new le at finds exact entry = (
   λ h. elim (finds.only entry h) [
     | inl in_old ↦
@@ -101,7 +99,7 @@ ranked_more fleet rows from rank agent old new le at finds exact entry = (
   ],
 )
 
-pub ranked_none : (fleet : Fleet) (rows : List (ℕ × Row)) (from : ℕ) (entry : Conflict) → Contains [] entry ↔ (Stands fleet entry × IsRanked rows from from (first_agent entry))
+pub ranked_none : (fleet : Fleet) (rows : List (ℕ × Row)) (from : ℕ) → AreEntriesOf fleet rows from from []
 ranked_none fleet rows from entry = (λ h. absurd (Contains-nil entry h), λ h. absurd (omega (arith, h.1.late, h.1.early)))
 
 -- each rank has an agent

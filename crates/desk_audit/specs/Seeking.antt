@@ -1,7 +1,10 @@
 -- How the entries of a piece are looked for: words for the audit's own steps (this project's choice).
-use Rattle.std.specs.Prelude.{◌≡◌, ◌≢◌, ◌⊎◌, ℕ, ◌+◌, ◌<◌, ◌≤◌, Option, Some, List, Contains, slice_index}
+use Rattle.std.specs.Prelude.{◌≡◌, ◌≢◌, ◌⊎◌, ℕ, ◌+◌, ◌<◌, ◌≤◌, Option, Some, List, Contains, slice_get, slice_index}
 use Rattle.grid_cells.specs.Cell.{Point}
-use Rattle.plan_table.specs.Route.{Fleet, position_of, last_of}
+use Rattle.plan_table.specs.Plans.{agents_of}
+use Rattle.plan_table.specs.Route.{Fleet, position_of, last_of, tracks_of}
+use Rattle.plan_table.specs.declared.plans.Row.{Row}
+use Rattle.plan_table.specs.declared.tracks.Mode.{Mode}
 use Rattle.mapf_rules.specs.ConflictList.{Stands}
 use Rattle.mapf_rules.specs.Naming.{IsOfPair}
 use Rattle.mapf_rules.specs.declared.entries.Conflict.{Conflict}
@@ -39,9 +42,25 @@ pub record IsOfPassed (fleet : Fleet) (after agent : ℕ) (passes : List Pass) (
   pub on_path : other.time ≤ last_of fleet other.agent
   pub of : IsOfPair entry other.time agent other.agent
 
+-- new has the entries of old, and those of the agent and of one that passes later, on its path
+abbrev pub FindsPassed : Fleet → ℕ → List Conflict → List Conflict → ℕ → List Pass → Type 0
+FindsPassed fleet agent old new after passes = Finds fleet agent old new (IsOfPassed fleet after agent passes)
+
 -- the entry is a ring of that time whose first agent is that one
 abbrev pub IsRingFrom : ℕ → ℕ → Conflict → Type 0
 IsRingFrom time agent entry = (ring : List ℕ) × (entry ≡ Cycle time ring) × (slice_index ring 0 ≡ agent)
+
+-- the entry is of that time, or of one after it, and names the agent first
+abbrev pub IsFirstAt : ℕ → ℕ → Conflict → Type 0
+IsFirstAt time agent entry = (time_of entry ≡ time) × (first_agent entry ≡ agent)
+
+abbrev pub IsFirstAfter : ℕ → ℕ → Conflict → Type 0
+IsFirstAfter end agent entry = (end < time_of entry) × (first_agent entry ≡ agent)
+
+-- new has the entries of old, and each that names the agent at that rank first
+abbrev pub FindsRanked : Mode → List (ℕ × Row) → ℕ → List Conflict → List Conflict → Type 0
+FindsRanked mode rows rank old new =
+    (agent : ℕ) → slice_get (agents_of rows) rank ≡ Some agent → Finds (tracks_of mode rows) agent old new (λ entry. first_agent entry ≡ agent)
 
 -- where the agent goes on to another cell in the step, that is the cell
 abbrev pub IsAhead : Fleet → ℕ → ℕ → Point → Option Point → Type 0
@@ -57,3 +76,7 @@ pub record Leads (fleet : Fleet) (time agent : ℕ) (cell : Point) (entry : Conf
   pub apart : other ≢ agent
   pub there : position_of fleet other time ≡ Some cell
   pub of : IsOfPair entry time agent other ⊎ IsRingFrom time agent entry
+
+-- new has the entries of old, and those that so lead
+abbrev pub FindsLed : Fleet → ℕ → List Conflict → List Conflict → ℕ → Point → Type 0
+FindsLed fleet agent old new time cell = Finds fleet agent old new (Leads fleet time agent cell)

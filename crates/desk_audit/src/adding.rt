@@ -2,7 +2,7 @@
 ghost use Rattle.std.specs.Prelude.{◌≤◌, OnOk};
 ghost use Rattle.plan_table.specs.Route.{tracks_of};
 ghost use Rattle.mapf_rules.specs.Naming.{IsOfPair};
-ghost use Rattle.desk_audit.specs.Seeking.{Finds, IsOfMet, IsOfPassed, IsRingFrom};
+ghost use Rattle.desk_audit.specs.Seeking.{Finds, FindsPassed, IsOfMet, IsRingFrom};
 
 use crate::movers::Indexed;
 use crate::tables::Pass;
@@ -60,7 +60,7 @@ pub fn add_passed(
     agent: Agent,
     passes: &[Pass],
 ) -> Result<(), OutOfMemory>
-    ensures { OnOk result (Finds (tracks_of mode plans.now.rows) agent entries.old.items entries.new.items (IsOfPassed (tracks_of mode plans.now.rows) after agent passes.now)) }
+    ensures { OnOk result (FindsPassed (tracks_of mode plans.now.rows) agent entries.old.items entries.new.items after passes.now) }
 {
     for pass in passes {
         if after < pass.time && pass.time <= last(plans, mode, pass.agent) {

@@ -1,12 +1,9 @@
 //! The conflict entries of a piece: those whose first written agent has a rank in the piece.
-ghost use Rattle.std.specs.Prelude.{◌≡◌, ℕ, ◌<◌, ◌≤◌, ◌↔◌, IfOk, OnOk, Some, Contains, length, slice_get};
-ghost use Rattle.plan_table.specs.Plans.{agents_of};
+ghost use Rattle.std.specs.Prelude.{◌≡◌, ◌<◌, ◌≤◌, IfOk, OnOk, Some, length};
 ghost use Rattle.plan_table.specs.Route.{tracks_of, position_of, last_of};
-ghost use Rattle.mapf_rules.specs.ConflictList.{Stands};
-ghost use Rattle.mapf_rules.specs.declared.entries.Conflict.{Conflict};
 ghost use Rattle.desk_audit.specs.Index.{IsIndexOf};
-ghost use Rattle.desk_audit.specs.Parts.{IsRanked, first_agent};
-ghost use Rattle.desk_audit.specs.Seeking.{Finds, time_of, IsAhead, Leads, HasMet};
+ghost use Rattle.desk_audit.specs.Parts.{AreEntriesOf};
+ghost use Rattle.desk_audit.specs.Seeking.{Finds, FindsLed, FindsRanked, HasMet, IsAhead, IsFirstAfter, IsFirstAt};
 
 use crate::adding::{add_met, add_passed, add_ring};
 use crate::movers::Indexed;
@@ -54,7 +51,7 @@ fn add_ahead(
 ) -> Result<(), OutOfMemory>
     requires time { time ≤ MOST_LAST_INDEX }
     requires index { IsIndexOf (tracks_of mode plans.now.rows) index.now }
-    ensures { OnOk result (Finds (tracks_of mode plans.now.rows) agent entries.old.items entries.new.items (Leads (tracks_of mode plans.now.rows) time agent cell)) }
+    ensures { OnOk result (FindsLed (tracks_of mode plans.now.rows) agent entries.old.items entries.new.items time cell) }
 {
     let leaders = others_at(alloc, plans, mode, index, time, cell, agent)?;
     if !leaders.is_empty() {
@@ -82,7 +79,7 @@ fn add_step(
     requires index { IsIndexOf (tracks_of mode plans.now.rows) index.now }
     requires here { position_of (tracks_of mode plans.now.rows) agent time ≡ Some here }
     requires ahead { IsAhead (tracks_of mode plans.now.rows) agent time here ahead }
-    ensures { OnOk result (Finds (tracks_of mode plans.now.rows) agent entries.old.items entries.new.items (λ entry. (time_of entry ≡ time) × (first_agent entry ≡ agent))) }
+    ensures { OnOk result (Finds (tracks_of mode plans.now.rows) agent entries.old.items entries.new.items (IsFirstAt time agent)) }
 {
     let met = others_at(alloc, plans, mode, index, time, here, agent)?;
     add_met(alloc, entries, plans, mode, time, agent, &met)?;
@@ -106,7 +103,7 @@ fn add_rest(
     requires index { IsIndexOf (tracks_of mode plans.now.rows) index.now }
     requires end { end ≡ last_of (tracks_of mode plans.now.rows) agent }
     requires there { position_of (tracks_of mode plans.now.rows) agent end ≡ Some cell }
-    ensures { OnOk result (Finds (tracks_of mode plans.now.rows) agent entries.old.items entries.new.items (λ entry. (end < time_of entry) × (first_agent entry ≡ agent))) }
+    ensures { OnOk result (Finds (tracks_of mode plans.now.rows) agent entries.old.items entries.new.items (IsFirstAfter end agent)) }
 {
     let mut passes = Vec::new(alloc);
     index.passes.add_others(&mut passes, cell, 0, agent)?;
@@ -124,7 +121,7 @@ fn add_agent(
 ) -> Result<(), OutOfMemory>
     requires rank { rank < length plans.now.rows }
     requires index { IsIndexOf (tracks_of mode plans.now.rows) index.now }
-    ensures { OnOk result ((agent : ℕ) → slice_get (agents_of plans.now.rows) rank ≡ Some agent → Finds (tracks_of mode plans.now.rows) agent entries.old.items entries.new.items (λ entry. first_agent entry ≡ agent)) }
+    ensures { OnOk result (FindsRanked mode plans.now.rows rank entries.old.items entries.new.items) }
 {
     let _agents = plans.count();
     let entry = plans.entry_at(rank);
@@ -153,7 +150,7 @@ pub fn entries_of(
     requires order { from ≤ to }
     requires within { to ≤ length plans.now.rows }
     requires index { IsIndexOf (tracks_of mode plans.now.rows) index.now }
-    ensures { IfOk result (λ entries. (entry : Conflict) → Contains entries.items entry ↔ (Stands (tracks_of mode plans.now.rows) entry × IsRanked plans.now.rows from to (first_agent entry))) }
+    ensures { IfOk result (λ entries. AreEntriesOf (tracks_of mode plans.now.rows) plans.now.rows from to entries.items) }
 {
     let mut entries = Vec::new(alloc);
     for rank in from..to {

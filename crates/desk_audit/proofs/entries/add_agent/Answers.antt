@@ -7,7 +7,7 @@ use Rattle.plan_table.specs.declared.plans.Row.{Row}
 use Rattle.plan_table.proofs.Fleets.{row_here}
 use Rattle.mapf_rules.proofs.PairEntries.{OnOk_then}
 use Rattle.desk_audit.specs.Parts.{first_agent}
-use Rattle.desk_audit.specs.Seeking.{Finds, time_of}
+use Rattle.desk_audit.specs.Seeking.{Finds, IsFirstAfter, IsFirstAt, time_of}
 use Rattle.desk_audit.proofs.Finding.{finds_then, finds_none}
 use Rattle.desk_audit.proofs.Places.{on_path, last_of_row, place_of_position, same_cell}
 use Rattle.desk_audit.proofs.entries.add_agent.Goals as goal
@@ -49,7 +49,7 @@ loop-time-preserved c =
     let agent = c.entry_at-entry.result.0 in
     let time = c.loop-time.time in
     finds_then (tracks_of c.args.mode c.args.plans.now.rows) agent c.args.entries.now.items c.loop-time.entries.items c.add_step.new.entries.items
-    (λ entry. (time_of entry < time) × (first_agent entry ≡ agent)) (λ entry. (time_of entry ≡ time) × (first_agent entry ≡ agent)) (λ entry. (time_of entry < time + 1) × (first_agent entry ≡ agent))
+    (λ entry. (time_of entry < time) × (first_agent entry ≡ agent)) (IsFirstAt time agent) (λ entry. (time_of entry < time + 1) × (first_agent entry ≡ agent))
     c.loop-time.invariant c.in_ok-add_step.ensures
     (λ e stands named. elim (cases_lt (time_of e) time) [
       | inl lower ↦ inl (lower, named.1)
@@ -67,11 +67,11 @@ returns c =
     let end = c.last-end.result in
     let here = row_here c.args.plans.now.rows c.count-agents.ensures.by_agent c.args.rank agent c.entry_at-entry.result.1.now c.entry_at-entry.ensures in
     OnOk_then c.add_rest.result _ _
-    (λ (rest : Finds fleet agent c.loop-time.entries.items c.add_rest.new.entries.items (λ entry. (end < time_of entry) × (first_agent entry ≡ agent))) a at.
+    (λ (rest : Finds fleet agent c.loop-time.entries.items c.add_rest.new.entries.items (IsFirstAfter end agent)) a at.
     let same : agent ≡ a = same_Some agent a (sym here.1 ∙ at) in
     subst (λ (q : ℕ). Finds fleet q c.args.entries.now.items c.add_rest.new.entries.items (λ entry. first_agent entry ≡ q)) same
     (finds_then fleet agent c.args.entries.now.items c.loop-time.entries.items c.add_rest.new.entries.items
-    (λ entry. (time_of entry < c.loop-time.time) × (first_agent entry ≡ agent)) (λ entry. (end < time_of entry) × (first_agent entry ≡ agent)) (λ entry. first_agent entry ≡ agent)
+    (λ entry. (time_of entry < c.loop-time.time) × (first_agent entry ≡ agent)) (IsFirstAfter end agent) (λ entry. first_agent entry ≡ agent)
     c.loop-time.invariant rest
     (λ e stands named. elim (cases_lt end (time_of e)) [
       | inl late ↦ inr (late, named)

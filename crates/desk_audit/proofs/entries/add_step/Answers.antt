@@ -2,8 +2,7 @@ use Rattle.std.proofs.Common.{◌≡◌, Some, None, sym, subst, ◌∙◌, inl,
 use Rattle.std.proofs.lemmas.Option.{same_Some}
 use Rattle.grid_cells.specs.Cell.{Point}
 use Rattle.plan_table.specs.Route.{tracks_of}
-use Rattle.desk_audit.specs.Parts.{first_agent}
-use Rattle.desk_audit.specs.Seeking.{IsOfMet, Leads, HasMet, time_of}
+use Rattle.desk_audit.specs.Seeking.{IsOfMet, IsFirstAt, Leads, HasMet}
 use Rattle.desk_audit.proofs.Finding.{finds_then, finds_as}
 use Rattle.desk_audit.proofs.Near.{step_splits}
 use Rattle.desk_audit.proofs.entries.add_step.Goals as goal
@@ -17,14 +16,14 @@ returns c =
     let splits = step_splits fleet c.args.time c.args.agent c.args.here c.args.ahead met c.requires.here c.requires.ahead has in
     elim c.match-ahead.branch [
       | in-Some+in_ok-add_ahead w ↦
-          rw w.entries-is (finds_then fleet c.args.agent _ _ _ (IsOfMet c.args.time c.args.agent met) (Leads fleet c.args.time c.args.agent w.in-Some.cell) (λ entry. (time_of entry ≡ c.args.time) × (first_agent entry ≡ c.args.agent))
+          rw w.entries-is (finds_then fleet c.args.agent _ _ _ (IsOfMet c.args.time c.args.agent met) (Leads fleet c.args.time c.args.agent w.in-Some.cell) (IsFirstAt c.args.time c.args.agent)
           c.in_ok-add_met.ensures w.in_ok-add_ahead.ensures
           (λ e stands named. elim (splits e stands named) [
             | inl at ↦ inl at
             | inr on ↦ inr (subst (λ (p : Point). Leads fleet c.args.time c.args.agent p e) (same_Some on.0 w.in-Some.cell (sym on.1 ∙ w.in-Some.is)) on.2)
           ]))
       | in_default w ↦
-          rw w.entries-is (finds_as fleet c.args.agent _ _ (IsOfMet c.args.time c.args.agent met) (λ entry. (time_of entry ≡ c.args.time) × (first_agent entry ≡ c.args.agent))
+          rw w.entries-is (finds_as fleet c.args.agent _ _ (IsOfMet c.args.time c.args.agent met) (IsFirstAt c.args.time c.args.agent)
           (λ e stands named. elim (splits e stands named) [ inl at ↦ at | inr on ↦ let wrong : None ≡ Some on.0 = sym w.in_default.is ∙ on.1 in absurd (cc) ])
           c.in_ok-add_met.ensures)
     ]
