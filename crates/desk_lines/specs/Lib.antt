@@ -6,3 +6,4 @@ pub mod Shapes
 pub mod Edits
 pub mod Faults
 pub mod Requests
+pub mod SolverPaths

@@ -19,8 +19,8 @@ pub(crate) fn time_of(word: &[u8]) -> Option<Step>
     Some(Step::new(number_of(word)?))
 }
 
-// The column or the row that a word writes.
-fn place_of(word: &[u8]) -> Option<u32>
+/// The column or the row that a word writes.
+pub(crate) fn place_of(word: &[u8]) -> Option<u32>
     ensures { result ≡ place_of word.now }
 {
     let number = number_of(word)?;

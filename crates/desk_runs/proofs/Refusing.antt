@@ -10,9 +10,9 @@ use Rattle.scene_edits.specs.declared.edits.Edit.{Edit}
 use Rattle.scene_edits.specs.declared.edits.Edit.TheVariants as edits
 use Rattle.scene_edits.specs.declared.edits.EditFault.{EditFault}
 use Rattle.plan_table.specs.declared.tracks.Mode.{Mode}
-use Rattle.solver_paths.specs.Texts.{paths_of}
-use Rattle.solver_paths.specs.declared.forms.Form.{Form}
-use Rattle.solver_paths.specs.declared.paths.SolverPaths.{SolverPaths}
+use Rattle.desk_lines.specs.SolverPaths.Texts.{paths_of}
+use Rattle.desk_lines.specs.declared.solver_paths.forms.Form.{Form}
+use Rattle.desk_lines.specs.declared.solver_paths.paths.SolverPaths.{SolverPaths}
 use Rattle.desk_runs.specs.Opens.{Opens}
 use Rattle.desk_runs.specs.CheckEdits.{edits_of}
 use Rattle.desk_runs.specs.CheckTimes.{time_of}

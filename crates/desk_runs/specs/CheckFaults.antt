@@ -10,11 +10,11 @@ use Rattle.scene_edits.specs.declared.edits.Edit.{Edit}
 use Rattle.scene_edits.specs.declared.edits.Edit.TheVariants as edits
 use Rattle.scene_edits.specs.declared.edits.EditFault.{EditFault}
 use Rattle.scene_edits.specs.declared.edits.EditFault.TheVariants.{TooManyAgents}
-use Rattle.solver_paths.specs.Texts.{paths_of}
-use Rattle.solver_paths.specs.declared.faults.PathsFault.{PathsFault}
-use Rattle.solver_paths.specs.declared.faults.PathsFault.TheVariants as paths_fault
-use Rattle.solver_paths.specs.declared.forms.Form.{Form}
-use Rattle.solver_paths.specs.declared.paths.SolverPaths.{SolverPaths}
+use Rattle.desk_lines.specs.SolverPaths.Texts.{paths_of}
+use Rattle.desk_lines.specs.declared.solver_paths.faults.PathsFault.{PathsFault}
+use Rattle.desk_lines.specs.declared.solver_paths.faults.PathsFault.TheVariants as paths_fault
+use Rattle.desk_lines.specs.declared.solver_paths.forms.Form.{Form}
+use Rattle.desk_lines.specs.declared.solver_paths.paths.SolverPaths.{SolverPaths}
 use Rattle.desk_runs.specs.Opens.{Opens, IsOpenFault}
 use Rattle.desk_runs.specs.declared.faults.RunFault.{RunFault}
 use Rattle.desk_runs.specs.declared.faults.RunFault.TheVariants as run_fault

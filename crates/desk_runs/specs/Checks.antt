@@ -4,9 +4,9 @@ use Rattle.std.specs.Io.KnownBytes.{Appends}
 use Rattle.plan_table.specs.declared.tracks.Mode.{Mode}
 use Rattle.scene_edits.specs.Scene.{SceneState}
 use Rattle.scene_edits.specs.InOrder.{edited_all, AreAllowed}
-use Rattle.solver_paths.specs.Texts.{paths_of}
-use Rattle.solver_paths.specs.declared.forms.Form.{Form}
-use Rattle.solver_paths.specs.declared.paths.SolverPaths.{SolverPaths}
+use Rattle.desk_lines.specs.SolverPaths.Texts.{paths_of}
+use Rattle.desk_lines.specs.declared.solver_paths.forms.Form.{Form}
+use Rattle.desk_lines.specs.declared.solver_paths.paths.SolverPaths.{SolverPaths}
 use Rattle.desk_report.specs.Report.{IsReportOf}
 use Rattle.desk_report.specs.Solves.{Solves}
 use Rattle.desk_report.specs.declared.kinds.Kinds.{Kinds}

@@ -1,8 +1,8 @@
 use clap::Error;
+use desk_lines::solver_paths::Form;
 use desk_report::Kinds;
 use grid_cells::Agent;
 use plan_table::Mode;
-use solver_paths::Form;
 
 /// What the words ask for.
 #[derive(Drop)]

@@ -1,9 +1,9 @@
 //! What more is known of a run's fault, by the texts that it is about.
 use bench_reader::{MapFault, ScenFault};
 use desk_core::{EditFault, Refusal, ReplayFault, Thing};
+use desk_lines::solver_paths::PathsFault;
 use desk_runs::{CheckFault, RunFault};
 use desk_session::JournalFault;
-use solver_paths::PathsFault;
 use std::alloc::{AllocError, Global};
 
 /// The most letters that are shown of a text.

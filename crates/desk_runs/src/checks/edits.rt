@@ -3,9 +3,9 @@ ghost use Rattle.std.specs.Prelude.{◌≡◌, ◌<◌, ◌≤◌, ◌++◌, len
 ghost use Rattle.scene_edits.specs.declared.scenes.TheConstants.{MOST_AGENTS};
 ghost use Rattle.desk_runs.specs.CheckEdits.{adds_of, cell_in, edits_of, paths_from};
 
+use desk_lines::solver_paths::SolverPaths;
 use grid_cells::{Agent, Cell, List, OutOfMemory};
 use scene_edits::Edit;
-use solver_paths::SolverPaths;
 use std::alloc::Global;
 
 // The agent of that number.

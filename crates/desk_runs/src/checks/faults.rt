@@ -2,9 +2,9 @@ ghost use Rattle.std.specs.Prelude.{◌≡◌};
 ghost use Rattle.desk_runs.specs.CheckFaults.{of_paths, of_run};
 
 use crate::faults::RunFault;
+use desk_lines::solver_paths::PathsFault;
 use grid_cells::Agent;
 use scene_edits::EditFault;
-use solver_paths::PathsFault;
 use thiserror::Error;
 
 /// Why there is no verdict on a text of paths, or no picture.

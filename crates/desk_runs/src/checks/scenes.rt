@@ -11,10 +11,10 @@ use crate::checks::edits::edits_of;
 use crate::checks::faults::CheckFault;
 use crate::checks::times::time_of;
 use crate::scenes::scene_of;
+use desk_lines::solver_paths::{Form, SolverPaths, read_paths};
 use grid_cells::{Agent, OutOfMemory, Size};
 use plan_table::Mode;
 use scene_edits::{Edit, EditFault, EditsFault, MOST_AGENTS, Scene};
-use solver_paths::{Form, SolverPaths, read_paths};
 use std::alloc::Global;
 
 // The fault of an agent, or of a path.

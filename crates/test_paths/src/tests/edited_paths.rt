@@ -1,7 +1,7 @@
 //! Edited files of paths.
 use super::chance::edited;
 use super::samples::{PLACES, TEXTS, compare};
-use solver_paths::Form;
+use desk_lines::solver_paths::Form;
 use test_support::Chain;
 
 // No form more often than a named one.

@@ -1,6 +1,6 @@
 //! Files of paths as long as they may be, and longer.
+use desk_lines::solver_paths::{PathsFault, read_paths};
 use grid_cells::Cell;
-use solver_paths::{PathsFault, read_paths};
 use std::alloc::Global;
 use std::process::Abort;
 

@@ -1,7 +1,7 @@
 //! Files of paths that are cut off and edited, and their two readings.
 use super::plain::paths::{Told, read};
 use super::told_paths::{are_cells, is_list};
-use solver_paths::{Form, PathsFault, SolverPaths, read_paths};
+use desk_lines::solver_paths::{Form, PathsFault, SolverPaths, read_paths};
 use std::alloc::Global;
 use std::process::Abort;
 

@@ -1,7 +1,7 @@
 //! Files of paths as they are read: their form, their lists, and each cell with the waits at a path's
 //! end.
+use desk_lines::solver_paths::{Form, SolverPaths, read_paths};
 use grid_cells::{Cell, List};
-use solver_paths::{Form, SolverPaths, read_paths};
 use std::alloc::Global;
 use std::process::Abort;
 

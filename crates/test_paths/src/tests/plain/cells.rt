@@ -1,6 +1,6 @@
 //! Lists of cells.
 use super::lines::{behind, number, parted};
-use solver_paths::{Form, PathsFault};
+use desk_lines::solver_paths::{Form, PathsFault};
 use std::alloc::Global;
 use std::process::Abort;
 

@@ -3,7 +3,7 @@ use super::cells::{Place, cells};
 use super::lines::{Line, behind, behind_number, without_front, written};
 use super::sessions::{by_session, is_of_session};
 use super::times::by_time;
-use solver_paths::{Form, PathsFault};
+use desk_lines::solver_paths::{Form, PathsFault};
 use std::alloc::Global;
 use std::process::Abort;
 

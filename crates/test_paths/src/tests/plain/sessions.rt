@@ -2,7 +2,7 @@
 use super::cells::{Place, pair};
 use super::lines::{Line, behind, is_blank, number, without_front};
 use super::paths::Told;
-use solver_paths::{Form, PathsFault};
+use desk_lines::solver_paths::{Form, PathsFault};
 use std::alloc::Global;
 use std::process::Abort;
 

@@ -2,7 +2,7 @@
 use super::cells::{Place, cells};
 use super::lines::{Line, behind, behind_number};
 use super::paths::Told;
-use solver_paths::{Form, PathsFault};
+use desk_lines::solver_paths::{Form, PathsFault};
 use std::alloc::Global;
 use std::process::Abort;
 
