@@ -3,7 +3,7 @@ use Rattle.std.specs.Prelude.{◌≡◌, ◌≢◌, ◌⊎◌, ℕ, ◌+◌, ◌
 use Rattle.std.specs.Option.{unwrap_or}
 use Rattle.grid_cells.specs.Cell.{Point}
 use Rattle.plan_table.specs.Route.{Fleet, position_of, last_of, Leaves}
-use Rattle.mapf_rules.specs.Entries.{both_end_by, IsFollowing}
+use Rattle.mapf_rules.specs.Entries.{OnePasses, IsFollowing}
 use Rattle.mapf_rules.specs.ConflictList.{Stands}
 use Rattle.mapf_rules.specs.Naming.{IsPair, Names, time_of}
 use Rattle.mapf_rules.specs.Finding.{KeepsAll}
@@ -54,11 +54,7 @@ pub record AreTogether (fleet : Fleet) (time first second : ℕ) (cell : Point) 
   pub first_there : position_of fleet first time ≡ Some cell
   pub second_there : position_of fleet second time ≡ Some cell
 
--- one of the two agents still moves at the time, or is to leave
-abbrev pub OnePasses : Fleet → ℕ → ℕ → ℕ → Type 0
-OnePasses fleet time first second = (time < both_end_by fleet first second) ⊎ (Leaves fleet first ⊎ Leaves fleet second)
-
--- so it is in each fleet that the sight shows in which that holds, if it is said
+-- so it is in each fleet that the sight shows in which one of the two passes, if it is said
 abbrev pub IfPasses : Sight → Bool → ℕ → ℕ → ℕ → (Fleet → Type 0) → Type 0
 IfPasses sight said time first second holds = (fleet : Fleet) → Sees sight fleet → (IsTrue said → OnePasses fleet time first second) → holds fleet
 
