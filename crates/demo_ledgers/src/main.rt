@@ -1,8 +1,10 @@
-//! Times the index and the ledger of conflicts alone, no desk round them, on five kinds of fleets. The
-//! word `full` asks for the sizes that docs/SPEED.md tells, any other for small ones; a kind's name,
-//! as `convoy`, for that kind alone.
+//! Times the index and the ledger of conflicts alone, no desk round them, on five kinds of fleets, and
+//! the readings of a desk beside copies of their lines. The word `full` asks for the sizes that
+//! docs/SPEED.md tells, any other for small ones; a kind's name, as `convoy`, for that kind alone, and
+//! `readings` for readings alone.
 //!
-//! It prints how many entries each fleet has, and how many where its edited agent has another path.
+//! It prints how many entries each fleet has, and how many where its edited agent has another path; of
+//! a reading how many lines and entries it has, and how many lines the edit of one agent changes.
 //! `fleets` says how these numbers follow from the paths. Standard error tells what each call took, the
 //! least of several turns, and the memory that the first of them took.
 #![tactic(auto)]
@@ -12,12 +14,17 @@ mod kept;
 mod lanes;
 mod measured;
 mod memory;
+mod readings;
+mod scenes;
 mod taken;
 
 use fleets::{Shape, fleet_of};
 use measured::{Effort, Found, found_in};
+use readings::{Read, readings};
+use scenes::Goals;
 use std::rt::{Clock, Files};
 use std::{env, io};
+use taken::Micros;
 
 // The fleets of the small runs.
 const SMALL: [Shape; 7] = [
@@ -109,6 +116,35 @@ fn run<R: AllocGlobal + Clock + Files + Print + Eprint>(
     Ok(())
 }
 
+// Prints what was found with a desk.
+fn tell_read<R: Print + Eprint>(rt: &R, goals: Goals, read: &Read) -> io::Result<()> {
+    let (name, lines, conflicts) = (goals.name(), read.lines, read.conflicts);
+    let (changed, same) = (read.changed, read.same);
+    println!(rt;
+        "readings, {name}: {lines} lines, {conflicts} entries; \
+        the other path changes {changed}; so in each turn: {same}"
+    )?;
+    let editing = Micros { time: read.editing };
+    let reading = Micros { time: read.reading };
+    let copying = Micros { time: read.copying };
+    eprintln!(rt;
+        "readings of {lines}, {name}, microseconds: an edit {editing}, \
+        a reading {reading}, a copy of its lines {copying}"
+    )
+}
+
+fn read_desks<R: AllocGlobal + Clock + Print + Eprint>(
+    rt: &R,
+    agents: u32,
+    turns: u32,
+) -> anyhow::Result<()> {
+    for goals in [Goals::One, Goals::Own] {
+        let read = readings(rt, agents, goals, turns)?;
+        tell_read(rt, goals, &read)?;
+    }
+    Ok(())
+}
+
 fn main(rt: HostRuntime) -> anyhow::Result<()> {
     let mut words: Vec<String> = Vec::new(rt.alloc());
     let mut full = false;
@@ -121,5 +157,10 @@ fn main(rt: HostRuntime) -> anyhow::Result<()> {
     } else {
         (&SMALL, Effort::SMALL)
     };
-    run(&rt, shapes.as_slice(), words.as_slice(), effort)
+    run(&rt, shapes.as_slice(), words.as_slice(), effort)?;
+    if is_asked(words.as_slice(), "readings") {
+        let (agents, turns) = if full { (4_096, 200) } else { (128, 3) };
+        read_desks(&rt, agents, turns)?;
+    }
+    Ok(())
 }

@@ -35,16 +35,22 @@ impl Taken {
     }
 }
 
-// The time in microseconds, with one digit after the point.
-fn write_time<W: fmt::Write>(f: &mut fmt::Formatter<W>, time: Duration) -> fmt::Result {
-    let tenths = time.as_nanos() / 100;
-    write!(f, "{}.{}", tenths / 10, tenths % 10)
+/// A time that is written in microseconds, with one digit after the point.
+#[derive(Clone, Copy)]
+pub struct Micros {
+    pub time: Duration,
+}
+
+impl fmt::Display for Micros {
+    fn fmt<W: fmt::Write>(&self, f: &mut fmt::Formatter<W>) -> fmt::Result {
+        let tenths = self.time.as_nanos() / 100;
+        write!(f, "{}.{}", tenths / 10, tenths % 10)
+    }
 }
 
 impl fmt::Display for Taken {
     fn fmt<W: fmt::Write>(&self, f: &mut fmt::Formatter<W>) -> fmt::Result {
-        write_time(f, self.index)?;
-        write!(f, " and ")?;
-        write_time(f, self.ledger)
+        let (index, ledger) = (Micros { time: self.index }, Micros { time: self.ledger });
+        write!(f, "{index} and {ledger}")
     }
 }
