@@ -1,8 +1,8 @@
 -- What is kept along a path that becomes another one: words for what a ledger of costs keeps (this project's choice).
-use Rattle.std.specs.Prelude.{◌≡◌, ℕ, ◌+◌, ◌<◌, ◌≤◌, List}
+use Rattle.std.specs.Prelude.{◌≡◌, ℕ, ◌+◌, ◌≤◌, List}
 use Rattle.grid_cells.specs.Cell.{Point}
 use Rattle.grid_cells.specs.Grid.{Chart}
-use Rattle.plan_table.specs.Path.{last_index, place}
+use Rattle.plan_table.specs.Path.{last_index, SamePlaces}
 use Rattle.plan_table.specs.declared.plans.Row.{Row}
 use Rattle.mapf_rules.specs.VisitSearch.{IsVisitIn}
 use Rattle.mapf_rules.specs.declared.visits.Visit.{Visit}
@@ -16,7 +16,7 @@ use Rattle.cost_ledger.specs.declared.replans.Planned.{Planned}
 pub record SameBelow (one other : List Point) (time : ℕ) : Type 0 where
   pub one_within : time ≤ last_index one + 1
   pub other_within : time ≤ last_index other + 1
-  pub same : (t : ℕ) → t < time → place one t ≡ place other t
+  pub same : SamePlaces one other time
 
 -- new has the elements of old without those that have the one property, and then those that have the other
 pub record Replaces {X : Type 0} (old new : List X) (Lost Gained : X → Type 0) : Type 0 where

@@ -31,4 +31,9 @@ module _ (before scene : SceneState) (changes : List Change) (changed : ChangedB
 
   pub formers_left : (rows : List (ℕ × Row)) (formers : List Former) → rows ≡ scene.rows → AreFormers before.rows rows formers → AreLeft (row_of before.rows) (row_of scene.rows) formers
   formers_left rows formers same are =
-      record { rising = are.rising; was = are.was; others = λ agent none. are.others agent none ∙ ap (λ (r : List (ℕ × Row)). row_of r agent) same }
+      record {
+        rising = are.rising;
+        was = are.was;
+        alike = λ former there. rw same at (are.alike former there);
+        others = λ agent none. are.others agent none ∙ ap (λ (r : List (ℕ × Row)). row_of r agent) same;
+      }

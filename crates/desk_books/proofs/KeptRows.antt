@@ -16,15 +16,14 @@ use Rattle.scene_edits.specs.Scene.{SceneState, IsScene}
 use Rattle.scene_edits.specs.InOrder.{edited_all, AreAllowed, AreChanges}
 use Rattle.scene_edits.specs.declared.edits.Edit.{Edit}
 use Rattle.scene_edits.specs.declared.changes.Change.{Change}
-use Rattle.scene_edits.proofs.Returning.{changes_go_back_holds}
-use Rattle.desk_books.specs.Formers.{former_row, former_of, AreFormers}
-use Rattle.desk_books.specs.Kept.{kept_row, row_known, before_changes}
+use Rattle.desk_books.specs.Formers.{former_past, former_of, AreFormers}
+use Rattle.desk_books.specs.Kept.{kept_past, past_known, present, before_changes}
 use Rattle.desk_books.specs.declared.named_agents.Former.{Former}
 use Rattle.desk_books.specs.declared.taking_back.Kept.{Kept}
-use Rattle.desk_books.proofs.RowsBefore.{row_of-undone_all}
+use Rattle.desk_books.proofs.RowsBefore.{IsPast, is_present, all_back}
 
-known_some : (kept : Kept) (table : List (ℕ × Row)) (agent : ℕ) (found : Option Kept) → found ≡ Some kept → option_map_or kept_row found (row_of table agent) ≡ kept_row kept
-known_some kept table agent found is = ap (λ o. option_map_or kept_row o (row_of table agent)) is
+known_some : (kept : Kept) (table : List (ℕ × Row)) (agent : ℕ) (found : Option Kept) → found ≡ Some kept → option_map_or kept_past found (present (row_of table agent)) ≡ kept_past kept
+known_some kept table agent found is = ap (λ o. option_map_or kept_past o (present (row_of table agent))) is
 
 -- the agents rise as the keys do
 
@@ -34,7 +33,7 @@ rises rows ordered i j d lt within =
     let key : ℕ × Kept → ℕ = λ e. e.0 in
     let keyed : length (keys rows) ≡ length rows.entries = length-map rows.entries key in
     let less : get_or (keys rows) i 0 < get_or (keys rows) j 0 = below_from_sorted (keys rows) i j 0 ordered lt (omega arith) in
-    let e : ℕ × Kept = (0, record { goal = d.goal; plan = d.plan }) in
+    let e : ℕ × Kept = (0, record { goal = d.goal; alike = d.alike; plan = d.plan }) in
     let first_key : get_or (keys rows) i 0 ≡ (get_or rows.entries i e).0 = get_or-map key rows.entries i e 0 (omega arith) in
     let second_key : get_or (keys rows) j 0 ≡ (get_or rows.entries j e).0 = get_or-map key rows.entries j e 0 (omega arith) in
     let first : (get_or (map former_of rows.entries) i d).agent ≡ (get_or rows.entries i e).0 = ap (λ (f : Former). f.agent) (get_or-map former_of rows.entries i e d (omega arith)) in
@@ -44,21 +43,20 @@ rises rows ordered i j d lt within =
 Contains-map : {X Y : Type 0} (f : X → Y) (xs : List X) (x : X) → Contains xs x → Contains (map f xs) (f x)
 Contains-map f xs x (k, within, is) = (k, omega (arith, length-map xs f), get_or-map f xs k x (f x) within ∙ ap f is)
 
-pub formers_hold : (before : SceneState) (edits : List Edit) (changes : List Change) (table : List (ℕ × Row)) (rows : BTreeMap ℕ Kept) (formers : List Former) → IsScene before → AreAllowed before edits → AreChanges before edits changes → (edited_all before edits).rows ≡ table → IsOrdered nat_cmp rows → ((agent : ℕ) → row_known rows table agent ≡ before_changes changes agent (row_of table agent)) → formers ≡ map former_of rows.entries → AreFormers before.rows table formers
+pub formers_hold : (before : SceneState) (edits : List Edit) (changes : List Change) (table : List (ℕ × Row)) (rows : BTreeMap ℕ Kept) (formers : List Former) → IsScene before → AreAllowed before edits → AreChanges before edits changes → (edited_all before edits).rows ≡ table → IsOrdered nat_cmp rows → ((agent : ℕ) → past_known rows table agent ≡ before_changes changes agent (present (row_of table agent))) → formers ≡ map former_of rows.entries → AreFormers before.rows table formers
 formers_hold before edits changes table rows formers is_scene allowed are is ordered known listed =
-    let after : SceneState = edited_all before edits in
-    let back = changes_go_back_holds before edits changes is_scene allowed are in
-    let was : (agent : ℕ) → row_known rows table agent ≡ row_of before.rows agent = λ agent.
-    known agent ∙ ap (λ (t : List (ℕ × Row)). before_changes changes agent (row_of t agent)) (sym is) ∙ sym (row_of-undone_all after changes agent) ∙ ap (λ (s : SceneState). row_of s.rows agent) back.1 in
-    let found : All (λ (e : ℕ × Kept). row_of before.rows e.0 ≡ kept_row e.1) rows.entries =
-    All-weaker (λ (e : ℕ × Kept). get nat_cmp rows e.0 ≡ Some e.1) (λ (e : ℕ × Kept). row_of before.rows e.0 ≡ kept_row e.1) (λ e here. sym (was e.0) ∙ known_some e.1 table e.0 (get nat_cmp rows e.0) here) rows.entries (All-found nat_cmp_total rows ordered) in
-    let all : All (λ (f : Former). row_of before.rows f.agent ≡ former_row f) (map former_of rows.entries) = All-map (λ (f : Former). row_of before.rows f.agent ≡ former_row f) former_of rows.entries found in
+    let past : (agent : ℕ) → IsPast (row_of before.rows agent) (row_of table agent) (past_known rows table agent) = λ agent.
+    rw (known agent) (subst (λ (t : List (ℕ × Row)). IsPast (row_of before.rows agent) (row_of t agent) (before_changes changes agent (present (row_of t agent)))) is (all_back before edits changes is_scene allowed are agent)) in
+    let Was : Former → Type 0 = λ f. IsPast (row_of before.rows f.agent) (row_of table f.agent) (former_past f) in
+    let all : All Was (map former_of rows.entries) = All-map Was former_of rows.entries
+    (All-weaker (λ (e : ℕ × Kept). get nat_cmp rows e.0 ≡ Some e.1) (λ (e : ℕ × Kept). Was (former_of e)) (λ e here. subst (IsPast (row_of before.rows e.0) (row_of table e.0)) (known_some e.1 table e.0 (get nat_cmp rows e.0) here) (past e.0)) rows.entries (All-found nat_cmp_total rows ordered)) in
     subst (AreFormers before.rows table) (sym listed) (record {
       rising = rises rows ordered;
-      was = λ former there. All-contains (λ (f : Former). row_of before.rows f.agent ≡ former_row f) (map former_of rows.entries) former all there;
+      was = λ former there. sym (All-contains Was (map former_of rows.entries) former all there).row;
+      alike = λ former there. (All-contains Was (map former_of rows.entries) former all there).alike;
       others = λ agent absent.
           elim (get nat_cmp rows agent) as (λ o. get nat_cmp rows agent ≡ o → row_of before.rows agent ≡ row_of table agent) [
-            | None ↦ λ none. sym (was agent) ∙ ap (λ o. option_map_or kept_row o (row_of table agent)) none
+            | None ↦ λ none. sym (rw none at (past agent)).row ∙ (is_present (row_of table agent)).row
             | Some kept ↦ λ some. absurd (absent (former_of (agent, kept)) (Contains-map former_of rows.entries (agent, kept) ((btree_map_get_iff nat_cmp_total exact_unsigned rows ordered agent kept).0 some)) refl)
           ] refl;
     })

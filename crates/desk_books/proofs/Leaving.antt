@@ -23,6 +23,7 @@ left_fewer rows new former later left =
             | inl same ↦ absurd (omega (arith, same.1))
             | inr apart ↦ rw apart.0 (left.was other (Contains-cons_tail former later other there))
           ];
+      alike = λ other there. left.alike other (Contains-cons_tail former later other there);
       others = λ agent none. elim (eqb_tells agent former.agent) [
         | inl same ↦ rw same.0 (ap new (sym same.1))
         | inr apart ↦ rw apart.0 (left.others agent (λ other there is. elim (Contains-cons_cases former later other there) [

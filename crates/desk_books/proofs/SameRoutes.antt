@@ -1,12 +1,12 @@
 -- Two routes with the same position at each time are one route.
-use Rattle.std.proofs.Common.{◌≡◌, ◌≢◌, ℕ, ◌+◌, ◌<◌, min, Bool, true, false, Option, Some, None, List, length, inl, inr, refl, sym, ◌∙◌, arith}
-use Rattle.std.specs.Prelude.{IfNone}
-use Rattle.std.proofs.lemmas.Bool.{cases_order}
+use Rattle.std.proofs.Common.{◌≡◌, ◌≢◌, ◌⊎◌, ℕ, ◌+◌, ◌<◌, ◌≤◌, min, Bool, true, false, Option, Some, None, List, length, inl, inr, refl, sym, ap, ◌∙◌, arith}
+use Rattle.std.specs.Prelude.{IfNone, unwrap_or}
+use Rattle.std.proofs.lemmas.Bool.{cases_order, cases_lt}
 use Rattle.std.proofs.lemmas.Option.{slice_get-get_or}
 use Rattle.grid_cells.specs.Cell.{Point, point}
-use Rattle.plan_table.specs.Path.{last_index, place, IsPath}
+use Rattle.plan_table.specs.Path.{last_index, place, SamePlaces, IsPath}
 use Rattle.plan_table.specs.Route.{Route, position}
-use Rattle.plan_table.proofs.Fleets.{position_staying, position_gone, position_on_path}
+use Rattle.plan_table.proofs.Fleets.{true_or_not, position_staying, position_gone, position_on_path}
 use Rattle.scene_edits.specs.Since.{IsSince}
 use Rattle.scene_edits.proofs.PathsOf.{paths-equal}
 
@@ -71,3 +71,29 @@ same_route one two path_one path_two same = by_flags one.leaves two.leaves refl 
 pub never_apart : (one two : Route) → IsPath one.path → IsPath two.path → (since : Option ℕ) → IsSince one two since → IfNone since (one ≡ two)
 never_apart one two path_one path_two None same = same_route one two path_one path_two same
 never_apart one two path_one path_two (Some time) differ = tt
+
+-- an agent on a route is gone for ever, or it is at its path's place
+where_at : (route : Route) (time : ℕ) → ((position route time ≡ None) × ((later : ℕ) → time ≤ later → position route later ≡ None)) ⊎ (position route time ≡ place route.path time)
+where_at route time =
+    elim (true_or_not route.leaves) [
+      | inr stays ↦ inr (position_staying route stays time)
+      | inl leaves ↦ elim (cases_lt (last_index route.path) time) [
+        | inl late ↦ inl (position_gone route leaves time late, λ later le. position_gone route leaves later (omega arith))
+        | inr early ↦ inr (position_on_path route time (omega arith))
+      ]
+    ]
+
+-- below the time from which on routes on paths differ, or at every time where they never do, the paths are in the same cells
+pub same_until : (one two : Route) → IsPath one.path → IsPath two.path → (since : Option ℕ) → IsSince one two since → (n : ℕ) → SamePlaces one.path two.path (unwrap_or since n)
+same_until one two path_one path_two None same n time early = ap (λ (r : Route). place r.path time) (same_route one two path_one path_two same)
+same_until one two path_one path_two (Some since) (apart, same) n time early =
+    elim (where_at one time) [
+      | inr here ↦ elim (where_at two time) [
+        | inr there ↦ sym here ∙ same time early ∙ there
+        | inl gone ↦ absurd (place_some one.path time path_one.walkable.some_cell (sym here ∙ same time early ∙ gone.0))
+      ]
+      | inl gone ↦ elim (where_at two time) [
+        | inr there ↦ absurd (place_some two.path time path_two.walkable.some_cell (sym there ∙ sym (same time early) ∙ gone.0))
+        | inl both ↦ absurd (apart (gone.1 since (omega arith) ∙ sym (both.1 since (omega arith))))
+      ]
+    ]

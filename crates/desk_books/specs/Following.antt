@@ -5,7 +5,8 @@ use Rattle.scene_edits.specs.Scene.{SceneState, IsScene}
 use Rattle.scene_edits.specs.InOrder.{edited_all, AreAllowed, AreChanges}
 use Rattle.scene_edits.specs.declared.edits.Edit.{Edit}
 use Rattle.scene_edits.specs.declared.changes.Change.{Change}
-use Rattle.desk_books.specs.Formers.{former_row}
+use Rattle.desk_books.specs.Formers.{former_row, former_past}
+use Rattle.desk_books.specs.Kept.{AreAlike}
 use Rattle.desk_books.specs.declared.named_agents.Former.{Former}
 use Rattle.desk_books.specs.Prices.{Rows}
 use Rattle.desk_books.specs.Books.{BooksState, AreOf}
@@ -32,4 +33,5 @@ pub record AreBehind (changes : List Change) (scene : SceneState) (books : Books
 pub record AreLeft (rows new : Rows) (formers : List Former) : Type 0 where
   pub rising : AllPairs (λ a b. a.agent < b.agent) formers
   pub was : (former : Former) → Contains formers former → rows former.agent ≡ former_row former
+  pub alike : (former : Former) → Contains formers former → AreAlike (former_past former) (new former.agent)
   pub others : (agent : ℕ) → ((former : Former) → Contains formers former → former.agent ≡ agent → ⊥) → rows agent ≡ new agent

@@ -3,13 +3,15 @@ ghost use Rattle.std.specs.Prelude.{◌≡◌, IfOk, Some, None};
 ghost use Rattle.grid_cells.specs.Size.{Holds};
 ghost use Rattle.desk_books.specs.Prices.{Rows};
 ghost use Rattle.desk_books.specs.Prices as priced;
-ghost use Rattle.desk_books.specs.Formers.{former_row};
+ghost use Rattle.desk_books.specs.Formers.{as_row, former_row, former_past};
+ghost use Rattle.desk_books.specs.Kept.{AreAlike};
+ghost use Rattle.plan_table.specs.Path.{SamePlaces};
 ghost use Rattle.plan_table.specs.Plans.{row_of};
 ghost use Rattle.desk_books.specs.Books.{Know, Renews};
 
 use crate::books::Books;
 use crate::former::{is_same_plan, track_of};
-use crate::named_agents::Former;
+use crate::named_agents::{Former, FormerRow};
 use crate::prices::PriceBooks;
 use crate::standing_lines::{with_line, without_line};
 use grid_cells::{Agent, Cell, Grid, OutOfMemory};
@@ -19,7 +21,8 @@ use scene_edits::Scene;
 impl Books {
     // The agent's row before becomes its row in the scene.
     pub(crate) fn change(self, former: &Former<'_>, scene: &Scene) -> Result<Books, OutOfMemory>
-        requires { Know scene.now.mode scene.now.grid former.now.agent (former_row former.now) self }
+        requires know { Know scene.now.mode scene.now.grid former.now.agent (former_row former.now) self }
+        requires alike { AreAlike (former_past former.now) (row_of scene.now.rows former.now.agent) }
         ensures { IfOk result (Renews scene.now.mode scene.now.grid former.now.agent (former_row former.now) (row_of scene.now.rows former.now.agent) self) }
     {
         let agent = former.agent;
@@ -27,7 +30,7 @@ impl Books {
             (None, None) => Ok(self),
             (None, Some(row)) => self.enter(agent, row, scene),
             (Some(old), None) => self.leave(agent, old.goal, old.plan, scene),
-            (Some(old), Some(row)) => self.revise(agent, old.goal, old.plan, row, scene),
+            (Some(old), Some(row)) => self.revise(agent, &old, row, scene),
         }
     }
 
@@ -94,14 +97,14 @@ impl Books {
     fn revise(
         self,
         agent: Agent,
-        goal: Cell,
-        plan: &Plan,
+        old: &FormerRow<'_>,
         row: &Row,
         scene: &Scene,
     ) -> Result<Books, OutOfMemory>
-        requires know { Know scene.now.mode scene.now.grid agent (Some (record { goal = goal; plan = plan.now })) self }
+        requires know { Know scene.now.mode scene.now.grid agent (Some (as_row old.now)) self }
+        requires alike { SamePlaces old.now.plan.now row.now.plan old.now.alike }
         requires inside { Holds scene.now.grid.size row.now.goal }
-        ensures { IfOk result (Renews scene.now.mode scene.now.grid agent (Some (record { goal = goal; plan = plan.now })) (Some row.now) self) }
+        ensures { IfOk result (Renews scene.now.mode scene.now.grid agent (Some (as_row old.now)) (Some row.now) self) }
     {
         let Books {
             alloc,
@@ -110,11 +113,16 @@ impl Books {
             lines,
         } = self;
         let mode = scene.mode();
-        let Ok(fleet) = fleet.revise(agent, track_of(goal, plan, mode), row.track(mode)) else {
+        let Ok(fleet) = fleet.revise(
+            agent,
+            track_of(old.goal, old.plan, mode),
+            row.track(mode),
+            old.alike,
+        ) else {
             drop((prices, lines));
             return Err(OutOfMemory);
         };
-        let Ok(prices) = reprice(prices, agent, goal, plan, row, scene.grid()) else {
+        let Ok(prices) = reprice(prices, agent, old, row, scene.grid()) else {
             drop((fleet, lines));
             return Err(OutOfMemory);
         };
@@ -132,33 +140,33 @@ impl Books {
 fn reprice(
     prices: PriceBooks,
     agent: Agent,
-    goal: Cell,
-    plan: &Plan,
+    old: &FormerRow<'_>,
     row: &Row,
     grid: &Grid,
 ) -> Result<PriceBooks, OutOfMemory>
+    requires alike { SamePlaces old.now.plan.now row.now.plan old.now.alike }
     requires inside { Holds grid.now.size row.now.goal }
-    requires know { (rows : Rows) × priced.AreOf grid.now rows prices × (rows agent ≡ Some (record { goal = goal; plan = plan.now })) }
-    ensures { IfOk result (priced.Reprices grid.now agent (Some (record { goal = goal; plan = plan.now })) (Some row.now) prices) }
+    requires know { (rows : Rows) × priced.AreOf grid.now rows prices × (rows agent ≡ Some (as_row old.now)) }
+    ensures { IfOk result (priced.Reprices grid.now agent (Some (as_row old.now)) (Some row.now) prices) }
 {
-    let planned = replan(prices, agent, goal, plan, row, grid)?;
-    planned.aim(agent, goal, row.goal, grid)
+    let planned = replan(prices, agent, old, row, grid)?;
+    planned.aim(agent, old.goal, row.goal, grid)
 }
 
 // The agent's plan becomes that of the row.
 fn replan(
     prices: PriceBooks,
     agent: Agent,
-    goal: Cell,
-    plan: &Plan,
+    old: &FormerRow<'_>,
     row: &Row,
     grid: &Grid,
 ) -> Result<PriceBooks, OutOfMemory>
-    ensures { IfOk result (priced.Reprices grid.now agent (Some (record { goal = goal; plan = plan.now }))
-        (Some (record { goal = goal; plan = row.now.plan })) prices) }
+    requires alike { SamePlaces old.now.plan.now row.now.plan old.now.alike }
+    requires know { (rows : Rows) × priced.AreOf grid.now rows prices × (rows agent ≡ Some (as_row old.now)) }
+    ensures { IfOk result (priced.Reprices grid.now agent (Some (as_row old.now)) (Some (record { goal = old.now.goal; plan = row.now.plan })) prices) }
 {
-    if is_same_plan(plan, &row.plan) {
+    if is_same_plan(old.plan, &row.plan, old.alike) {
         return Ok(prices);
     }
-    prices.set_plan(agent, goal, &row.plan, grid)
+    prices.follow_plan(agent, old.goal, &row.plan, old.alike, grid)
 }

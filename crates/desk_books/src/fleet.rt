@@ -1,4 +1,5 @@
 ghost use Rattle.std.specs.Prelude.{◌≡◌, ◌+◌, ℕ, List, min, Some, None, IfOk, IfNone};
+ghost use Rattle.plan_table.specs.Path.{SamePlaces};
 ghost use Rattle.plan_table.specs.Route.{Fleet, route_of, tracks_of};
 ghost use Rattle.plan_table.specs.declared.plans.Row.{Row};
 ghost use Rattle.plan_table.specs.declared.tracks.Mode.{Mode};
@@ -86,7 +87,8 @@ impl FleetBooks {
     }
 
     /// Gives an agent that the fleet has with the old track the new one. Where the positions on the
-    /// two never differ the books stay as they are.
+    /// two never differ the books stay as they are. They are compared from the time on below which
+    /// their paths are known to be in the same cells.
     ///
     /// # Errors
     ///
@@ -96,13 +98,15 @@ impl FleetBooks {
         agent: Agent,
         old: Track<'_>,
         new: Track<'_>,
+        known: u32,
     ) -> Result<FleetBooks, OutOfMemory>
+        requires { SamePlaces old.plan.now new.plan.now known }
         ensures books { IfOk result (Reroutes agent (Some (route_of old.entry)) (Some (route_of new.entry)) self) }
         ensures touched { IfOk result (λ books.
             books.index.touched ≡ min (self.index.touched + records_apart (route_of old.entry) (route_of new.entry)) u64.MAX) }
     {
         let _touched = self.touched();
-        let Some(since) = since_of(old, new) else {
+        let Some(since) = since_of(old, new, known) else {
             return Ok(self);
         };
         let FleetBooks { index, conflicts } = self;
@@ -158,11 +162,13 @@ impl FleetBooks {
     }
 }
 
-// The least time at which the positions on the two tracks differ, and none where they are one track.
-fn since_of(old: Track<'_>, new: Track<'_>) -> Option<u32>
+// The least time at which the positions on the two tracks differ, and none where they are one track. Their paths are known to be
+// in the same cells at times below `known`.
+fn since_of(old: Track<'_>, new: Track<'_>, known: u32) -> Option<u32>
+    requires { SamePlaces old.plan.now new.plan.now known }
     ensures differ { IsSince (route_of old.entry) (route_of new.entry) result }
     ensures one { IfNone result (route_of old.entry ≡ route_of new.entry) }
 {
     let (_old, _new) = (old.plan.last(), new.plan.last());
-    first_difference(old, new)
+    first_difference(old, new, known)
 }

@@ -1,5 +1,6 @@
 //! The track and the plan of a row that an agent had.
 ghost use Rattle.std.specs.Prelude.{◌≡◌, ◌↔◌, IsTrue};
+ghost use Rattle.plan_table.specs.Path.{SamePlaces};
 ghost use Rattle.plan_table.specs.Route.{route_of, route_in};
 
 use grid_cells::{Cell, Step};
@@ -16,10 +17,11 @@ pub(crate) fn track_of(goal: Cell, plan: &Plan, mode: Mode) -> Track<'_>
     }
 }
 
-// Whether the two plans are one path.
-pub(crate) fn is_same_plan(one: &Plan, other: &Plan) -> bool
+// Whether the two plans, which are known to be in the same cells at times below `known`, are one path.
+pub(crate) fn is_same_plan(one: &Plan, other: &Plan, known: u32) -> bool
+    requires { SamePlaces one.now other.now known }
     ensures { IsTrue result ↔ (one.now ≡ other.now) }
 {
-    let same = one.same_front(other);
+    let same = one.same_front(other, known);
     one.last() < same && other.last() < same
 }

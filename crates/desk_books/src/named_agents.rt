@@ -4,7 +4,7 @@ ghost use Rattle.std.specs.Ordering.{nat_cmp};
 ghost use Rattle.std.specs.BTreeMap.{IsOrdered};
 ghost use Rattle.desk_books.specs.Following.{HoldsOver};
 ghost use Rattle.desk_books.specs.Named.{IsNamed};
-ghost use Rattle.desk_books.specs.Formers.{as_row, former_row, former_of, AreFormers};
+ghost use Rattle.desk_books.specs.Formers.{as_past, former_past, former_of, AreFormers};
 
 use crate::taking_back::{Kept, take_back};
 use grid_cells::{Agent, Cell, OutOfMemory};
@@ -17,27 +17,31 @@ use std::collections::BTreeMap;
 #[derive(Clone, Copy, Debug)]
 pub struct Former<'a> {
     pub agent: Agent,
-    // Of no meaning where there is no plan.
+    // These are of no meaning where there is no plan.
     goal: Cell,
+    alike: u32,
     plan: Option<&'a Plan>,
 }
 
-/// A row that an agent had.
+/// A row that an agent had, and below which time its path is known to be in the cells of the path
+/// that the agent has after the changes.
 #[derive(Clone, Copy, Debug)]
 pub struct FormerRow<'a> {
     pub goal: Cell,
+    pub alike: u32,
     pub plan: &'a Plan,
 }
 
 impl<'a> Former<'a> {
     /// The agent's row before the changes, if it had one.
     pub fn row(&self) -> Option<FormerRow<'a>>
-        ensures { option_map as_row result ≡ former_row self.now }
+        ensures { option_map as_past result ≡ former_past self.now }
     {
         match self.plan {
             None => None,
             Some(plan) => Some(FormerRow {
                 goal: self.goal,
+                alike: self.alike,
                 plan,
             }),
         }
@@ -81,6 +85,7 @@ fn listed<'a>(
         let former = Former {
             agent: *agent,
             goal: kept.goal,
+            alike: kept.alike,
             plan: kept.plan,
         };
         match formers.push(former) {

@@ -1,6 +1,7 @@
-ghost use Rattle.std.specs.Prelude.{◌≡◌, None, Some, All, IfOk};
+ghost use Rattle.std.specs.Prelude.{◌≡◌, None, Some, All, IfOk, IfSome};
 ghost use Rattle.grid_cells.specs.Size.{Holds};
 ghost use Rattle.grid_cells.specs.Grid.{Chart};
+ghost use Rattle.plan_table.specs.Path.{SamePlaces};
 ghost use Rattle.plan_table.specs.Plans.{row_of};
 ghost use Rattle.plan_table.specs.declared.plans.Row.{Row};
 ghost use Rattle.goal_fields.specs.Target.{Covers};
@@ -133,24 +134,27 @@ impl PriceBooks {
     }
 
     /// Gives the agent's row another plan. The goal is that of the row, and the grid is the one that
-    /// the books are for.
+    /// the books are for. The plans are compared from the time on below which they are known to be in
+    /// the same cells.
     ///
     /// # Errors
     ///
     /// Want of memory. The books are gone then.
-    pub fn set_plan(
+    pub fn follow_plan(
         self,
         agent: Agent,
         goal: Cell,
         plan: &Plan,
+        known: u32,
         grid: &Grid,
     ) -> Result<PriceBooks, OutOfMemory>
+        requires { IfSome (row_of self.costs.rows agent) (λ row. SamePlaces row.plan plan.now known) }
         ensures kept { IfOk result (λ books. (fleet : Rows) → AreOf grid.now fleet self → AimsAt fleet agent goal
             → AreOf grid.now (with_row fleet agent (Some (record { goal = goal; plan = plan.now }))) books) }
         ensures fields { IfOk result (λ books. books.fields ≡ self.fields) }
     {
         let PriceBooks { costs, goals } = self;
-        let Ok(costs) = costs.set_plan(agent, plan, grid) else {
+        let Ok(costs) = costs.follow_plan(agent, plan, known, grid) else {
             drop(goals);
             return Err(OutOfMemory);
         };

@@ -1,5 +1,5 @@
 ghost use Rattle.std.specs.Prelude.{◌≡◌, ◌<◌, ◌≤◌, ◌-◌, ◌↔◌, Some, IfOk, IfErr, IfSome, OnOk, IfNone, IsTrue, length};
-ghost use Rattle.plan_table.specs.Path.{place, last_index, AllStepsBelow, IsWalkable, IsPath, IsPathOf, IsSameFront, EndsInWait};
+ghost use Rattle.plan_table.specs.Path.{place, last_index, AllStepsBelow, IsWalkable, IsPath, IsPathOf, SamePlaces, IsSameFront, EndsInWait};
 ghost use Rattle.plan_table.specs.PlanFault.{Explains};
 
 use grid_cells::{Cell, OutOfMemory, Step};
@@ -96,11 +96,13 @@ impl Plan {
         &self.cells
     }
 
-    /// How many cells the two paths begin with alike.
-    pub fn same_front(&self, other: &Plan) -> u32
+    /// How many cells the two paths begin with alike. It compares them from the time on below which
+    /// they are known to be in the same cells.
+    pub fn same_front(&self, other: &Plan, known: u32) -> u32
+        requires { SamePlaces self.now other.now known }
         ensures { IsSameFront self.now other.now result }
     {
-        same_front(&self.cells, &other.cells) as u32
+        same_front(&self.cells, &other.cells, known as usize) as u32
     }
 
     /// An equal plan.
@@ -154,12 +156,14 @@ fn ends_in_wait(cells: &[Cell]) -> bool
     }
 }
 
-// How many cells the two lists begin with alike. Thirty-two are compared at once.
-fn same_front(one: &[Cell], other: &[Cell]) -> usize
+// How many cells the two lists begin with alike, compared from the time on below which they are known
+// to be in the same cells. Thirty-two are compared at once.
+fn same_front(one: &[Cell], other: &[Cell], known: usize) -> usize
+    requires { SamePlaces one.now other.now known }
     ensures { IsSameFront one.now other.now result }
 {
     let end = one.len().min(other.len());
-    let mut front = 0;
+    let mut front = known.min(end);
     while front + 32 <= end && are_same(&one[front..front + 32], &other[front..front + 32]) {
         front += 32;
     }

@@ -1,5 +1,6 @@
-ghost use Rattle.std.specs.Prelude.{◌≡◌, ◌<◌, ◌++◌, IfOk, IfErr, OnErr, IsTrue, ◌↔◌, length, slice_get};
-ghost use Rattle.plan_table.specs.Path.{AllStepsBelow};
+ghost use Rattle.std.specs.Prelude.{◌≡◌, ◌<◌, ◌++◌, IfOk, IfErr, IfSome, OnErr, IsTrue, ◌↔◌, length, slice_get};
+ghost use Rattle.plan_table.specs.Path.{AllStepsBelow, SamePlaces};
+ghost use Rattle.plan_table.specs.Plans.{row_of};
 ghost use Rattle.scene_edits.specs.Scene.{IsLive};
 ghost use Rattle.scene_edits.specs.Edited.{with_changed};
 ghost use Rattle.scene_edits.specs.Faults.{◌otherwise◌, too_long, jump};
@@ -65,27 +66,30 @@ impl Board {
         }
     }
 
-    // Gives a live agent the path of the cells, of which the steps to the first `known` are known.
+    // Gives a live agent the path of the cells, of which the steps to the first `known` are known, and that its path before is in
+    // the same cells until then.
     fn follow(&mut self, agent: Agent, cells: Vec<Cell>, known: u32) -> Result<Change, EditFault>
         requires live { IsLive (scene_of self.old) agent }
         requires some { 0 < length cells.items }
         requires steps { AllStepsBelow cells.items known }
+        requires front { IfSome (row_of self.old.plans.rows agent) (λ row. SamePlaces row.plan cells.items known) }
         ensures follows { IfOk result (λ change. Follows (scene_of self.old) agent cells.items change (scene_of self.new)) }
         ensures fault { IfErr result (too_long cells.items otherwise jump cells.items) }
         ensures unchanged { OnErr result (scene_of self.new ≡ scene_of self.old) }
         ensures room { self.new.plans.room ≡ self.old.plans.room }
     {
         match Plan::with_known_steps(cells, known) {
-            Ok(plan) => Ok(self.replan(agent, plan)),
+            Ok(plan) => Ok(self.replan(agent, plan, known)),
             Err((PlanFault::EmptyPath, _)) => unreachable!(),
             Err((PlanFault::TooLong, _)) => Err(EditFault::TooLong),
             Err((PlanFault::NotAStep { at }, _)) => Err(EditFault::NotAStep { at }),
         }
     }
 
-    // Gives a live agent another plan.
-    fn replan(&mut self, agent: Agent, plan: Plan) -> Change
+    // Gives a live agent another plan, which is known to be in the cells of its plan before at times below `known`.
+    fn replan(&mut self, agent: Agent, plan: Plan, known: u32) -> Change
         requires live { IsLive (scene_of self.old) agent }
+        requires front { IfSome (row_of self.old.plans.rows agent) (λ row. SamePlaces row.plan plan known) }
         ensures moves { IsMove (scene_of self.old) (scene_of self.new) agent result }
         ensures edited { scene_of self.new ≡ record (scene_of self.old) { rows = with_changed self.old.plans.rows agent (λ row. record row { plan = plan }) } }
         ensures room { self.new.plans.room ≡ self.old.plans.room }
@@ -97,7 +101,7 @@ impl Board {
                     goal: row.goal,
                     plan,
                 };
-                let since = first_difference(row.track(self.mode), after.track(self.mode));
+                let since = first_difference(row.track(self.mode), after.track(self.mode), known);
                 (after, since)
             }
         };

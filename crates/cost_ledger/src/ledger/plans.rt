@@ -1,5 +1,6 @@
 //! How a ledger changes where an agent gets a plan.
 ghost use Rattle.std.specs.Prelude.{◌≡◌, None, Some, IfOk, IfSome, IfNone};
+ghost use Rattle.plan_table.specs.Path.{SamePlaces};
 ghost use Rattle.plan_table.specs.Plans.{row_of, ChangesRow, IsByAgent};
 ghost use Rattle.cost_ledger.specs.Ledger.{StandsFor};
 
@@ -54,7 +55,29 @@ impl CostLedger {
     /// # Errors
     ///
     /// Want of memory. The ledger is gone then.
-    pub fn set_plan(mut self, agent: Agent, plan: &Plan, grid: &Grid) -> Result<Self, OutOfMemory>
+    pub fn set_plan(self, agent: Agent, plan: &Plan, grid: &Grid) -> Result<Self, OutOfMemory>
+        ensures row { IfOk result (λ ledger. IfSome (row_of self.rows agent) (λ row. ChangesRow self.rows ledger.rows agent (Some (record row { plan = plan.now })))) }
+        ensures by_agent { IfOk result (λ ledger. IsByAgent ledger.rows) }
+        ensures stands { IfOk result (λ ledger. StandsFor self grid.now → StandsFor ledger grid.now) }
+        ensures none { IfNone (row_of self.rows agent) (IfOk result (λ ledger. ledger ≡ self)) }
+    {
+        self.follow_plan(agent, plan, 0, grid)
+    }
+
+    /// Gives the agent another plan, as `set_plan` does. It compares the plans from the time on below
+    /// which they are known to be in the same cells.
+    ///
+    /// # Errors
+    ///
+    /// Want of memory. The ledger is gone then.
+    pub fn follow_plan(
+        mut self,
+        agent: Agent,
+        plan: &Plan,
+        known: u32,
+        grid: &Grid,
+    ) -> Result<Self, OutOfMemory>
+        requires { IfSome (row_of self.rows agent) (λ row. SamePlaces row.plan plan.now known) }
         ensures row { IfOk result (λ ledger. IfSome (row_of self.rows agent) (λ row. ChangesRow self.rows ledger.rows agent (Some (record row { plan = plan.now })))) }
         ensures by_agent { IfOk result (λ ledger. IsByAgent ledger.rows) }
         ensures stands { IfOk result (λ ledger. StandsFor self grid.now → StandsFor ledger grid.now) }
@@ -69,7 +92,7 @@ impl CostLedger {
             plan,
             grid,
         };
-        let since = old.plan.same_front(plan);
+        let since = old.plan.same_front(plan, known);
         match follow_row(
             &mut self.rows,
             &mut self.blocked,

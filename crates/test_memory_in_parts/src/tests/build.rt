@@ -54,7 +54,7 @@ pub fn are_at(cells: &[Cell], places: &[Place]) -> bool {
 pub fn since(old: Track, new: Track) -> u32
     ensures { (t : ℕ) → t < result → position (route_of old.entry) t ≡ position (route_of new.entry) t }
 {
-    match first_difference(old, new) {
+    match first_difference(old, new, 0) {
         Some(time) => time,
         None => 0,
     }

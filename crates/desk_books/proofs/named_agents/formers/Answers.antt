@@ -3,7 +3,7 @@ use Rattle.std.specs.BTreeMap.{keys}
 use Rattle.std.proofs.lemmas.Result.{IfOk-weaker}
 use Rattle.plan_table.specs.Plans.{row_of}
 use Rattle.scene_edits.specs.declared.changes.Change.{Change}
-use Rattle.desk_books.specs.Kept.{row_known, before_change, before_changes}
+use Rattle.desk_books.specs.Kept.{past_known, present, before_change, before_changes}
 use Rattle.desk_books.specs.Named.{IsNamed}
 use Rattle.desk_books.specs.declared.named_agents.Former.{Former}
 use Rattle.desk_books.proofs.KeptRows.{formers_hold}
@@ -19,17 +19,17 @@ loop-left-preserved c =
     record {
       within = omega arith;
       known = λ agent.
-          c.in-Ok.ensures.rows agent
+          c.in-Ok.ensures.past agent
           ∙ ap (before_change change agent) (c.loop-left.invariant.known agent)
-          ∙ ap (λ (list : List Change). before_changes list agent (row_of c.args.plans.now.rows agent)) (sym front);
+          ∙ ap (λ (list : List Change). before_changes list agent (present (row_of c.args.plans.now.rows agent))) (sym front);
       named = named-more c.args.changes.now at c.loop-left.left change (keys c.loop-left.rows) (keys c.take_back.new.rows) (omega arith) (omega arith) c.index-changes-left.is c.loop-left.invariant.named c.in-Ok.ensures.named;
     }
 
 pub returns-clause-rows : goal.returns-clause-rows
 returns-clause-rows c =
     let none_left : c.loop-left.left ≡ 0 = omega arith in
-    let known : (agent : ℕ) → row_known c.loop-left.rows c.args.plans.now.rows agent ≡ before_changes c.args.changes.now agent (row_of c.args.plans.now.rows agent) = λ agent.
-    c.loop-left.invariant.known agent ∙ ap (λ n. before_changes (drop n c.args.changes.now) agent (row_of c.args.plans.now.rows agent)) none_left in
+    let known : (agent : ℕ) → past_known c.loop-left.rows c.args.plans.now.rows agent ≡ before_changes c.args.changes.now agent (present (row_of c.args.plans.now.rows agent)) = λ agent.
+    c.loop-left.invariant.known agent ∙ ap (λ n. before_changes (drop n c.args.changes.now) agent (present (row_of c.args.plans.now.rows agent))) none_left in
     IfOk-weaker c.listed.result _ _ (λ v entries. λ before edits is_scene allowed are is.
     formers_hold before edits c.args.changes.now c.args.plans.now.rows c.loop-left.rows v.items is_scene allowed are is c.listed.ensures.ordered known entries) c.listed.ensures.entries
 

@@ -1,14 +1,14 @@
 use Rattle.std.proofs.Common.{◌≡◌, ◌≤◌, ℕ, All, drop, length}
 use Rattle.std.specs.BTreeMap.{keys}
 use Rattle.plan_table.specs.Plans.{row_of}
-use Rattle.desk_books.specs.Kept.{row_known, before_changes}
+use Rattle.desk_books.specs.Kept.{past_known, present, before_changes}
 use Rattle.desk_books.specs.Named.{IsNamed}
 use Rattle.desk_books.proofs.named_agents.formers.Given as goal
 
 abbrev pub invariant-loop-left : goal.invariant-loop-left
 invariant-loop-left l = record {
   within : l.left ≤ length l.changes;
-  known : (agent : ℕ) → row_known l.rows l.plans.rows agent ≡ before_changes (drop l.left l.changes) agent (row_of l.plans.rows agent);
+  known : (agent : ℕ) → past_known l.rows l.plans.rows agent ≡ before_changes (drop l.left l.changes) agent (present (row_of l.plans.rows agent));
   named : All (IsNamed (drop l.left l.changes)) (keys l.rows);
 }
 

@@ -3,7 +3,14 @@ use Rattle.std.proofs.Math.Seq.{take-add}
 use Rattle.std.proofs.lemmas.Option.{slice_get_read}
 use Rattle.std.proofs.lemmas.Bool.Decides.{nat_tests}
 use Rattle.std.specs.List.{slice_get, slice_range}
+use Rattle.plan_table.proofs.Fronts.{alike_front}
 use Rattle.plan_table.proofs.paths.same_front.Goals as goal
+
+pub loop-front-init : goal.loop-front-init
+loop-front-init c = record {
+  within = omega arith;
+  same = alike_front c.args.one.now c.args.other.now _ (omega arith) (omega arith) (λ time early. c.requires time (omega (arith, early)));
+}
 
 pub loop-front-preserved : goal.loop-front-preserved
 loop-front-preserved c =

@@ -7,11 +7,17 @@ use Rattle.desk_books.specs.Books.{Keep}
 use Rattle.desk_books.proofs.Leaving.{left_from, left_fewer, none_left}
 use Rattle.desk_books.proofs.books.Books.catch_up.Goals as goal
 
-pub change-requires : goal.change-requires
-change-requires c =
+pub change-requires-clause-know : goal.change-requires-clause-know
+change-requires-clause-know c =
     let more = left_from c.args.formers.now c.loop-former.former-index c.former-item.result (omega arith) c.former-item.is in
     let left = rw more at c.loop-former.invariant.2 in
     record { rows = c.loop-former.invariant.0; keep = c.loop-former.invariant.1; has = left.was c.former-item.result (Contains-cons_head _ _) }
+
+pub change-requires-clause-alike : goal.change-requires-clause-alike
+change-requires-clause-alike c =
+    let more = left_from c.args.formers.now c.loop-former.former-index c.former-item.result (omega arith) c.former-item.is in
+    let left = rw more at c.loop-former.invariant.2 in
+    left.alike c.former-item.result (Contains-cons_head _ _)
 
 pub loop-former-preserved : goal.loop-former-preserved
 loop-former-preserved c =

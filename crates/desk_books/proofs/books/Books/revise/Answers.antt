@@ -4,6 +4,7 @@ use Rattle.plan_table.specs.Route.{Route, route_of, route_in}
 use Rattle.plan_table.specs.declared.plans.Row.{Row}
 use Rattle.plan_table.specs.declared.tracks.Mode.{Mode}
 use Rattle.where_index.specs.Index.{with_route}
+use Rattle.desk_books.specs.Formers.{as_row}
 use Rattle.desk_books.specs.Fleet as fleets
 use Rattle.desk_books.specs.Books.{fleet_of}
 use Rattle.desk_books.proofs.Keeping.{keep_with}
@@ -25,7 +26,7 @@ with_line-lines-requires c =
 pub returns : goal.returns
 returns c = λ rows keep has.
     let mode = c.args.scene.now.mode in
-    let old : Row = record { goal = c.args.goal; plan = c.args.plan.now } in
+    let old : Row = as_row c.args.old.now in
     let was = rw (← c.self.view_is) at keep in
     let before : route_of c.track_of.result ≡ route_in mode old = c.track_of.ensures ∙ ap (λ (m : Mode). route_in m old) c.mode-mode.ensures in
     let route : route_of c.track.result ≡ route_in mode c.args.row.now = c.track.ensures ∙ ap (λ (m : Mode). route_in m c.args.row.now) c.mode-mode.ensures in

@@ -4,7 +4,7 @@ use Rattle.plan_table.specs.declared.plans.Row.{Row}
 use Rattle.cost_ledger.specs.Kept.{Keeps, ends_elsewhere, last_of_row}
 use Rattle.cost_ledger.proofs.Keeping.{keeps_put, keeps_take, total_small, elsewhere_small, one_at_most}
 use Rattle.cost_ledger.proofs.Replanning.{same_below, visits_replanned}
-use Rattle.cost_ledger.proofs.ledger.CostLedger.set_plan.Goals as goal
+use Rattle.cost_ledger.proofs.ledger.CostLedger.follow_plan.Goals as goal
 
 pub follow_row-requires-clause-same : goal.follow_row-requires-clause-same
 follow_row-requires-clause-same c = same_below _ _ _ c.same_front-since.ensures

@@ -1,5 +1,5 @@
 use Rattle.desk_books.proofs.Fleets.{books_planned}
-use Rattle.desk_books.proofs.prices.PriceBooks.set_plan.Goals as goal
+use Rattle.desk_books.proofs.prices.PriceBooks.follow_plan.Goals as goal
 
 pub returns-clause-kept : goal.returns-clause-kept
 returns-clause-kept c = λ fleet are at.
