@@ -5,14 +5,14 @@ use crate::saving::save_named;
 use crate::streams::{Answers, Lines, Outlet};
 use crate::telling::{More, tell_more};
 use desk_core::{Desk, Limit, MOST_ENTRIES};
-use desk_report::{Spout, Tap};
+use desk_report::Spout;
 use desk_runs::{Fault, RunFault, serve_desk};
 use desk_session::ServeFault;
 use desk_words::ServeWords;
 use std::alloc::Global;
 use std::cell::RefCell;
 use std::io;
-use std::io::{BufReader, BufWriter, Error, Read, Write};
+use std::io::{BufWriter, Error, Read, Write};
 use std::rt::Files;
 
 /// Serves a session from standard input to standard output, as the words ask for, and saves the
@@ -128,10 +128,9 @@ fn serve_lines<I: Read + Drop, O: Write + Drop>(
     input: I,
     outlet: &RefCell<Outlet<O>>,
 ) -> Sat {
-    let Ok(lines) = BufReader::new(alloc, Lines::new(input, outlet)) else {
+    let Ok(mut reader) = Lines::new(alloc, input, outlet) else {
         return Sat::without_memory();
     };
-    let mut reader = Tap::new(lines);
     let mut writer = Spout::new(Answers::new(outlet));
     let Texts { map, scen, journal } = texts;
     let (agents, limit, mode) = (words.agents, limit_of(words), words.mode);

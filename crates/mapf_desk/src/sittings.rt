@@ -3,12 +3,12 @@ ghost use Rattle.std.specs.Prelude.{None};
 ghost use Rattle.desk_runs.specs.Seats.{IsHeard, Sits};
 
 use crate::streams::{Answers, Lines, Outlet};
-use desk_report::{Sink, Source, Spout, Tap};
+use desk_report::{Sink, Source, Spout};
 use desk_runs::{BOUNDS, Outcome, SeatFault, WholeLines};
 use desk_session::{Counter, ServeFault, serve};
 use std::alloc::Global;
 use std::cell::RefCell;
-use std::io::{BufReader, BufWriter, Read, Write};
+use std::io::{BufWriter, Read, Write};
 
 /// Serves a session from a reader to a writer, both buffered. What was answered goes out before more
 /// is read, and at the end. Where lines are to be whole, an input that ends within one is broken off:
@@ -31,11 +31,11 @@ pub fn sit_between<C: Counter, I: Read + Drop, O: Write + Drop>(
         return Err(SeatFault::OutOfMemory);
     };
     let outlet = RefCell::new(Outlet::new(buffered));
-    let Ok(lines) = BufReader::new(alloc, Lines::new(input, &outlet)) else {
+    let Ok(lines) = Lines::new(alloc, input, &outlet) else {
         return Err(SeatFault::OutOfMemory);
     };
     let mut writer = Spout::new(Answers::new(&outlet));
-    let ended = hear_lines(alloc, counter, Tap::new(lines), &mut writer, whole);
+    let ended = hear_lines(alloc, counter, lines, &mut writer, whole);
     let (sent, unread) = match outlet.try_borrow_mut() {
         Ok(mut outlet) => (outlet.send(), outlet.unread()),
         Err(_) => (Ok(()), None),

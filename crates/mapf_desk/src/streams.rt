@@ -1,7 +1,15 @@
 //! Standard input and output, joined: what was answered goes out before the program waits for more.
 //! The system's reason for the first failure of each is kept.
+ghost use Rattle.std.specs.Prelude.{None, ⊤};
+
+use desk_report::{ReadFailed, Source};
+use grid_cells::OutOfMemory;
+use std::alloc::Global;
 use std::cell::RefCell;
 use std::io::{BufWriter, Error, ErrorKind, Read, Result, Write};
+
+// How many bytes are read at once, at most.
+const BUFFER: usize = 8192;
 
 /// Answers on their way out, in a buffer.
 #[derive(Drop)]
@@ -83,26 +91,70 @@ impl<W: Write + Drop> Write for Answers<'_, W> {
     }
 }
 
-/// The lines' end of the joined streams: before it reads on, it sends what was answered.
+/// The lines' end of the joined streams, with a buffer: before it reads on, it sends what was
+/// answered. A read that was interrupted is made again.
 #[derive(Drop)]
 pub struct Lines<'a, R: Read + Drop, W: Write + Drop> {
     reader: R,
     outlet: &'a RefCell<Outlet<W>>,
+    buffer: Vec<u8>,
+    // The bytes that are still to be given stand from `next` to `end` in the buffer.
+    next: usize,
+    end: usize,
+    failed: bool,
 }
 
 impl<'a, R: Read + Drop, W: Write + Drop> Lines<'a, R, W> {
-    pub fn new(reader: R, outlet: &'a RefCell<Outlet<W>>) -> Lines<'a, R, W> {
-        Lines { reader, outlet }
+    /// The lines' end over that reader.
+    ///
+    /// # Errors
+    ///
+    /// Want of memory for the buffer.
+    pub fn new(
+        alloc: Global,
+        reader: R,
+        outlet: &'a RefCell<Outlet<W>>,
+    ) -> core::result::Result<Lines<'a, R, W>, OutOfMemory> {
+        let Ok(buffer) = vec![in alloc; 0; BUFFER] else {
+            drop(reader);
+            return Err(OutOfMemory);
+        };
+        Ok(Lines {
+            reader,
+            outlet,
+            buffer,
+            next: 0,
+            end: 0,
+            failed: false,
+        })
     }
-}
 
-impl<R: Read + Drop, W: Write + Drop> Read for Lines<'_, R, W> {
-    fn read(&mut self, buffer: &mut [u8]) -> Result<usize> {
+    // Reads on into the buffer, and answers whether that went well.
+    fn fill(&mut self) -> bool {
+        for _ in 0..u64::MAX {
+            match self.read() {
+                Ok(count) => {
+                    self.next = 0;
+                    self.end = count;
+                    return true;
+                }
+                Err(why) => {
+                    if why.kind() != ErrorKind::Interrupted {
+                        break;
+                    }
+                }
+            }
+        }
+        false
+    }
+
+    // Reads once, and answers how many bytes came.
+    fn read(&mut self) -> Result<usize> {
         match self.outlet.try_borrow_mut() {
             Ok(mut outlet) => outlet.send()?,
             Err(_) => return Err(ErrorKind::Other.into()),
         }
-        let read = self.reader.read(buffer);
+        let read = self.reader.read(&mut self.buffer);
         if let Err(why) = read {
             if why.kind() != ErrorKind::Interrupted {
                 if let Ok(mut outlet) = self.outlet.try_borrow_mut() {
@@ -111,5 +163,26 @@ impl<R: Read + Drop, W: Write + Drop> Read for Lines<'_, R, W> {
             }
         }
         read
+    }
+}
+
+impl<R: Read + Drop, W: Write + Drop> Source for Lines<'_, R, W> {
+    ghost left = { λ _. None };
+
+    ghost failed = { λ lines. lines.failed };
+
+    ghost gives = { λ _ _ _. ⊤ };
+
+    fn next_byte(&mut self) -> core::result::Result<Option<u8>, ReadFailed> {
+        if self.next >= self.end && !self.fill() {
+            self.failed = true;
+            return Err(ReadFailed);
+        }
+        if self.next >= self.end {
+            return Ok(None);
+        }
+        let byte = self.buffer.get(self.next).copied();
+        self.next = self.next.saturating_add(1);
+        Ok(byte)
     }
 }
