@@ -114,7 +114,7 @@ impl<'a, R: Read + Drop, W: Write + Drop> Lines<'a, R, W> {
         alloc: Global,
         reader: R,
         outlet: &'a RefCell<Outlet<W>>,
-    ) -> core::result::Result<Lines<'a, R, W>, OutOfMemory> {
+    ) -> std::result::Result<Lines<'a, R, W>, OutOfMemory> {
         let Ok(buffer) = vec![in alloc; 0; BUFFER] else {
             drop(reader);
             return Err(OutOfMemory);
@@ -173,7 +173,7 @@ impl<R: Read + Drop, W: Write + Drop> Source for Lines<'_, R, W> {
 
     ghost gives = { λ _ _ _. ⊤ };
 
-    fn next_byte(&mut self) -> core::result::Result<Option<u8>, ReadFailed> {
+    fn next_byte(&mut self) -> std::result::Result<Option<u8>, ReadFailed> {
         if self.next >= self.end && !self.fill() {
             self.failed = true;
             return Err(ReadFailed);
