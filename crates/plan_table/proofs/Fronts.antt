@@ -1,16 +1,12 @@
 -- Two paths that begin alike.
-use Rattle.std.proofs.Common.{◌≡◌, ℕ, zero, suc, ◌<◌, ◌≤◌, min, List, [], ◌∷◌, length, sym, refl, ap, ◌∙◌, arith}
+use Rattle.std.proofs.lemmas.Bool.Decides.{nat_tests}
+use Rattle.std.proofs.Common.{◌≡◌, ℕ, zero, suc, ◌<◌, ◌≤◌, min, List, [], ◌∷◌, length, sym, refl, ◌∙◌, arith}
 use Rattle.std.specs.List.{slice_get}
 use Rattle.std.specs.Prelude.{take}
-use Rattle.std.proofs.lemmas.Option.{same_Some}
+use Rattle.std.proofs.lemmas.Option.{same_Some, gets}
+use Rattle.std.proofs.lemmas.Grind.{common_steps}
 use Rattle.grid_cells.specs.Cell.{Point}
 use Rattle.plan_table.specs.Path.{place, last_index, SamePlaces, IsSameFront}
-
-in_front : {X : Type 0} (many : ℕ) (list : List X) (k : ℕ) → k < many → slice_get (take many list) k ≡ slice_get list k
-in_front zero list k within = absurd (omega arith)
-in_front (suc many) [] k within = refl
-in_front (suc many) (x ∷ list) zero within = refl
-in_front (suc many) (x ∷ list) (suc k) within = in_front many list k (omega arith)
 
 -- below its length a path has its own cell as its place
 place_within : (path : List Point) (time : ℕ) → time < length path → place path time ≡ slice_get path time
@@ -32,7 +28,4 @@ alike_front one other many in_one in_other same =
 
 -- the places are the same below the length of the common front
 pub same_places : (one other : List Point) (many : ℕ) → IsSameFront one other many → SamePlaces one other many
-same_places one other many front time within =
-    let first : place one time ≡ slice_get one time = place_within one time (omega (arith, front.one_within)) in
-    let second : place other time ≡ slice_get other time = place_within other time (omega (arith, front.other_within)) in
-    first ∙ sym (in_front many one time within) ∙ ap (λ cells. slice_get cells time) front.same ∙ in_front many other time within ∙ sym second
+same_places one other many front time within = grind (arith, nat_tests, common_steps, gets)

@@ -1,4 +1,3 @@
-pub mod Waits
 pub mod Rows
 pub mod Order
 pub mod Fleets

@@ -1,8 +1,9 @@
-use Rattle.std.proofs.Common.{◌≡◌, ◌+◌, ◌-◌, Some, refl, arith}
+use Rattle.std.proofs.lemmas.Option.{gets}
+use Rattle.std.proofs.lemmas.Grind.{common_steps}
+use Rattle.std.proofs.Common.{◌≡◌, ◌+◌, ◌-◌, refl, arith}
 use Rattle.std.proofs.Math.Seq.{take-add}
-use Rattle.std.proofs.lemmas.Option.{slice_get_read}
 use Rattle.std.proofs.lemmas.Bool.Decides.{nat_tests}
-use Rattle.std.specs.List.{slice_get, slice_range}
+use Rattle.std.specs.List.{slice_range}
 use Rattle.plan_table.proofs.Fronts.{alike_front}
 use Rattle.plan_table.proofs.paths.same_front.Goals as goal
 
@@ -23,15 +24,4 @@ loop-front-preserved c =
     }
 
 pub returns-else-eq : goal.returns-else-eq
-returns-else-eq c = record {
-  one_within = omega arith;
-  other_within = omega arith;
-  same = c.loop-front-2.invariant.same;
-  apart = λ in_one in_other alike.
-      let left : slice_get c.args.one.now c.loop-front-2.front ≡ Some c.index-one-front.result = slice_get_read _ _ _ _ refl in_one c.index-one-front.is in
-      let right : slice_get c.args.other.now c.loop-front-2.front ≡ Some c.index-other-front.result = slice_get_read _ _ _ _ refl in_other c.index-other-front.is in
-      let same : c.index-one-front.result ≡ c.index-other-front.result = cc in
-      let columns : c.index-one-front.result.x ≡ c.index-other-front.result.x = cc in
-      let rows : c.index-one-front.result.y ≡ c.index-other-front.result.y = cc in
-      grind (arith, nat_tests);
-}
+returns-else-eq c = grind (arith, nat_tests, common_steps, gets)
