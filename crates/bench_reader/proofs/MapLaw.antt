@@ -1,6 +1,8 @@
 -- The first fault of a map's text, computed, and that it is the one fault of the definition.
+use Rattle.std.proofs.lemmas.Bool.Decides.{nat_tests}
+use Rattle.std.proofs.lemmas.Grind.{common_steps}
 use Rattle.std.proofs.Common.{◌≡◌, ◌≢◌, ◌-◌, ◌⊎◌, inl, inr, ℕ, zero, suc, ◌+◌, ◌*◌, Bool, true, false, ◌&&◌, cond, nat_lt, nat_le, Option, Some, None, List, [], ◌∷◌, ◌++◌, length, take, drop, map, flat_map, All, IsSome, refl, ap, sym, ◌∙◌, arith}
-use Rattle.std.proofs.lemmas.Bool.{le-leb, leb-true, le-ltb, lt-ltb}
+use Rattle.std.proofs.lemmas.Bool.{and_parts, le-leb, leb-true, le-ltb, lt-ltb}
 use Rattle.std.proofs.lemmas.List.{map-append}
 use Rattle.std.proofs.lemmas.List.Elements.{All-head, All-tail}
 use Rattle.std.proofs.lemmas.List.Folds.{list_all-append}
@@ -55,10 +57,6 @@ fault_of true (Some height) (Some width) true body = cond (is_size width height)
 abbrev pub first_fault : List (List ℕ) → Option MapFault
 first_fault lines = fault_of (is_title (words_at lines 0)) (height_of lines) (width_of lines) (is_marker (words_at lines 3)) (drop 4 lines)
 
-both : (a b : Bool) → (a && b) ≡ true → (a ≡ true) × (b ≡ true)
-both true b h = (refl, h)
-both false b h = absurd (cc)
-
 pick-some : {A : Type 0} (o : Option Bool) (x y : A) → is_some o ≡ true → pick o x y ≡ y
 pick-some None x y h = absurd (cc)
 pick-some (Some b) x y h = refl
@@ -72,7 +70,7 @@ nothing_there h = cc
 bad_from-none : (row col : ℕ) (letters : List ℕ) → list_all is_some (map state_of letters) ≡ true → bad_from row col letters ≡ None
 bad_from-none row col [] good = refl
 bad_from-none row col (letter ∷ letters) good =
-    let parts = both (is_some (state_of letter)) (list_all is_some (map state_of letters)) good in
+    let parts = and_parts (is_some (state_of letter)) (list_all is_some (map state_of letters)) good in
     pick-some (state_of letter) (Some (BadLetter row col)) (bad_from row (col + 1) letters) parts.0 ∙ bad_from-none row (col + 1) letters parts.1
 
 letters_fault-none : (width row : ℕ) (letters : List ℕ) → length letters ≡ width → list_all is_some (map state_of letters) ≡ true → letters_fault width row letters ≡ None
@@ -84,7 +82,7 @@ skip_rows width height row [] tail wide good = let count : 0 + height ≡ height
 skip_rows width height row (line ∷ above) tail wide good =
     let split : list_all is_some (map state_of (row_of line)) && list_all is_some (map state_of (flat_map row_of above)) ≡ true =
     sym (ap (list_all is_some) (map-append state_of (row_of line) (flat_map row_of above)) ∙ list_all-append is_some (map state_of (row_of line)) (map state_of (flat_map row_of above))) ∙ good in
-    let parts = both (list_all is_some (map state_of (row_of line))) (list_all is_some (map state_of (flat_map row_of above))) split in
+    let parts = and_parts (list_all is_some (map state_of (row_of line))) (list_all is_some (map state_of (flat_map row_of above))) split in
     let count : suc (length above) + height ≡ suc (length above + height) = omega arith in
     let place : row + 1 + length above ≡ row + suc (length above) = omega arith in
     ap (λ n. rows_fault width n row (line ∷ (above ++ tail))) count
@@ -101,11 +99,7 @@ good_letters width rows flags good = ap (list_all is_some) good.letters ∙ some
 
 bad_from-first : (row k : ℕ) (letters : List ℕ) (col letter : ℕ) → All (λ letter. IsSome (state_of letter)) (take col letters) → slice_get letters col ≡ Some letter → state_of letter ≡ None → bad_from row k letters ≡ Some (BadLetter row (k + col))
 bad_from-first row k [] col letter before there none = absurd (cc)
-bad_from-first row k (first ∷ letters) zero letter before there none =
-    let same : first ≡ letter = cc in
-    let state : state_of first ≡ None = ap state_of same ∙ none in
-    let place : k + 0 ≡ k = omega arith in
-    ap (λ o. pick o (Some (BadLetter row k)) (bad_from row (k + 1) letters)) state ∙ rw place refl
+bad_from-first row k (first ∷ letters) zero letter before there none = grind (arith, nat_tests, common_steps)
 bad_from-first row k (first ∷ letters) (suc col) letter before there none =
     let place : k + 1 + col ≡ k + suc col = omega arith in
     pick-some (state_of first) (Some (BadLetter row k)) (bad_from row (k + 1) letters) (is_some_from (state_of first) (All-head (λ letter. IsSome (state_of letter)) first (take col letters) before))
@@ -115,10 +109,7 @@ bad_from-first row k (first ∷ letters) (suc col) letter before there none =
 row_fault-is : (width row : ℕ) (letters : List ℕ) (fault : MapFault) → IsRowFault width row letters fault → letters_fault width row letters ≡ Some fault
 row_fault-is width row letters (ShortRow at) is = rw (lt-ltb (length letters) width is.1, is.0) refl
 row_fault-is width row letters (LongRow at) is = rw (le-ltb (length letters) width (omega (arith, is.1)), lt-ltb width (length letters) is.1, is.0) refl
-row_fault-is width row letters (BadLetter at col) is =
-    let place : 0 + col ≡ col = omega arith in
-    rw (le-ltb (length letters) width (omega (arith, is.1)), le-ltb width (length letters) (omega (arith, is.1)), is.0)
-    (bad_from-first row 0 letters col is.2.letter is.2.before is.2.there is.2.none ∙ ap (λ n. Some (BadLetter row n)) place)
+row_fault-is width row letters (BadLetter at col) is = grind (arith, nat_tests, common_steps, le-ltb, bad_from-first)
 row_fault-is width row letters NotOctile is = absurd is
 row_fault-is width row letters (BadHeader line) is = absurd is
 row_fault-is width row letters BadSize is = absurd is
@@ -153,15 +144,13 @@ rows_fault-past grid body tail begins =
 extra_fault-none : (number : ℕ) (tail : List (List ℕ)) → list_all is_blank_line tail ≡ true → extra_fault number tail ≡ None
 extra_fault-none number [] blank = refl
 extra_fault-none number (line ∷ tail) blank =
-    let parts = both (is_blank_line line) (list_all is_blank_line tail) blank in
+    let parts = and_parts (is_blank_line line) (list_all is_blank_line tail) blank in
     ap (λ b. cond b (extra_fault (number + 1) tail) (Some (ExtraLine number))) parts.0 ∙ extra_fault-none (number + 1) tail parts.1
 
 extra_fault-first : (number : ℕ) (blanks rest : List (List ℕ)) (line : List ℕ) → list_all is_blank_line blanks ≡ true → is_blank_line line ≡ false → extra_fault number (blanks ++ line ∷ rest) ≡ Some (ExtraLine (number + length blanks))
-extra_fault-first number [] rest line blank written =
-    let place : number + 0 ≡ number = omega arith in
-    ap (λ b. cond b (extra_fault (number + 1) rest) (Some (ExtraLine number))) written ∙ rw place refl
+extra_fault-first number [] rest line blank written = grind (arith, nat_tests, common_steps)
 extra_fault-first number (first ∷ blanks) rest line blank written =
-    let parts = both (is_blank_line first) (list_all is_blank_line blanks) blank in
+    let parts = and_parts (is_blank_line first) (list_all is_blank_line blanks) blank in
     let place : number + 1 + length blanks ≡ number + suc (length blanks) = omega arith in
     ap (λ b. cond b (extra_fault (number + 1) (blanks ++ line ∷ rest)) (Some (ExtraLine number))) parts.0
     ∙ extra_fault-first (number + 1) blanks rest line parts.1 written
@@ -171,37 +160,16 @@ size_yes : (width height : ℕ) → IsSize width height → is_size width height
 size_yes width height is = rw (le-leb 1 width is.wide, le-leb 1 height is.high, le-leb width MOST_SIDE is.width_most, le-leb height MOST_SIDE is.height_most, le-leb (width * height) MOST_CELLS is.cells_most) refl
 
 size_from : (width height : ℕ) → is_size width height ≡ true → IsSize width height
-size_from width height holds =
-    let cells = both (nat_le 1 width && nat_le 1 height && nat_le width MOST_SIDE && nat_le height MOST_SIDE) (nat_le (width * height) MOST_CELLS) holds in
-    let tall = both (nat_le 1 width && nat_le 1 height && nat_le width MOST_SIDE) (nat_le height MOST_SIDE) cells.0 in
-    let broad = both (nat_le 1 width && nat_le 1 height) (nat_le width MOST_SIDE) tall.0 in
-    let some = both (nat_le 1 width) (nat_le 1 height) broad.0 in
-    record {
-      wide = leb-true 1 width some.0;
-      high = leb-true 1 height some.1;
-      width_most = leb-true width MOST_SIDE broad.1;
-      height_most = leb-true height MOST_SIDE tall.1;
-      cells_most = leb-true (width * height) MOST_CELLS cells.1;
-    }
+size_from width height holds = grind (arith, nat_tests, common_steps, and_parts, leb-true)
 
 size_no : (width height : ℕ) → (IsSize width height → ⊥) → is_size width height ≡ false
-size_no width height never = answer (is_size width height) refl
-  where
-    answer : (b : Bool) → is_size width height ≡ b → b ≡ false
-    answer true holds = absurd (never (size_from width height holds))
-    answer false holds = refl
+size_no width height never = grind (arith, nat_tests, common_steps, size_from)
 
 good_header : (lines : List (List ℕ)) (height width : ℕ) → IsHeader lines height width → first_fault lines ≡ cond (is_size width height) (rows_fault width height 0 (drop 4 lines)) (Some BadSize)
-good_header lines height width header =
-    ap (λ title. fault_of title (height_of lines) (width_of lines) (is_marker (words_at lines 3)) (drop 4 lines)) header.title
-    ∙ ap (λ high. fault_of true high (width_of lines) (is_marker (words_at lines 3)) (drop 4 lines)) header.high
-    ∙ ap (λ wide. fault_of true (Some height) wide (is_marker (words_at lines 3)) (drop 4 lines)) header.wide
-    ∙ ap (λ marker. fault_of true (Some height) (Some width) marker (drop 4 lines)) header.marker
+good_header lines height width header = grind (arith, nat_tests, common_steps)
 
 good_size : (lines : List (List ℕ)) (size : Extent) → HasSize lines size → first_fault lines ≡ rows_fault size.width size.height 0 (drop 4 lines)
-good_size lines size has =
-    good_header lines size.height size.width has.header
-    ∙ ap (λ b. cond b (rows_fault size.width size.height 0 (drop 4 lines)) (Some BadSize)) (size_yes size.width size.height has.lawful)
+good_size lines size has = grind (arith, nat_tests, common_steps, good_header, size_yes)
 
 bad_header : (high wide : Option ℕ) (marker : Bool) (body : List (List ℕ)) (number : ℕ) → ((number ≡ 2) × (high ≡ None)) ⊎ ((number ≡ 3) × IsSome high × (wide ≡ None)) ⊎ ((number ≡ 4) × IsSome high × IsSome wide × (marker ≡ false)) → fault_of true high wide marker body ≡ Some (BadHeader number)
 bad_header high wide marker body number (inl is) = rw (is.1, is.0) refl
@@ -217,12 +185,8 @@ bad_row lines fault bad = good_size lines bad.0 bad.1 ∙ rows_fault-is bad.0 (d
 -- a fault of the definition is the first one
 pub fault_is : (lines : List (List ℕ)) (fault : MapFault) → fault ≢ OutOfMemory → IsMapFault lines fault → first_fault lines ≡ Some fault
 fault_is lines NotOctile other is = ap (λ title. fault_of title (height_of lines) (width_of lines) (is_marker (words_at lines 3)) (drop 4 lines)) is
-fault_is lines (BadHeader number) other is =
-    ap (λ title. fault_of title (height_of lines) (width_of lines) (is_marker (words_at lines 3)) (drop 4 lines)) is.title
-    ∙ bad_header (height_of lines) (width_of lines) (is_marker (words_at lines 3)) (drop 4 lines) number is.first
-fault_is lines BadSize other is =
-    good_header lines is.height is.width is.header
-    ∙ ap (λ b. cond b (rows_fault is.width is.height 0 (drop 4 lines)) (Some BadSize)) (size_no is.width is.height is.unlawful)
+fault_is lines (BadHeader number) other is = grind (arith, nat_tests, common_steps, bad_header)
+fault_is lines BadSize other is = grind (arith, nat_tests, common_steps, good_header, size_no)
 fault_is lines (MissingRow row) other is = bad_row lines (MissingRow row) is
 fault_is lines (ShortRow row) other is = bad_row lines (ShortRow row) is
 fault_is lines (LongRow row) other is = bad_row lines (LongRow row) is
@@ -263,18 +227,11 @@ same_flags (x ∷ xs) (y ∷ ys) same =
     cc
 
 same_chart : (a b : Chart) → a.size.width ≡ b.size.width → a.size.height ≡ b.size.height → a.flags ≡ b.flags → a ≡ b
-same_chart a b wide high flags =
-    let chart : ℕ → ℕ → List Bool → Chart = λ w h f. record { size = record { width = w; height = h }; flags = f } in
-    ap (λ w. chart w a.size.height a.flags) wide ∙ ap (λ h. chart b.size.width h a.flags) high ∙ ap (λ f. chart b.size.width b.size.height f) flags
+same_chart a b wide high flags = grind (arith, nat_tests, common_steps)
 
 same_some : {A : Type 0} (x y : A) (o : Option A) → o ≡ Some x → o ≡ Some y → x ≡ y
 same_some x y o p q = cc
 
 -- the lines are those of one map
 pub one_grid : (lines : List (List ℕ)) (a b : Chart) → AreMapLines lines a → AreMapLines lines b → a ≡ b
-one_grid lines a b p q =
-    let wide : a.size.width ≡ b.size.width = same_some a.size.width b.size.width (width_of lines) p.size.header.wide q.size.header.wide in
-    let high : a.size.height ≡ b.size.height = same_some a.size.height b.size.height (height_of lines) p.size.header.high q.size.header.high in
-    let rows : p.rows.rows ≡ q.rows.rows = same_front p.rows.rows q.rows.rows p.tail q.tail (p.rows.high ∙ high ∙ sym q.rows.high) (sym p.rows.split ∙ q.rows.split) in
-    let flags : map Some a.flags ≡ map Some b.flags = sym p.rows.good.letters ∙ ap (λ rows. map state_of (flat_map row_of rows)) rows ∙ q.rows.good.letters in
-    same_chart a b wide high (same_flags a.flags b.flags flags)
+one_grid lines a b p q = grind (arith, nat_tests, common_steps, same_some, same_front, same_chart, same_flags)

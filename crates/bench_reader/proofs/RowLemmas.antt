@@ -1,18 +1,17 @@
 -- Rows read so far, letter by letter and line by line.
-use Rattle.std.proofs.Common.{◌≡◌, ℕ, ◌+◌, ◌*◌, ◌<◌, Bool, Option, Some, None, List, [], ◌∷◌, ◌++◌, length, get_or, take, map, flat_map, All, IsSome, refl, ap, sym, ◌∙◌, rules, arith, add-one, append_assoc, suc, zero-mul, mul_comm}
+use Rattle.std.proofs.lemmas.Bool.Decides.{nat_tests}
+use Rattle.std.proofs.lemmas.Grind.{common_steps}
+use Rattle.std.proofs.Common.{◌≡◌, ℕ, ◌+◌, ◌*◌, ◌<◌, Bool, Option, Some, None, List, [], ◌∷◌, ◌++◌, length, get_or, take, map, flat_map, All, IsSome, ap, sym, ◌∙◌, rules, arith, add-one, append_assoc, suc}
 use Rattle.std.proofs.Math.Seq.{take-suc, take-suc-set}
 use Rattle.std.proofs.Math.ListN.{set, length-set}
 use Rattle.std.specs.Option.{SomeIff}
-use Rattle.std.proofs.lemmas.List.{map-append, append-nil, length-append, take_all}
+use Rattle.std.proofs.lemmas.List.{map-append, append-nil, length-append}
 use Rattle.std.proofs.lemmas.List.Elements.{All-push}
 use Rattle.std.proofs.lemmas.List.Concat.{flat_map-append}
-use Rattle.grid_cells.specs.Size.{Extent}
 use Rattle.grid_cells.specs.Cell.{Point, point}
 use Rattle.grid_cells.specs.Grid.{Chart, flag_index, with_cell}
 use Rattle.bench_reader.specs.Lines.{row_of}
-use Rattle.bench_reader.specs.Letters.{state_of, BeginsWithRows}
-use Rattle.bench_reader.specs.RowFaults.{IsPlaceFault, IsRowsFault}
-use Rattle.bench_reader.specs.declared.maps.MapFault.{MapFault}
+use Rattle.bench_reader.specs.Letters.{state_of}
 
 -- the letters up to a column are good
 pub good_more : (letters : List ℕ) (col : ℕ) → col < length letters → All (λ letter. IsSome (state_of letter)) (take col letters) → IsSome (state_of (get_or letters col 0)) → All (λ letter. IsSome (state_of letter)) (take (suc col) letters)
@@ -20,15 +19,7 @@ good_more letters col within good next = rw (take-suc letters col 0) (All-push (
 
 -- one more letter has its flag
 pub letter_more : (before letters : List ℕ) (flags : List Bool) (k col : ℕ) (free : Bool) → k < length flags → col < length letters → state_of (get_or letters col 0) ≡ Some free → map state_of (before ++ take col letters) ≡ map Some (take k flags) → map state_of (before ++ take (suc col) letters) ≡ map Some (take (suc k) (set flags k free))
-letter_more before letters flags k col free room within says same =
-    let letter : ℕ = get_or letters col 0 in
-    let left : map state_of (before ++ take (suc col) letters) ≡ map state_of (before ++ take col letters) ++ state_of letter ∷ [] =
-    ap (λ front. map state_of (before ++ front)) (take-suc letters col 0 within)
-    ∙ ap (map state_of) (sym (append_assoc before (take col letters) (letter ∷ [])))
-    ∙ map-append state_of (before ++ take col letters) (letter ∷ []) in
-    let right : map Some (take (suc k) (set flags k free)) ≡ map Some (take k flags) ++ Some free ∷ [] =
-    ap (map Some) (take-suc-set flags k free room) ∙ map-append Some (take k flags) (free ∷ []) in
-    left ∙ ap (λ states. states ++ state_of letter ∷ []) same ∙ ap (λ state. map Some (take k flags) ++ state ∷ []) says ∙ sym right
+letter_more before letters flags k col free room within says same = grind (arith, nat_tests, common_steps, take-suc, map-append, take-suc-set)
 
 pub some_value : {T : Type 0} (found : Option T) (P : Type 0) (value x : T) → SomeIff found P value → found ≡ Some x → x ≡ value
 some_value None P value x is same = absurd (cc)
@@ -42,11 +33,7 @@ count_kept grid new cell free set_to = ap (λ chart. length chart.flags) set_to 
 
 -- one more cell is set
 pub cell_more : (grid new : Chart) (width : ℕ) (cell : Point) (free : Bool) (row col : ℕ) (before letters : List ℕ) → grid.size.width ≡ width → cell ≡ point col row → new ≡ with_cell grid cell free → row * width + col < length grid.flags → col < length letters → state_of (get_or letters col 0) ≡ Some free → map state_of (before ++ take col letters) ≡ map Some (take (row * width + col) grid.flags) → map state_of (before ++ take (col + 1) letters) ≡ map Some (take (row * width + (col + 1)) new.flags)
-cell_more grid new width cell free row col before letters wide place set_to room within says same =
-    let index : flag_index grid.size cell ≡ row * width + col = rw (place, wide) refl in
-    let flags : new.flags ≡ set grid.flags (row * width + col) free = ap (λ chart. chart.flags) set_to ∙ ap (λ k. set grid.flags k free) index in
-    let next : row * width + (col + 1) ≡ suc (row * width + col) = omega arith in
-    rw (next, flags, add-one) (letter_more before letters grid.flags (row * width + col) col free room within says same)
+cell_more grid new width cell free row col before letters wide place set_to room within says same = grind (arith, nat_tests, common_steps, add-one, letter_more)
 
 -- the rows above, whose letters are the flags so far, and the lines left
 pub record RowsSoFar (width : ℕ) (body rest : List (List ℕ)) (flags : List Bool) (row : ℕ) : Type 0 where
@@ -55,9 +42,6 @@ pub record RowsSoFar (width : ℕ) (body rest : List (List ℕ)) (flags : List B
   pub high : length above ≡ row
   pub widths : All (λ line. length (row_of line) ≡ width) above
   pub letters : map state_of (flat_map row_of above) ≡ map Some (take (row * width) flags)
-
-pub rows_start : (width : ℕ) (body : List (List ℕ)) (flags : List Bool) → RowsSoFar width body body flags 0
-rows_start width body flags = record { above = []; split = refl; high = refl; widths = search rules; letters = rw zero-mul refl }
 
 pub rows_more : (width : ℕ) (body rest behind : List (List ℕ)) (line : List ℕ) (old new : List Bool) (row : ℕ) → RowsSoFar width body rest old row → rest ≡ line ∷ behind → length (row_of line) ≡ width → ((before : List ℕ) → map state_of before ≡ map Some (take (row * width) old) → map state_of (before ++ row_of line) ≡ map Some (take ((row + 1) * width) new)) → RowsSoFar width body behind new (row + 1)
 rows_more width body rest behind line old new row so_far split wide flags = record {
@@ -68,23 +52,4 @@ rows_more width body rest behind line old new row so_far split wide flags = reco
   letters =
       ap (map state_of) (flat_map-append row_of so_far.above (line ∷ []) ∙ ap (λ letters. flat_map row_of so_far.above ++ letters) (append-nil (row_of line)))
       ∙ flags (flat_map row_of so_far.above) so_far.letters;
-}
-
-pub rows_fault : (size : Extent) (body rest : List (List ℕ)) (flags : List Bool) (row : ℕ) (fault : MapFault) → RowsSoFar size.width body rest flags row → row < size.height → IsPlaceFault size.width row rest fault → IsRowsFault size body fault
-rows_fault size body rest flags row fault so_far within first = record {
-  above = so_far.above;
-  below = rest;
-  flags = take (row * size.width) flags;
-  split = so_far.split;
-  good = record { widths = so_far.widths; letters = so_far.letters };
-  within = omega (arith, so_far.high);
-  first = rw so_far.high first;
-}
-
-pub rows_done : (grid : Chart) (body rest : List (List ℕ)) → length grid.flags ≡ grid.size.width * grid.size.height → RowsSoFar grid.size.width body rest grid.flags grid.size.height → BeginsWithRows grid body rest
-rows_done grid body rest count so_far = record {
-  rows = so_far.above;
-  split = so_far.split;
-  high = so_far.high;
-  good = record { widths = so_far.widths; letters = so_far.letters ∙ ap (map Some) (take_all (grid.size.height * grid.size.width) grid.flags (omega (arith, count, mul_comm grid.size.width grid.size.height))) };
 }

@@ -1,10 +1,14 @@
 -- The first fault of a scenario's text, computed, and that it is the one fault of the definition.
+use Rattle.std.proofs.lemmas.Bool.Decides.{nat_tests}
+use Rattle.std.proofs.lemmas.Grind.{common_steps}
+use Rattle.std.proofs.Math.Bool.{and-false}
+use Rattle.std.proofs.lemmas.List.{append-nil}
+use Rattle.std.proofs.lemmas.Bool.{not-true}
 use Rattle.std.proofs.Common.{◌≡◌, ◌≢◌, inl, inr, ℕ, suc, ◌+◌, Bool, true, false, not, ◌&&◌, cond, nat_eq, nat_lt, Option, Some, None, List, [], ◌∷◌, ◌++◌, length, drop, filter, unwrap_or, refl, ap, subst, sym, ◌∙◌, arith, eq-eqb}
 use Rattle.std.proofs.lemmas.Bool.{ne_eqb, le-ltb, lt-ltb}
 use Rattle.std.specs.Option.{is_none}
 use Rattle.std.specs.List.{find}
-use Rattle.grid_cells.specs.Cell.{Point, point}
-use Rattle.grid_cells.specs.Size.{Extent, Holds}
+use Rattle.grid_cells.specs.Size.{Extent}
 use Rattle.bench_reader.specs.Lines.{is_blank_line, line_at}
 use Rattle.bench_reader.specs.Words.{words_of}
 use Rattle.bench_reader.specs.ScenText.{is_version, is_written, number_at, AreFields, IsTaskLine, AreTaskLines, AreTasks, AreScenLines}
@@ -67,25 +71,14 @@ abbrev pub first_fault : Extent → List (List ℕ) → Option ScenFault
 first_fault size lines = cond (is_version (words_of (line_at lines 0))) (lines_fault size 2 (drop 1 lines)) (Some BadVersion)
 
 same_fields : (a b : Fields) → a.bucket ≡ b.bucket → a.width ≡ b.width → a.height ≡ b.height → a.start_x ≡ b.start_x → a.start_y ≡ b.start_y → a.goal_x ≡ b.goal_x → a.goal_y ≡ b.goal_y → a ≡ b
-same_fields a b p q r s t u v =
-    let of : ℕ → ℕ → ℕ → ℕ → ℕ → ℕ → ℕ → Fields = λ p q r s t u v. record { bucket = p; width = q; height = r; start_x = s; start_y = t; goal_x = u; goal_y = v } in
-    ap (λ n. of n a.width a.height a.start_x a.start_y a.goal_x a.goal_y) p
-    ∙ ap (λ n. of b.bucket n a.height a.start_x a.start_y a.goal_x a.goal_y) q
-    ∙ ap (λ n. of b.bucket b.width n a.start_x a.start_y a.goal_x a.goal_y) r
-    ∙ ap (λ n. of b.bucket b.width b.height n a.start_y a.goal_x a.goal_y) s
-    ∙ ap (λ n. of b.bucket b.width b.height b.start_x n a.goal_x a.goal_y) t
-    ∙ ap (λ n. of b.bucket b.width b.height b.start_x b.start_y n a.goal_y) u
-    ∙ ap (λ n. of b.bucket b.width b.height b.start_x b.start_y b.goal_x n) v
+same_fields a b p q r s t u v = grind (arith, nat_tests, common_steps)
 
 value : (o : Option ℕ) (n : ℕ) → o ≡ Some n → unwrap_or o 0 ≡ n
 value o n is = ap (λ o. unwrap_or o 0) is
 
 -- the fields of words are one
 fields_are : (words : List (List ℕ)) (fields : Fields) → AreFields words fields → fields_in words ≡ fields
-fields_are words fields are = same_fields (fields_in words) fields
-    (value (number_at words 1) fields.bucket are.bucket) (value (number_at words 3) fields.width are.width) (value (number_at words 4) fields.height are.height)
-    (value (number_at words 5) fields.start_x are.start_x) (value (number_at words 6) fields.start_y are.start_y)
-    (value (number_at words 7) fields.goal_x are.goal_x) (value (number_at words 8) fields.goal_y are.goal_y)
+fields_are words fields are = grind (arith, nat_tests, common_steps, same_fields, value)
 
 known : (o : Option ℕ) (n : ℕ) → o ≡ Some n → is_none o ≡ false
 known o n is = ap (λ o. is_none o) is
@@ -94,17 +87,10 @@ no_bad_field : (words : List (List ℕ)) (fields : Fields) → AreFields words f
 no_bad_field words fields are = rw (are.bucket, are.width, are.height, are.start_x, are.start_y, are.goal_x, are.goal_y) refl
 
 words_are : (size : Extent) (number : ℕ) (words : List (List ℕ)) (fields : Fields) → AreFields words fields → words_fault size number words ≡ size_fault size number fields
-words_are size number words fields are =
-    ap (λ b. cond b (number_fault size number words (bad_field words)) (Some (FieldCount number))) (eq-eqb (length words) 9 are.count)
-    ∙ ap (number_fault size number words) (no_bad_field words fields are)
-    ∙ ap (size_fault size number) (fields_are words fields are)
+words_are size number words fields are = grind (arith, nat_tests, common_steps, eq-eqb, no_bad_field, fields_are)
 
 size_same : (size : Extent) (number : ℕ) (fields : Fields) → fields.width ≡ size.width → fields.height ≡ size.height → size_fault size number fields ≡ off_map size number fields.start_x fields.start_y fields.goal_x fields.goal_y
 size_same size number fields wide high = rw (eq-eqb fields.width size.width wide, eq-eqb fields.height size.height high) refl
-
-and-false : (b : Bool) → (b && false) ≡ false
-and-false true = refl
-and-false false = refl
 
 size_other : (size : Extent) (number : ℕ) (fields : Fields) → IsOtherSize size fields → size_fault size number fields ≡ Some (SizeMismatch number)
 size_other size number fields (inl wide) = rw (ne_eqb fields.width size.width wide) refl
@@ -119,30 +105,17 @@ off_map-is size number field fields (inr (inr (inr is))) = rw (lt-ltb fields.sta
 line_fault-is : (size : Extent) (number : ℕ) (line : List ℕ) (fault : ScenFault) → IsLineFault size number line fault → line_fault size number line ≡ Some fault
 line_fault-is size number line BadVersion is = absurd is
 line_fault-is size number line (FieldCount at) is = rw (ne_eqb (length (words_of line)) 9 is.1, is.0) refl
-line_fault-is size number line (BadNumber at field) is =
-    ap (λ b. cond b (number_fault size number (words_of line) (bad_field (words_of line))) (Some (FieldCount number))) (eq-eqb (length (words_of line)) 9 is.1.0)
-    ∙ ap (number_fault size number (words_of line)) is.1.1
-    ∙ ap (λ n. Some (BadNumber n field)) (sym is.0)
-line_fault-is size number line (SizeMismatch at) is =
-    words_are size number (words_of line) is.1 is.2 ∙ size_other size number is.1 is.3 ∙ ap (λ n. Some (SizeMismatch n)) (sym is.0)
+line_fault-is size number line (BadNumber at field) is = grind (arith, nat_tests, common_steps, eq-eqb)
+line_fault-is size number line (SizeMismatch at) is = grind (arith, nat_tests, common_steps, words_are, size_other)
 line_fault-is size number line (OutOfMap at field) is =
     words_are size number (words_of line) is.1 is.2 ∙ size_same size number is.1 is.3 is.4 ∙ off_map-is size number field is.1 is.5 ∙ ap (λ n. Some (OutOfMap n field)) (sym is.0)
 line_fault-is size number line OutOfMemory is = absurd is
 
 task_line-none : (size : Extent) (number : ℕ) (line : List ℕ) (task : Task) → IsTaskLine size line task → line_fault size number line ≡ None
-task_line-none size number line task is =
-    let fields : Fields = is.fields in
-    let start : Holds size (point fields.start_x fields.start_y) = subst (Holds size) is.placed.start is.placed.start_held in
-    let goal : Holds size (point fields.goal_x fields.goal_y) = subst (Holds size) is.placed.goal is.placed.goal_held in
-    words_are size number (words_of line) fields is.words ∙ size_same size number fields is.width is.height
-    ∙ rw (lt-ltb fields.start_x size.width start.0, lt-ltb fields.start_y size.height start.1, lt-ltb fields.goal_x size.width goal.0, lt-ltb fields.goal_y size.height goal.1) refl
+task_line-none size number line task is = grind (arith, nat_tests, common_steps, words_are, size_same, lt-ltb)
 
 skip : (size : Extent) (number : ℕ) (line : List ℕ) (later : Option ScenFault) → line_fault size number line ≡ None → or_else (cond (is_blank_line line) None (line_fault size number line)) later ≡ later
-skip size number line later none = ap (λ fault. or_else (cond (is_blank_line line) None fault) later) none ∙ either (is_blank_line line)
-  where
-    either : (b : Bool) → or_else (cond b None None) later ≡ later
-    either true = refl
-    either false = refl
+skip size number line later none = grind (arith, nat_tests, common_steps)
 
 skip_lines : (size : Extent) (number : ℕ) (above tail : List (List ℕ)) (tasks : List Task) → AreTasks size above tasks → lines_fault size number (above ++ tail) ≡ lines_fault size (number + length above) tail
 skip_lines size number [] tail tasks good = let place : number + 0 ≡ number = omega arith in ap (λ n. lines_fault size n tail) (sym place)
@@ -162,17 +135,8 @@ skip_lines size number (line ∷ above) tail tasks good = go (λ tasks good. ski
         skip size number line (lines_fault size (number + 1) (above ++ tail)) (task_line-none size number line task both.0)
         ∙ later tasks both.1 ∙ ap (λ n. lines_fault size n tail) place
 
-not_blank : (b : Bool) → not b ≡ true → b ≡ false
-not_blank true h = absurd (cc)
-not_blank false h = refl
-
 bad_line : (size : Extent) (lines : List (List ℕ)) (fault : ScenFault) → IsBadLine size lines fault → first_fault size lines ≡ Some fault
-bad_line size lines fault bad =
-    ap (λ b. cond b (lines_fault size 2 (drop 1 lines)) (Some BadVersion)) bad.version
-    ∙ ap (lines_fault size 2) bad.split
-    ∙ skip_lines size 2 bad.above (bad.line ∷ bad.below) bad.tasks bad.good
-    ∙ ap (λ b. or_else (cond b None (line_fault size (2 + length bad.above) bad.line)) (lines_fault size (2 + length bad.above + 1) bad.below)) (not_blank (is_blank_line bad.line) bad.written)
-    ∙ ap (λ first. or_else first (lines_fault size (2 + length bad.above + 1) bad.below)) (line_fault-is size (2 + length bad.above) bad.line fault bad.first)
+bad_line size lines fault bad = grind (arith, nat_tests, common_steps, skip_lines, not-true, line_fault-is)
 
 -- a fault of the definition is the first one
 pub fault_is : (size : Extent) (lines : List (List ℕ)) (fault : ScenFault) → fault ≢ OutOfMemory → IsScenFault size lines fault → first_fault size lines ≡ Some fault
@@ -183,34 +147,19 @@ fault_is size lines (SizeMismatch at) other is = bad_line size lines (SizeMismat
 fault_is size lines (OutOfMap at field) other is = bad_line size lines (OutOfMap at field) is
 fault_is size lines OutOfMemory other is = absurd (other refl)
 
-append-nil : (lines : List (List ℕ)) → lines ++ [] ≡ lines
-append-nil [] = refl
-append-nil (line ∷ lines) = ap (λ lines. line ∷ lines) (append-nil lines)
-
 -- a scenario's lines have none
 pub no_fault : (size : Extent) (lines : List (List ℕ)) (tasks : List Task) → AreScenLines size lines tasks → first_fault size lines ≡ None
-no_fault size lines tasks is =
-    ap (λ b. cond b (lines_fault size 2 (drop 1 lines)) (Some BadVersion)) is.version
-    ∙ ap (lines_fault size 2) (sym (append-nil (drop 1 lines)))
-    ∙ skip_lines size 2 (drop 1 lines) [] tasks is.body
+no_fault size lines tasks is = grind (arith, nat_tests, append-nil (drop 1 lines), skip_lines size 2 (drop 1 lines))
 
 same_task : (a b : Task) → a.bucket ≡ b.bucket → a.start ≡ b.start → a.goal ≡ b.goal → a ≡ b
-same_task a b p q r =
-    let of : ℕ → Point → Point → Task = λ p q r. record { bucket = p; start = q; goal = r } in
-    ap (λ n. of n a.start a.goal) p ∙ ap (λ c. of b.bucket c a.goal) q ∙ ap (λ c. of b.bucket b.start c) r
+same_task a b p q r = grind (arith, nat_tests, common_steps)
 
 one_task : (size : Extent) (line : List ℕ) (a b : Task) → IsTaskLine size line a → IsTaskLine size line b → a ≡ b
-one_task size line a b p q =
-    let fields : p.fields ≡ q.fields = sym (fields_are (words_of line) p.fields p.words) ∙ fields_are (words_of line) q.fields q.words in
-    same_task a b
-    (p.placed.bucket ∙ ap (λ f. f.bucket) fields ∙ sym q.placed.bucket)
-    (p.placed.start ∙ ap (λ f. point f.start_x f.start_y) fields ∙ sym q.placed.start)
-    (p.placed.goal ∙ ap (λ f. point f.goal_x f.goal_y) fields ∙ sym q.placed.goal)
+one_task size line a b p q = grind (arith, nat_tests, common_steps, fields_are, same_task)
 
 -- lines are those of one list of tasks
 pub one_list : (size : Extent) (lines : List (List ℕ)) (a b : List Task) → AreTaskLines size lines a → AreTaskLines size lines b → a ≡ b
 one_list size [] a b p q = p ∙ sym q
 one_list size (line ∷ lines) [] b p q = absurd p
 one_list size (line ∷ lines) (x ∷ a) [] p q = absurd q
-one_list size (line ∷ lines) (x ∷ a) (y ∷ b) p q =
-    ap (λ x. x ∷ a) (one_task size line x y p.0 q.0) ∙ ap (λ a. y ∷ a) (one_list size lines a b p.1 q.1)
+one_list size (line ∷ lines) (x ∷ a) (y ∷ b) p q = grind (arith, nat_tests, common_steps, one_list size lines a b p.1 q.1, one_task)

@@ -1,13 +1,17 @@
 -- What is written, and that it reads as the map.
-use Rattle.std.proofs.Common.{◌≡◌, ◌<◌, ◌^◌, ℕ, zero, suc, ◌+◌, ◌-◌, ◌*◌, Bool, true, false, not, ◌&&◌, ◌==◌, Some, List, [], ◌∷◌, ◌++◌, length, get_or, take, drop, map, flat_map, codes, decimal, IsTrue, ◌↔◌, refl, ap, subst, sym, ◌∙◌, arith, rules, add-one, append_assoc, lt-ltb, zero-mul, suc-mul, mul_comm, one-mul, add-mul}
+use Rattle.std.proofs.lemmas.Bool.Decides.{nat_tests}
+use Rattle.std.proofs.lemmas.Grind.{common_steps}
+use Rattle.std.proofs.lemmas.Bool.{and_parts, not-true}
+use Rattle.std.proofs.lemmas.Option.{slice_get-get_or}
+use Rattle.std.proofs.lemmas.List.{nil_from_length}
+use Rattle.std.proofs.Common.{◌≡◌, ◌<◌, ◌^◌, ℕ, zero, suc, ◌+◌, ◌-◌, ◌*◌, Bool, true, false, not, ◌==◌, Some, List, [], ◌∷◌, ◌++◌, length, get_or, take, drop, map, flat_map, codes, decimal, IsTrue, ◌↔◌, refl, ap, subst, sym, ◌∙◌, arith, rules, add-one, append_assoc, lt-ltb, zero-mul, suc-mul, mul_comm, one-mul, add-mul}
 use Rattle.std.proofs.Math.Seq.{take-suc}
 use Rattle.std.proofs.lemmas.Bool.{ne_eqb, le-leb}
 use Rattle.std.proofs.lemmas.List.{map-append, append-nil, length-drop, length-take, length-map, get_or-drop, take-append-drop, drop-drop}
 use Rattle.std.proofs.lemmas.List.Elements.{All-cons}
 use Rattle.std.proofs.lemmas.Fmt.{decimal_is_IsNumeral}
 use Rattle.std.proofs.lemmas.Str.Parse.{digit_from_value}
-use Rattle.std.specs.List.{list_all, slice_get}
-use Rattle.std.specs.Int.{IsInRange}
+use Rattle.std.specs.List.{list_all}
 use Rattle.std.specs.Str.{all_ascii_digits}
 use Rattle.std.specs.Str.Parse.{AllDigits}
 use Rattle.grid_cells.specs.Cell.{Point}
@@ -31,11 +35,6 @@ letter_written text more flags k col free within so_far same =
     ∙ append_assoc text (map letter_of (take col rest)) (letter_of free ∷ [])
     ∙ ap (λ tail. text ++ tail) (sym (ap (map letter_of) row ∙ map-append letter_of (take col rest) (free ∷ [])))
 
-get-at : (flags : List Bool) (k : ℕ) → k < length flags → slice_get flags k ≡ Some (get_or flags k true)
-get-at [] k within = absurd (omega arith)
-get-at (flag ∷ flags) zero within = refl
-get-at (flag ∷ flags) (suc k) within = get-at flags k (omega arith)
-
 same_bool : (a b : Bool) → (a ≡ true → b ≡ true) → (b ≡ true → a ≡ true) → a ≡ b
 same_bool true b there back = sym (there refl)
 same_bool false true there back = back refl
@@ -43,11 +42,7 @@ same_bool false false there back = refl
 
 -- whether a cell is open is its flag
 pub flag_of : (grid : Chart) (cell : Point) (free : Bool) → Holds grid.size cell → flag_index grid.size cell < length grid.flags → (IsTrue free ↔ IsOpen grid cell) → free ≡ get_or grid.flags (flag_index grid.size cell) true
-flag_of grid cell free held within answer =
-    let at = get-at grid.flags (flag_index grid.size cell) within in
-    same_bool free (get_or grid.flags (flag_index grid.size cell) true)
-    (λ yes. let some : Some (get_or grid.flags (flag_index grid.size cell) true) ≡ Some true = sym at ∙ (answer.0 (search rules)).1 in cc)
-    (λ yes. let is : IsTrue free = answer.1 (held, at ∙ ap (λ flag. Some flag) yes) in search rules)
+flag_of grid cell free held within answer = grind (arith, nat_tests, common_steps, slice_get-get_or, same_bool)
 
 -- one more row is written
 pub row_written : (text more whole : List ℕ) (flags : List Bool) (width height row : ℕ) → row < height → more ≡ text ++ (map letter_of (take width (drop (row * width) flags)) ++ 10 ∷ []) → text ++ spelled (row_lines width (height - row) (drop (row * width) flags)) ≡ whole → more ++ spelled (row_lines width (height - (row + 1)) (drop ((row + 1) * width) flags)) ≡ whole
@@ -63,14 +58,6 @@ row_written text more whole flags width height row within wrote so_far =
     ap (λ n. spelled (row_lines width n rest)) count ∙ ap (λ flags. line ++ spelled (row_lines width left flags)) next in
     ap (λ more. more ++ tail) wrote ∙ append_assoc text line tail ∙ ap (λ rest. text ++ rest) (sym split) ∙ so_far
 
-both : (a b : Bool) → (a && b) ≡ true → (a ≡ true) × (b ≡ true)
-both true b h = (refl, h)
-both false b h = absurd (cc)
-
-no : (b : Bool) → not b ≡ true → b ≡ false
-no true h = absurd (cc)
-no false h = refl
-
 -- without a line feed
 abbrev plain : List ℕ → Bool
 plain line = list_all (λ byte. not (byte == 10)) line
@@ -78,37 +65,29 @@ plain line = list_all (λ byte. not (byte == 10)) line
 lines-line : (line rest : List ℕ) → plain line ≡ true → lines_of (line ++ 10 ∷ rest) ≡ line ∷ lines_of rest
 lines-line [] rest clean = refl
 lines-line (byte ∷ line) rest clean =
-    let parts = both (not (byte == 10)) (plain line) clean in
-    rw (no (byte == 10) parts.0) (ap (join_first byte) (lines-line line rest parts.1))
+    let parts = and_parts (not (byte == 10)) (plain line) clean in
+    rw (not-true (byte == 10) parts.0) (ap (join_first byte) (lines-line line rest parts.1))
 
 lines-spelled : (lines : List (List ℕ)) → list_all plain lines ≡ true → lines_of (spelled lines) ≡ lines
 lines-spelled [] clean = refl
 lines-spelled (line ∷ lines) clean =
-    let parts = both (plain line) (list_all plain lines) clean in
+    let parts = and_parts (plain line) (list_all plain lines) clean in
     ap lines_of (append_assoc line (10 ∷ []) (spelled lines)) ∙ lines-line line (spelled lines) parts.0 ∙ ap (λ lines. line ∷ lines) (lines-spelled lines parts.1)
 
 plain-digits : (digits : List ℕ) → AllDigits 10 digits → plain digits ≡ true
 plain-digits [] all = refl
-plain-digits (digit ∷ digits) all =
-    let range : IsInRange 48 57 digit = digit_from_value digit all.0 in
-    rw (ne_eqb digit 10 (λ same. omega arith), plain-digits digits all.1) refl
+plain-digits (digit ∷ digits) all = grind (arith, nat_tests, common_steps, plain-digits digits all.1, digit_from_value, ne_eqb)
 
 word-digits : (digits : List ℕ) → AllDigits 10 digits → list_all is_in_word digits ≡ true
 word-digits [] all = refl
-word-digits (digit ∷ digits) all =
-    let range : IsInRange 48 57 digit = digit_from_value digit all.0 in
-    rw (ne_eqb digit 32 (λ same. omega arith), ne_eqb digit 9 (λ same. omega arith), ne_eqb digit 13 (λ same. omega arith), word-digits digits all.1) refl
+word-digits (digit ∷ digits) all = grind (arith, nat_tests, common_steps, word-digits digits all.1, digit_from_value, ne_eqb)
 
 ascii-digits : (digits : List ℕ) → AllDigits 10 digits → all_ascii_digits digits ≡ true
 ascii-digits [] all = refl
-ascii-digits (digit ∷ digits) all =
-    let range : IsInRange 48 57 digit = digit_from_value digit all.0 in
-    rw (le-leb 48 digit range.0, le-leb digit 57 range.1, ascii-digits digits all.1) refl
+ascii-digits (digit ∷ digits) all = grind (arith, nat_tests, common_steps, ascii-digits digits all.1, digit_from_value, le-leb)
 
 number_of-decimal : (n : ℕ) → n < 2 ^ 32 → number_of (decimal n) ≡ Some n
-number_of-decimal n small =
-    let is = decimal_is_IsNumeral n (omega arith) in
-    rw (lt-ltb 0 (length (decimal n)) is.0.0, ascii-digits (decimal n) is.0.1, is.1, lt-ltb n (2 ^ 32) small) refl
+number_of-decimal n small = grind (arith, nat_tests, common_steps, decimal_is_IsNumeral, lt-ltb, ascii-digits)
 
 -- a label, a space and a number are two words
 words-label : (label : List ℕ) (n : ℕ) → 0 < length label → list_all is_in_word label ≡ true → n < 2 ^ 32 → words_of (label ++ 32 ∷ decimal n) ≡ label ∷ decimal n ∷ []
@@ -140,13 +119,9 @@ length-rows : (width height : ℕ) (flags : List Bool) → length (row_lines wid
 length-rows width zero flags = refl
 length-rows width (suc height) flags = ap suc (length-rows width height (drop width flags))
 
-nothing : {A : Type 0} (xs : List A) → length xs ≡ 0 → xs ≡ []
-nothing [] none = refl
-nothing (x ∷ xs) none = absurd (omega arith)
-
 -- the rows that are written read as the flags
 rows-read : (width height : ℕ) (flags : List Bool) → length flags ≡ height * width → AreRows width (row_lines width height flags) flags
-rows-read width zero flags count = rw (nothing flags (count ∙ zero-mul width)) (record { widths = search rules; letters = refl })
+rows-read width zero flags count = rw (nil_from_length flags (count ∙ zero-mul width)) (record { widths = search rules; letters = refl })
 rows-read width (suc height) flags count =
     let total : length flags ≡ height * width + width = count ∙ suc-mul height width in
     let below = rows-read width height (drop width flags) (omega (arith, length-drop width flags, total)) in

@@ -1,9 +1,10 @@
 -- How the first word of a line is found, and how a number is read digit by digit.
-use Rattle.std.proofs.Common.{◌≡◌, ℕ, zero, suc, ◌+◌, ◌*◌, ◌<◌, ◌≤◌, Bool, true, false, ◌&&◌, List, [], ◌∷◌, ◌++◌, length, get_or, take, drop, refl, ap, sym, ◌∙◌, arith, not, length-take, take-append-drop, None, nat_lt, le-ltb, ◌^◌}
+use Rattle.std.proofs.lemmas.Bool.Decides.{nat_tests}
+use Rattle.std.proofs.lemmas.Grind.{common_steps}
+use Rattle.std.proofs.Common.{◌≡◌, ℕ, zero, suc, ◌+◌, ◌*◌, ◌<◌, ◌≤◌, Bool, true, false, ◌&&◌, List, [], ◌∷◌, ◌++◌, length, get_or, take, drop, refl, ap, sym, ◌∙◌, arith, not, length-take, take-append-drop, None, le-ltb, ◌^◌}
 use Rattle.std.specs.List.{list_all}
 use Rattle.std.specs.Char.{digit_value}
 use Rattle.std.proofs.Math.Seq.{drop-cons}
-use Rattle.std.specs.Str.{all_ascii_digits}
 use Rattle.std.specs.Str.Parse.{digits_value, digits_value_after}
 use Rattle.bench_reader.specs.Lines.{join_first, is_blank}
 use Rattle.bench_reader.specs.Words.{ends_word, is_in_word, words_of, number_of}
@@ -35,21 +36,13 @@ pub digits_value_after-ge : (n : ℕ) (digits : List ℕ) → n ≤ digits_value
 digits_value_after-ge n [] = omega arith
 digits_value_after-ge n (digit ∷ digits) = omega (arith, digits_value_after-ge (n * 10 + digit_value digit) digits)
 
-not_all : (a b : Bool) → (a && false && b) ≡ false
-not_all a b = elim a as (λ a. (a && false && b) ≡ false) [ true ↦ refl | false ↦ refl ]
-
 not_last : (a b : Bool) → (a && b && false) ≡ false
 not_last a b = elim a as (λ a. (a && b && false) ≡ false) [ true ↦ elim b as (λ b. (true && b && false) ≡ false) [ true ↦ refl | false ↦ refl ] | false ↦ refl ]
 
 -- a word of too great a value is no number
 pub number_of-over : (word : List ℕ) → 2 ^ 32 ≤ digits_value 10 word → number_of word ≡ None
-number_of-over word over =
-    let large : nat_lt (digits_value 10 word) (2 ^ 32) ≡ false = le-ltb (digits_value 10 word) (2 ^ 32) over in
-    rw (large, not_last (nat_lt 0 (length word)) (all_ascii_digits word)) refl
+number_of-over word over = grind (arith, nat_tests, common_steps, le-ltb, not_last)
 
 -- a number that is too great at one of its digits
 pub number_of-over_at : (word : List ℕ) (i number : ℕ) → i < length word → digits_value_after 10 number (drop i word) ≡ digits_value 10 word → 2 ^ 32 ≤ number * 10 + digit_value (get_or word i 0) → number_of word ≡ None
-number_of-over_at word i number within value over =
-    let split : drop i word ≡ get_or word i 0 ∷ drop (suc i) word = drop-cons word i 0 within in
-    let least : number * 10 + digit_value (get_or word i 0) ≤ digits_value_after 10 number (drop i word) = rw split (digits_value_after-ge (number * 10 + digit_value (get_or word i 0)) (drop (suc i) word)) in
-    number_of-over word (omega arith)
+number_of-over_at word i number within value over = grind (arith, nat_tests, common_steps, drop-cons, digits_value_after-ge, number_of-over)

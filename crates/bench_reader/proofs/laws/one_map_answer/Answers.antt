@@ -1,3 +1,6 @@
+use Rattle.std.proofs.lemmas.Bool.Decides.{nat_tests}
+use Rattle.std.proofs.lemmas.Grind.{common_steps}
+use Rattle.std.proofs.Common.{arith}
 use Rattle.std.proofs.Common.{◌≡◌, ◌≢◌, Ok, Err, Result, List, ℕ, Some, None, Option, ap}
 use Rattle.grid_cells.specs.Grid.{Chart}
 use Rattle.bench_reader.specs.Lines.{lines_of}
@@ -17,8 +20,7 @@ one : (text : List ℕ) (a b : Result Chart MapFault) → IsMapAnswer text a →
 one text (Ok a) (Ok b) p q other else = ap (λ grid. Ok grid) (one_grid (lines_of text) a b p q)
 one text (Ok a) (Err b) p q other else = absurd (apart b (first_fault (lines_of text)) (no_fault (lines_of text) a p) (fault_is (lines_of text) b (λ same. else (ap (λ fault. Err fault) same)) q))
 one text (Err a) (Ok b) p q other else = absurd (apart a (first_fault (lines_of text)) (no_fault (lines_of text) b q) (fault_is (lines_of text) a (λ same. other (ap (λ fault. Err fault) same)) p))
-one text (Err a) (Err b) p q other else =
-    ap (λ fault. Err fault) (same_fault a b (first_fault (lines_of text)) (fault_is (lines_of text) a (λ same. other (ap (λ fault. Err fault) same)) p) (fault_is (lines_of text) b (λ same. else (ap (λ fault. Err fault) same)) q))
+one text (Err a) (Err b) p q other else = grind (arith, nat_tests, common_steps, same_fault, first_fault, fault_is)
 
 pub returns : goal.returns
 returns c = one

@@ -1,3 +1,6 @@
+use Rattle.std.proofs.lemmas.Bool.Decides.{nat_tests}
+use Rattle.std.proofs.lemmas.Grind.{common_steps}
+use Rattle.std.proofs.Common.{arith}
 use Rattle.std.proofs.Common.{◌≡◌, ◌≢◌, Ok, Err, Result, List, ℕ, Some, None, Option, filter, drop, ap}
 use Rattle.grid_cells.specs.Size.{Extent}
 use Rattle.bench_reader.specs.Lines.{lines_of}
@@ -19,8 +22,7 @@ one : (size : Extent) (text : List ℕ) (a b : Result (List Task) ScenFault) →
 one size text (Ok a) (Ok b) p q other else = ap (λ tasks. Ok tasks) (one_list size (filter is_written (drop 1 (lines_of text))) a b p.body q.body)
 one size text (Ok a) (Err b) p q other else = absurd (apart b (first_fault size (lines_of text)) (no_fault size (lines_of text) a p) (fault_is size (lines_of text) b (λ same. else (ap (λ fault. Err fault) same)) q))
 one size text (Err a) (Ok b) p q other else = absurd (apart a (first_fault size (lines_of text)) (no_fault size (lines_of text) b q) (fault_is size (lines_of text) a (λ same. other (ap (λ fault. Err fault) same)) p))
-one size text (Err a) (Err b) p q other else =
-    ap (λ fault. Err fault) (same_fault a b (first_fault size (lines_of text)) (fault_is size (lines_of text) a (λ same. other (ap (λ fault. Err fault) same)) p) (fault_is size (lines_of text) b (λ same. else (ap (λ fault. Err fault) same)) q))
+one size text (Err a) (Err b) p q other else = grind (arith, nat_tests, common_steps, same_fault, first_fault, fault_is)
 
 pub returns : goal.returns
 returns c = one
