@@ -1,5 +1,7 @@
+use Rattle.std.proofs.lemmas.Bool.Decides.{nat_tests}
+use Rattle.std.proofs.lemmas.Grind.{common_steps}
 use Rattle.std.specs.Prelude.{slice_index, Some}
-use Rattle.std.proofs.Common.{arith, ◌≡◌, ◌+◌, ◌<◌, ◌≤◌, ◌∙◌, length}
+use Rattle.std.proofs.Common.{arith, ◌≡◌, ◌<◌, ◌≤◌, ◌∙◌, length}
 use Rattle.std.proofs.Math.ListN.{set}
 use Rattle.std.proofs.lemmas.List.{get_or_read}
 use Rattle.grid_cells.specs.Grid.{flag_index}
@@ -38,10 +40,4 @@ returns-then-place-self-clause-keys c =
     c.settle.ensures.shuffled.keys ∙ changed
 
 pub returns-else-place-self-clause-keys : goal.returns-else-place-self-clause-keys
-returns-else-place-self-clause-keys c =
-    let n_in : c.index-index.result < length c.args.self.now.places.items = omega (arith, c.requires.heap.synced.one_place_each, c.index-index.ensures.bound) in
-    let place : c.index.result.now ≡ slice_index c.args.self.now.places.items c.index-index.result = get_or_read c.args.self.now.places.items c.index-index.result c.index.result.now n_in c.index.ensures 0 in
-    let out : c.args.self.now.len ≤ slice_index c.args.self.now.places.items c.index-index.result = omega (arith, place, c.if-place-self.false) in
-    let changed : keys_of (set c.args.self.now.places.items c.index-index.result c.args.self.now.len) c.lay-else-place-self.new.list.items (c.args.self.now.len + 1) ≡ set (keys_of c.args.self.now.places.items c.args.self.now.keys.items c.args.self.now.len) (flag_index c.args.self.now.size c.args.cell) (Some c.args.key) =
-    rw (← c.index-index.ensures.is) (keys_of-grow c.args.self.now.size c.args.self.now.cells.items c.args.self.now.keys.items c.lay-else-place-self.new.list.items c.args.self.now.places.items c.args.self.now.len c.index-index.result c.args.key c.requires.heap.synced c.index-index.ensures.bound out c.lay-else-place-self.ensures.laid) in
-    c.rise.ensures.shuffled.keys ∙ changed
+returns-else-place-self-clause-keys c = grind (arith, nat_tests, common_steps, get_or_read, keys_of-grow)
