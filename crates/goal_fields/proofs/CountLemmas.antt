@@ -1,9 +1,9 @@
 -- What a queue has counted is the change count.
-use Rattle.std.specs.Prelude.{Bool, true, false, cond, ◌==◌, nat_lt, if◌then◌else◌, slice_index, slice_index_or, count_by}
+use Rattle.std.proofs.lemmas.Bool.Decides.{nat_tests}
+use Rattle.std.specs.Prelude.{Bool, cond, slice_index, slice_index_or}
 use Rattle.std.specs.List.{zip}
-use Rattle.std.proofs.Common.{◌≡◌, ℕ, suc, ◌+◌, ◌<◌, ◌≤◌, ◌⊎◌, List, [], ◌∷◌, length, map, Option, Some, None, refl, sym, ap, subst, ◌∙◌, inl, inr, arith}
+use Rattle.std.proofs.Common.{◌≡◌, ℕ, suc, ◌+◌, ◌<◌, ◌≤◌, List, [], ◌∷◌, length, map, Option, Some, None, refl, sym, ap, subst, ◌∙◌, arith}
 use Rattle.std.proofs.Math.ListN.{length-map}
-use Rattle.std.proofs.lemmas.Bool.{cases_lt}
 use Rattle.std.proofs.lemmas.List.{get_or-map}
 use Rattle.std.proofs.lemmas.List.Sums.{sum_by-cons}
 use Rattle.grid_cells.specs.Cell.{Point}
@@ -27,19 +27,7 @@ one_if b = cond b 1 0
 
 -- what one cell adds to the change count, by its distances
 pub change-is : (x y : ℕ) → x ≤ far → y ≤ far → change x y ≡ one_if (grew (distance_of x, distance_of y)) + one_if (came (distance_of x, distance_of y))
-change-is x y hx hy = go (cases_lt x far) (cases_lt y far)
-  where
-    tests : (less same : Bool) → (if less then 1 else 0) + (if false then 0 else if same then 0 else 1) ≡ one_if less + one_if (if same then false else true)
-    tests true true = refl
-    tests true false = refl
-    tests false true = refl
-    tests false false = refl
-
-    go : ((x < far) ⊎ (far ≤ x)) → ((y < far) ⊎ (far ≤ y)) → change x y ≡ one_if (grew (distance_of x, distance_of y)) + one_if (came (distance_of x, distance_of y))
-    go (inl lx) (inl ly) = rw (far_no x lx, far_no y ly) (tests (nat_lt x y) (x == y))
-    go (inl lx) (inr ly) = (let less : nat_lt x y ≡ true = (let lt : x < y = omega arith in grind arith) in rw (far_no x lx, far_yes y hy ly, less) refl)
-    go (inr lx) (inl ly) = (let less : nat_lt x y ≡ false = grind arith in let other : (x == y) ≡ false = grind arith in rw (far_yes x hx lx, far_no y ly, less, other) refl)
-    go (inr lx) (inr ly) = (let less : nat_lt x y ≡ false = grind arith in rw (far_yes x hx lx, far_yes y hy ly, less) refl)
+change-is x y hx hy = grind (arith, nat_tests)
 
 -- all cells together
 pub count_over-is : (d g : List ℕ) → length d ≡ length g → ((i : ℕ) → i < length d → slice_index d i ≤ far) → ((i : ℕ) → i < length g → slice_index g i ≤ far) →
@@ -48,11 +36,11 @@ count_over-is [] [] long hd hg = refl
 count_over-is [] (y ∷ g) long hd hg = absurd (omega arith)
 count_over-is (x ∷ d) [] long hd hg = absurd (omega arith)
 count_over-is (x ∷ d) (y ∷ g) long hd hg =
-    let rest : count_over d g ≡ change_count (map distance_of d) (map distance_of g) = count_over-is d g (omega arith) (λ i h. hd (suc i) (omega arith)) (λ i h. hg (suc i) (omega arith)) in
-    let here : change x y ≡ one_if (grew (distance_of x, distance_of y)) + one_if (came (distance_of x, distance_of y)) = change-is x y (hd 0 (omega arith)) (hg 0 (omega arith)) in
-    let grown : count_by grew (zip (map distance_of (x ∷ d)) (map distance_of (y ∷ g))) ≡ one_if (grew (distance_of x, distance_of y)) + count_by grew (zip (map distance_of d) (map distance_of g)) = sum_by-cons (λ p. one_if (grew p)) (distance_of x, distance_of y) (zip (map distance_of d) (map distance_of g)) in
-    let arrived : count_by came (zip (map distance_of (x ∷ d)) (map distance_of (y ∷ g))) ≡ one_if (came (distance_of x, distance_of y)) + count_by came (zip (map distance_of d) (map distance_of g)) = sum_by-cons (λ p. one_if (came p)) (distance_of x, distance_of y) (zip (map distance_of d) (map distance_of g)) in
-    omega arith
+    let rest = count_over-is d g (omega arith) (λ i h. hd (suc i) (omega arith)) (λ i h. hg (suc i) (omega arith)) in
+    let cells = zip (map distance_of d) (map distance_of g) in
+    let grown = sum_by-cons (λ p. one_if (grew p)) (distance_of x, distance_of y) cells in
+    let arrived = sum_by-cons (λ p. one_if (came p)) (distance_of x, distance_of y) cells in
+    omega (arith, rest, change-is x y (hd 0 (omega arith)) (hg 0 (omega arith)), grown, arrived)
 
 -- no g is above the number that is none
 pub g-le : (grid : Chart) (goal : Point) (g : List ℕ) → IsAtRest grid goal g → (i : ℕ) → i < length g → slice_index g i ≤ far

@@ -1,34 +1,33 @@
 -- The updates that follow a write.
-use Rattle.std.proofs.Common.{◌≡◌, ◌≢◌, ◌⊎◌, inl, inr, ℕ, ◌+◌, ◌≤◌, ◌<◌, List, Some, None, Option, sym, ap, subst, refl, ◌∙◌, arith}
-use Rattle.std.specs.Prelude.{min}
+use Rattle.std.proofs.lemmas.Bool.Decides.{nat_tests}
+use Rattle.std.proofs.Common.{length, get_or, ◌≡◌, ◌≢◌, ◌⊎◌, inl, inr, ℕ, ◌+◌, ◌≤◌, ◌<◌, List, Some, None, Option, sym, ap, subst, refl, ◌∙◌, arith}
 use Rattle.std.proofs.Math.ListN.{set}
-use Rattle.std.proofs.lemmas.Bool.{cases_eq, cases_lt}
 use Rattle.grid_cells.specs.Cell.{Point, IsAdjacent}
 use Rattle.grid_cells.specs.Size.{Holds}
-use Rattle.grid_cells.specs.Grid.{Chart, IsOpen, flag_index}
-use Rattle.cell_queue.specs.Queue.{key_at}
+use Rattle.grid_cells.specs.Grid.{Chart, flag_index}
+use Rattle.std.proofs.lemmas.List.{get_or_read}
+use Rattle.cell_queue.specs.Queue.{key_at, area}
 use Rattle.goal_fields.specs.declared.lifelong.Lifelong.{Lifelong}
 use Rattle.goal_fields.specs.Marks.{mark_at}
 use Rattle.goal_fields.specs.Repair.{IsRhs, IsWrite, key_for}
 use Rattle.goal_fields.specs.Lifelong.{IsRoomy, IsGood, IsSameBut, KeepsKey, g_of}
 use Rattle.goal_fields.specs.Taking.{Advances, Lags, Follows, IsTaking, IsUnstirred}
 use Rattle.goal_fields.proofs.Neighbours.{cases_cell}
-use Rattle.goal_fields.proofs.UpdateLemmas.{key_min, key_none}
-use Rattle.goal_fields.proofs.TakeLemmas.{IsKey, IsKey-of, IsRhs-apart, IsWrite-set}
+use Rattle.goal_fields.proofs.UpdateLemmas.{key_none}
+use Rattle.goal_fields.proofs.TakeLemmas.{IsRhs-apart, IsWrite-set}
+
+-- a g that was read
+pub g_read : (s : Lifelong) (cell : Point) (i x : ℕ) → length s.g.items ≡ area s.grid.size → i < area s.grid.size → i ≡ flag_index s.grid.size cell →
+    x ≡ get_or s.g.items i x → x ≡ g_of s cell
+g_read s cell i x long below is read = get_or_read s.g.items i x (omega arith) read 0 ∙ ap (λ (n : ℕ). get_or s.g.items n 0) is
 
 -- a cell without a key is consistent
 pub key_none_is : (g r : ℕ) → None ≡ key_for g r → g ≡ r
-key_none_is g r none = elim (cases_eq g r) [
-  | inl e ↦ e
-  | inr ne ↦ (let key : Some (min g r) ≡ None = key_min g r (min g r) ne refl ∙ sym none in cc)
-]
+key_none_is g r none = grind (arith, nat_tests)
 
 -- a key below g is rhs
 pub lowered_to : (g r key : ℕ) → key_for g r ≡ Some key → key < g → r ≡ key
-lowered_to g r key e lt = (let k : IsKey g r key = IsKey-of g r key e in elim (cases_lt r g) [
-  | inl over ↦ sym (k.which.0 over)
-  | inr le ↦ (let under : g < r = omega (arith, k.differ) in absurd (omega (arith, k.which.1 under)))
-])
+lowered_to g r key e lt = grind (arith, nat_tests)
 
 -- where the write doesn't move a cell, it keeps its equation
 IsRhs-unmoved : (grid : Chart) (goal : Point) (g g' : Point → ℕ) (from c : Point) (r was now : ℕ) → IsWrite grid g g' from now → g from ≡ was →
@@ -38,38 +37,24 @@ IsRhs-unmoved grid goal g g' from c r was now w is lowered raised a =
       bounded = a.bounded;
       closed = a.closed;
       at_goal = a.at_goal;
-      upper = λ o ne n adj on. above o ne n adj on (cases_cell n from) (cases_lt now was);
-      lower = λ o ne lt. (let (n, adj, on, e) = a.lower o ne lt in (n, adj, on, below n on e (cases_cell n from) (cases_lt now was) (cases_lt was now)));
+      upper = λ o ne n adj on. grind (arith, cases_cell n from, w.here, w.elsewhere n on.0, a.upper o ne n adj on);
+      lower = λ o ne lt. (let (n, adj, on, e) = a.lower o ne lt in (n, adj, on, grind (arith, cases_cell n from, w.here, w.elsewhere n on.0)));
     }
-  where
-    above : IsOpen grid c → c ≢ goal → (n : Point) → IsAdjacent c n → IsOpen grid n → ((n ≡ from) ⊎ (n ≡ from → ⊥)) → ((now < was) ⊎ (was ≤ now)) → r ≤ g' n + 1
-    above o ne n adj on (inl e) (inl lt) = (let at : g' n ≡ now = ap g' e ∙ w.here in omega (arith, at, lowered lt))
-    above o ne n adj on (inl e) (inr le) = (let at : g' n ≡ now = ap g' e ∙ w.here in let old : g n ≡ was = ap g e ∙ is in omega (arith, at, old, a.upper o ne n adj on))
-    above o ne n adj on (inr apart) _ = omega (arith, w.elsewhere n on.0 apart, a.upper o ne n adj on)
-
-    below : (n : Point) → IsOpen grid n → r ≡ g n + 1 → ((n ≡ from) ⊎ (n ≡ from → ⊥)) → ((now < was) ⊎ (was ≤ now)) → ((was < now) ⊎ (now ≤ was)) → r ≡ g' n + 1
-    below n on e (inl here) (inl lt) _ = (let old : g n ≡ was = ap g here ∙ is in absurd (omega (arith, old, e, lowered lt)))
-    below n on e (inl here) (inr le) (inl gt) = (let old : g n ≡ was = ap g here ∙ is in absurd (raised gt (omega (arith, old, e))))
-    below n on e (inl here) (inr le) (inr ge) = (let old : g n ≡ was = ap g here ∙ is in let at : g' n ≡ now = ap g' here ∙ w.here in omega (arith, old, at))
-    below n on e (inr apart) _ _ = omega (arith, w.elsewhere n on.0 apart)
 
 -- a cell that lags and isn't stirred is good
 pub IsGood-unstirred : (g : Point → ℕ) (s : Lifelong) (from c : Point) (was now : ℕ) → Follows g s from was now → IsUnstirred s c was now → Holds s.grid.size c → c ≢ from → IsGood s c
 IsGood-unstirred g s from c was now follows still held apart = elim (follows.each c held apart) [
   | inl good ↦ good
   | inr lags ↦
-      (let is : g_of s c ≡ lags.rhs = key_none_is (g_of s c) lags.rhs (sym still.unqueued ∙ lags.queued) in
-      record {
-        rhs = lags.rhs;
-        equation = IsRhs-unmoved s.grid s.goal g (g_of s) from c lags.rhs was now follows.written follows.before
-            (λ lt. omega (arith, is, still.lowered lt)) (λ lt e. still.raised lt (is ∙ e)) lags.equation;
-        queued = lags.queued;
-      })
+      let is : g_of s c ≡ lags.rhs = key_none_is (g_of s c) lags.rhs (sym still.unqueued ∙ lags.queued) in
+      let same = IsRhs-unmoved s.grid s.goal g (g_of s) from c lags.rhs was now follows.written follows.before (λ lt. omega (arith, still.lowered lt))
+      (λ lt e. still.raised lt (is ∙ e)) lags.equation in
+      record { rhs = lags.rhs; equation = same; queued = lags.queued }
 ]
 
 -- the g of a cell is the same
 pub g_of-same : (old new : Lifelong) (c : Point) → IsSameBut old new → g_of new c ≡ g_of old c
-g_of-same old new c same = ap (λ (t : Chart). mark_at t.size new.g.items c) same.grid ∙ ap (λ xs. mark_at old.grid.size xs c) same.g
+g_of-same old new c same = rw (same.grid, same.g) refl
 
 -- what lags still lags where its key is kept
 Lags-kept : (g : Point → ℕ) (old new : Lifelong) (c : Point) → IsSameBut old new → KeepsKey old new c → Lags g old c → Lags g new c
@@ -89,8 +74,12 @@ Advances-update old new cell same here keeps others =
     record { same = same; keeps = keeps; others = λ c h. elim (cases_some cell c) [ inl e ↦ inl (here c e) | inr ne ↦ inr (others c h ne) ] }
   where
     cases_some : (cell : Option Point) (c : Point) → (cell ≡ Some c) ⊎ (cell ≡ Some c → ⊥)
-    cases_some None c = inr (λ e. cc)
-    cases_some (Some a) c = elim (cases_cell a c) [ inl e ↦ inl (ap (λ v. Some v) e) | inr ne ↦ inr (λ e. ne cc) ]
+    cases_some None c = grind arith
+    cases_some (Some a) c = grind (arith, cases_cell a c)
+
+pub IsSameBut-trans : (one two three : Lifelong) → IsSameBut one two → IsSameBut two three → IsSameBut one three
+IsSameBut-trans one two three first then =
+    record { grid = then.grid ∙ first.grid; goal = then.goal ∙ first.goal; g = then.g ∙ first.g; taken = then.taken ∙ first.taken; total = then.total ∙ first.total }
 
 pub Advances-refl : (s : Lifelong) → Advances s s
 Advances-refl s = record { same = record { grid = refl; goal = refl; g = refl; taken = refl; total = refl }; keeps = λ c h good. good; others = λ c h. inr refl }
@@ -98,22 +87,13 @@ Advances-refl s = record { same = record { grid = refl; goal = refl; g = refl; t
 pub Advances-trans : (one two three : Lifelong) → Advances one two → Advances two three → Advances one three
 Advances-trans one two three first then =
     record {
-      same = record {
-        grid = then.same.grid ∙ first.same.grid;
-        goal = then.same.goal ∙ first.same.goal;
-        g = then.same.g ∙ first.same.g;
-        taken = then.same.taken ∙ first.same.taken;
-        total = then.same.total ∙ first.same.total;
-      };
-      keeps = λ c h good. then.keeps c (there c h) (first.keeps c h good);
+      same = IsSameBut-trans one two three first.same then.same;
+      keeps = λ c h good. then.keeps c (rw first.same.grid h) (first.keeps c h good);
       others = λ c h. elim (first.others c h) [
-        | inl good ↦ inl (then.keeps c (there c h) good)
-        | inr kept ↦ elim (then.others c (there c h)) [ inl good ↦ inl good | inr later ↦ inr (later ∙ kept) ]
+        | inl good ↦ inl (then.keeps c (rw first.same.grid h) good)
+        | inr kept ↦ elim (then.others c (rw first.same.grid h)) [ inl good ↦ inl good | inr later ↦ inr (later ∙ kept) ]
       ];
     }
-  where
-    there : (c : Point) → Holds one.grid.size c → Holds two.grid.size c
-    there c h = rw first.same.grid h
 
 -- what is good or isn't stirred stays so
 pub unstirred_later : (old new : Lifelong) (c : Point) (was now : ℕ) → Advances old new → Holds old.grid.size c → IsGood old c ⊎ IsUnstirred old c was now → IsGood new c ⊎ IsUnstirred new c was now
@@ -142,10 +122,6 @@ Follows-later g old new from was now on f =
     before : (c : Point) → Holds new.grid.size c → Holds old.grid.size c
     before c h = rw (← on.same.grid) h
 
--- a cell isn't next to itself
-pub apart_itself : (c : Point) → IsAdjacent c c → ⊥
-apart_itself c adj = absurd (omega (arith, adj))
-
 -- a cell was taken from the queue and its g was written: each other cell lags
 pub IsTaking-begun : (old new : Lifelong) (u : Point) (R : Point → ℕ) (value : ℕ) → IsRoomy old → Holds old.grid.size u →
     new.grid ≡ old.grid → new.goal ≡ old.goal → new.g.items ≡ set old.g.items (flag_index old.grid.size u) value → key_at new.queue u ≡ None →
@@ -154,9 +130,6 @@ pub IsTaking-begun : (old new : Lifelong) (u : Point) (R : Point → ℕ) (value
     ((c : Point) → Holds old.grid.size c → key_at old.queue c ≡ key_for (g_of old c) (R c)) →
     (value < g_of old u → R u ≡ value) → IsTaking (g_of old) new u (g_of old u)
 IsTaking-begun old new u R value roomy held same goal wrote out kept equation queued low =
-    let w : IsWrite old.grid (g_of old) (g_of new) u value =
-    subst (λ (t : Chart). IsWrite old.grid (g_of old) (mark_at t.size new.g.items) u value) (sym same)
-    (subst (λ (xs : List ℕ). IsWrite old.grid (g_of old) (mark_at old.grid.size xs) u value) (sym wrote) (IsWrite-set old.grid old.g.items u value roomy.one_g_each held)) in
     record {
       follows = record {
         written = record { here = refl; elsewhere = λ c h apart. w.elsewhere c (rw (← same) h) apart };
@@ -168,14 +141,19 @@ IsTaking-begun old new u R value roomy held same goal wrote out kept equation qu
         });
       };
       lowered = λ lt.
-          (let is : R u ≡ value = low (omega (arith, lt, w.here)) in
+          let is : R u ≡ value = low (omega (arith, lt, w.here)) in
           record {
             rhs = value;
-            equation = on_new (subst (λ (n : ℕ). IsRhs old.grid old.goal (g_of new) u n) is (IsRhs-apart old.grid old.goal (g_of old) (g_of new) u u (R u) value w (apart_itself u) (equation u held)));
+            equation = on_new (rw (← is) (IsRhs-apart old.grid old.goal (g_of old) (g_of new) u u (R u) value w (λ adj. omega (arith, adj)) (equation u held)));
             queued = out ∙ key_none (g_of new u) value w.here;
-          });
+          };
     }
   where
+    w : IsWrite old.grid (g_of old) (g_of new) u value
+    w = subst (λ (t : Chart). IsWrite old.grid (g_of old) (mark_at t.size new.g.items) u value) (sym same)
+        (subst (λ (xs : List ℕ). IsWrite old.grid (g_of old) (mark_at old.grid.size xs) u value) (sym wrote) (IsWrite-set old.grid old.g.items u value
+        roomy.one_g_each held))
+
     on_new : IsRhs old.grid old.goal (g_of new) u value → IsRhs new.grid new.goal (g_of new) u value
     on_new a = subst (λ (t : Chart). IsRhs t new.goal (g_of new) u value) (sym same) (subst (λ (p : Point). IsRhs old.grid p (g_of new) u value) (sym goal) a)
 

@@ -1,16 +1,17 @@
 -- The edits before a repair, and the state in which it begins.
+use Rattle.std.proofs.lemmas.Bool.Decides.{nat_tests}
 use Rattle.std.specs.Prelude.{Bool, true, false, Option, Some, None, IsTrue, ◌==◌, ◌&&◌, ◌↔◌}
 use Rattle.std.specs.List.{slice_get}
 use Rattle.std.proofs.Common.{◌≡◌, ℕ, ◌+◌, ◌<◌, ◌≤◌, ◌⊎◌, inl, inr, List, [], ◌∷◌, ◌++◌, length, refl, sym, ap, subst, ◌∙◌, arith, get_or}
-use Rattle.std.proofs.lemmas.List.{ext_get_or, get_or-replicate, length-replicate}
+use Rattle.std.proofs.lemmas.List.{ext_get_or}
 use Rattle.std.proofs.lemmas.Option.{unwrap_or-slice_get, slice_get-get_or}
 use Rattle.std.specs.Option.{unwrap_or}
 use Rattle.std.proofs.lemmas.List.Elements.{Contains-push_cases}
 use Rattle.std.proofs.lemmas.Bool.{cases_lt}
 use Rattle.grid_cells.specs.Cell.{Point, IsAdjacent}
-use Rattle.grid_cells.specs.Size.{Extent, IsSize, Holds}
+use Rattle.grid_cells.specs.Size.{Extent, Holds}
 use Rattle.grid_cells.specs.Grid.{Chart, IsOpen, flag_index}
-use Rattle.cell_queue.specs.Queue.{area, Queue, empty_queue, key_at, IsEmpty}
+use Rattle.cell_queue.specs.Queue.{area, IsEmpty}
 use Rattle.cell_queue.proofs.Indexes.{index_below}
 use Rattle.goal_fields.specs.declared.lifelong.Lifelong.{Lifelong}
 use Rattle.goal_fields.specs.declared.search.Search.{Search}
@@ -18,12 +19,12 @@ use Rattle.goal_fields.specs.Search.{IsFound, mark_of}
 use Rattle.goal_fields.specs.Repair.{IsRhs}
 use Rattle.goal_fields.proofs.FollowLemmas.{key_none_is}
 use Rattle.goal_fields.proofs.RepairEnds.{IsRhs-distance}
-use Rattle.goal_fields.specs.Marks.{far, mark_at, IsWhole}
+use Rattle.goal_fields.specs.Marks.{far, mark_at}
 use Rattle.goal_fields.specs.Target.{flag_at, Covers}
 use Rattle.goal_fields.specs.Lifelong.{g_of, IsRoomy, IsGood, Waits, IsTouched, IsConsistent, IsSettled, IsInRepair}
 use Rattle.goal_fields.specs.Taking.{Advances, IsUnstirred}
 use Rattle.goal_fields.specs.Adopting.{IsAdopting}
-use Rattle.goal_fields.specs.Rest.{IsAtRest, IsRoomOn}
+use Rattle.goal_fields.specs.Rest.{IsAtRest}
 use Rattle.goal_fields.proofs.Neighbours.{IsAdjacent-sym, cell_at, cases_adjacent}
 use Rattle.goal_fields.proofs.UpdateLemmas.{key_none}
 use Rattle.goal_fields.proofs.TakeLemmas.{count_over-same, rhs_in, rhs_in-good, IsRhs-good}
@@ -57,8 +58,7 @@ false≢true_at p q = (let x : false ≡ true = p ∙ q in cc)
 
 -- equal cells pass the test of their coordinates
 pub same_eq : (a b : Point) → a ≡ b → (a.y == b.y && a.x == b.x) ≡ true
-same_eq a b e = (let ey : a.y ≡ b.y = ap (λ (v : Point). v.y) e in let ex : a.x ≡ b.x = ap (λ (v : Point). v.x) e in
-    let ty : (a.y == b.y) ≡ true = grind arith in let tx : (a.x == b.x) ≡ true = grind arith in rw (ty, tx) refl)
+same_eq a b e = grind (arith, nat_tests)
 
 -- where each cell is good and nothing is taken, a repair begins
 pub IsInRepair-begin : (now : Lifelong) → IsRoomy now → ((c : Point) → Holds now.grid.size c → IsGood now c) → ((c : Point) → Holds now.grid.size c → g_of now c ≤ far) → now.queue.taken ≡ 0 → IsInRepair now.g.items now 0
@@ -91,21 +91,6 @@ IsAtRest-found found_by grid goal found same_grid same_goal =
       consistent = IsRhs-distance found_by.grid found_by.goal (mark_of found_by) found.right found.bounded;
     }))
 
--- a room that was made
-pub IsRoomOn-new : (room : Lifelong) (size : Extent) → room.grid.size ≡ size → IsSize size.width size.height → IsWhole room.grid → room.queue ≡ empty_queue size → IsRoomOn room.grid room
-IsRoomOn-new room size same sized whole queue =
-    record {
-      map = refl;
-      wide = rw same (omega (arith, sized.wide));
-      whole = whole;
-      idle = record {
-        queue = ap (λ (q : Queue). q.size) queue ∙ sym same;
-        one_key_each = ap (λ (q : Queue). length q.keys) queue ∙ length-replicate (area size) None ∙ ap area (sym same);
-        empty = subst IsEmpty (sym queue) (λ c h. get_or-replicate (area size) (flag_index size c) None None (index_below size c h));
-      };
-      counted = rw queue (omega arith);
-    }
-
 -- a repair whose queue is empty has come to its end
 pub IsSettled-ended : (d : List ℕ) (s : Lifelong) (floor : ℕ) → IsInRepair d s floor → IsEmpty s.queue → IsSettled s
 IsSettled-ended d s floor inv empty =
@@ -118,13 +103,7 @@ IsSettled-ended d s floor inv empty =
 
 -- flags are the same or differ
 cases_flag : (a b : Option Bool) → (a ≡ b) ⊎ (a ≡ b → ⊥)
-cases_flag None None = inl refl
-cases_flag None (Some b) = inr (λ e. cc)
-cases_flag (Some a) None = inr (λ e. cc)
-cases_flag (Some true) (Some true) = inl refl
-cases_flag (Some false) (Some false) = inl refl
-cases_flag (Some true) (Some false) = inr (λ e. cc)
-cases_flag (Some false) (Some true) = inr (λ e. cc)
+cases_flag a b = grind arith
 
 -- one more cell is touched: where it is closed and had a distance, each neighbour is good or isn't stirred by its closing
 pub IsTouched-more : (start old new : Lifelong) (done : List Point) (a : Point) → Advances old new → IsRoomy new → IsGood new a →
@@ -135,45 +114,46 @@ IsTouched-more start old new done a on roomy here near t =
       roomy = roomy;
       grid = grid;
       goal = on.same.goal ∙ t.goal;
-      g = g;
+      g = on.same.g ∙ t.g;
       taken = on.same.taken ∙ t.taken;
       total = on.same.total ∙ t.total;
       here = λ v con h. elim (Contains-push_cases done a v con) [ inl before ↦ on.keeps v (rw t.grid h) (t.here v before h) | inr last ↦ subst (IsGood new) last here ];
       each = λ c h. elim (t.each c h) [
         | inl good ↦ inl (on.keeps c (rw t.grid h) good)
-        | inr waits ↦ elim (on.others c (rw t.grid h)) [ inl good ↦ inl good | inr kept ↦ still c h waits (kept ∙ waits.unqueued) (cases_adjacent a c) (cases_lt (g_of start a) far) ]
+        | inr waits ↦ elim (on.others c (rw t.grid h)) [
+          | inl good ↦ inl good
+          | inr kept ↦ elim (good_or_free c h) [
+            | inl good ↦ inl good
+            | inr free ↦ inr (record {
+              unqueued = kept ∙ waits.unqueued;
+              on_way = λ v con hv adj lt e. elim (Contains-push_cases done a v con) [
+                | inl before ↦ waits.on_way v before hv adj lt e
+                | inr is ↦ rw (← is) (free (rw (← is) at adj) (rw (← is) at lt) (rw (← is) at e))
+              ];
+            })
+          ]
+        ]
       ];
     }
   where
     grid : new.grid ≡ start.grid
     grid = on.same.grid ∙ t.grid
 
-    g : new.g.items ≡ start.g.items
-    g = on.same.g ∙ t.g
-
     same : (c : Point) → g_of new c ≡ g_of start c
-    same c = ap (λ (z : Chart). mark_at z.size new.g.items c) grid ∙ ap (λ (xs : List ℕ). mark_at start.grid.size xs c) g
+    same c = ap (λ (z : Chart). mark_at z.size new.g.items c) grid ∙ ap (λ (xs : List ℕ). mark_at start.grid.size xs c) (on.same.g ∙ t.g)
 
-    waits_on : (c : Point) → Waits start old done c → key_at new.queue c ≡ None →
-        (Holds start.grid.size a → IsAdjacent c a → g_of start a < far → g_of start c ≡ g_of start a + 1 → IsOpen start.grid a) → Waits start new (done ++ a ∷ []) c
-    waits_on c waits unqueued last =
-        record {
-          unqueued = unqueued;
-          on_way = λ v con hv adj lt e. elim (Contains-push_cases done a v con) [
-            | inl before ↦ waits.on_way v before hv adj lt e
-            | inr is ↦ subst (IsOpen start.grid) is
-                (last (subst (Holds start.grid.size) (sym is) hv) (subst (IsAdjacent c) (sym is) adj) (subst (λ (w : Point). g_of start w < far) (sym is) lt) (subst (λ (w : Point). g_of start c ≡ g_of start w + 1) (sym is) e))
-          ];
-        }
-
-    still : (c : Point) → Holds start.grid.size c → Waits start old done c → key_at new.queue c ≡ None → (IsAdjacent a c ⊎ (IsAdjacent a c → ⊥)) → ((g_of start a < far) ⊎ (far ≤ g_of start a)) →
-        IsGood new c ⊎ Waits start new (done ++ a ∷ []) c
-    still c h waits unqueued (inr apart) _ = inr (waits_on c waits unqueued (λ ha adj lt e. absurd (apart (IsAdjacent-sym c a adj))))
-    still c h waits unqueued (inl adj) (inr none) = inr (waits_on c waits unqueued (λ ha back lt e. absurd (omega arith)))
-    still c h waits unqueued (inl adj) (inl some) = elim (near c (rw grid h) adj (omega (arith, same a))) [
-      | inl free ↦ inr (waits_on c waits unqueued (λ ha back lt e. subst (λ (z : Chart). IsOpen z a) grid free))
-      | inr (inl good) ↦ inl good
-      | inr (inr unstirred) ↦ inr (waits_on c waits unqueued (λ ha back lt e. absurd (unstirred.raised (omega (arith, same a)) (omega (arith, same a, same c, e)))))
+    good_or_free : (c : Point) → Holds start.grid.size c → IsGood new c ⊎ (IsAdjacent c a → g_of start a < far → g_of start c ≡ g_of start a + 1 →
+        IsOpen start.grid a)
+    good_or_free c h = elim (cases_adjacent a c) [
+      | inr apart ↦ inr (λ adj lt e. absurd (apart (IsAdjacent-sym c a adj)))
+      | inl adj ↦ elim (cases_lt (g_of start a) far) [
+        | inr none ↦ inr (λ back lt e. absurd (omega arith))
+        | inl some ↦ elim (near c (rw grid h) adj (omega (arith, same a))) [
+          | inl free ↦ inr (λ back lt e. rw (← grid) free)
+          | inr (inl good) ↦ inl good
+          | inr (inr still) ↦ inr (λ back lt e. absurd (still.raised (omega (arith, same a)) (omega (arith, same a, same c))))
+        ]
+      ]
     ]
 
 -- a cell that still waits has the same equation on the new map

@@ -70,22 +70,22 @@ module _ (grid : Chart) (held : List Distances) (old : Option Lifelong) (have : 
 -- one field less
 module _ (held : List Distances) (at : ℕ) (old new : Option Lifelong) (h : at < length held) (none : length (remove held at) ≡ 0 → new ≡ None) (some : 0 < length (remove held at) → new ≡ old) (have : HaveRoom held old) where
   pub standings-remove : standings new (remove held at) ≡ remove (standings old held) at
-  standings-remove = go (cases_eq (length (remove held at)) 0) ∙ sym (map-remove (standing_on (chart_in old)) held at)
-    where
-      go : ((length (remove held at) ≡ 0) ⊎ (length (remove held at) ≡ 0 → ⊥)) → standings new (remove held at) ≡ standings old (remove held at)
-      go (inl e) = same_standings (chart_in new) (chart_in old) (remove held at) (inl e)
-      go (inr ne) = ap (λ (room : Option Lifelong). standings room (remove held at)) (some (omega arith))
+  standings-remove =
+      let same : standings new (remove held at) ≡ standings old (remove held at) = elim (cases_eq (length (remove held at)) 0) [
+        | inl e ↦ same_standings (chart_in new) (chart_in old) (remove held at) (inl e)
+        | inr ne ↦ ap (λ (room : Option Lifelong). standings room (remove held at)) (some (omega arith))
+      ] in
+      same ∙ sym (map-remove (standing_on (chart_in old)) held at)
 
   pub HaveRoom-remove : HaveRoom (remove held at) new
-  HaveRoom-remove = go (cases_eq (length (remove held at)) 0)
+  HaveRoom-remove = elim (cases_eq (length (remove held at)) 0) [
+    | inl e ↦ rw (none e) e
+    | inr ne ↦ rw (some (omega arith)) (rest old (omega arith) have)
+  ]
     where
       rest : (room : Option Lifelong) → 0 < length (remove held at) → HaveRoom held room → HaveRoom (remove held at) room
       rest None left have = absurd (omega (arith, have, h))
       rest (Some room) left (_, on, all) = (left, on, All-remove (AreAtRest room.grid) held at h all)
-
-      go : ((length (remove held at) ≡ 0) ⊎ (length (remove held at) ≡ 0 → ⊥)) → HaveRoom (remove held at) new
-      go (inl e) = subst (HaveRoom (remove held at)) (sym (none e)) e
-      go (inr ne) = (let left : 0 < length (remove held at) = omega arith in subst (HaveRoom (remove held at)) (sym (some left)) (rest old left have))
 
 -- the room's map becomes another one of that size, for all fields
 module _ (held : List Distances) (room : Lifelong) (have : HaveRoom held (Some room)) (grid : Chart) where

@@ -1,5 +1,5 @@
 use Rattle.std.specs.Prelude.{Some}
-use Rattle.std.proofs.Common.{arith, inl, inr, sym, ap, subst, refl, ◌≡◌, ◌≢◌, ◌∙◌}
+use Rattle.std.proofs.Common.{◌⊎◌, arith, inl, inr, sym, ap, subst, refl, ◌≡◌, ◌≢◌, ◌∙◌}
 use Rattle.std.proofs.Math.ListN.{length-set}
 use Rattle.std.proofs.lemmas.List.Elements.{Contains-push_cases}
 use Rattle.grid_cells.specs.Cell.{Point}
@@ -21,21 +21,26 @@ returns-then-holds-clause-adopting c start done e =
     (λ v. ap (λ (g : Chart). flag_at g v) c.set.ensures) in
     let here : flag_at c.set.new.self c.args.cell ≡ flag_at c.args.grid.now c.args.cell =
     now c.args.cell ∙ slice_get-set_same c.args.map.now.flags (flag_index c.args.map.now.size c.args.cell) c.is_open.result (omega (arith, index_below c.args.map.now.size c.args.cell held, e.whole)) ∙ read in
-    let other : (v : Point) → Holds c.args.map.now.size v → v ≢ c.args.cell → flag_at c.set.new.self v ≡ flag_at c.args.map.now v =
-    (λ v h ne. now v ∙ flag_other c.args.map.now c.args.cell v c.is_open.result held h ne) in
-    let held_now : (v : Point) → Holds start.size v → Holds c.args.map.now.size v = (λ v h. rw e.size h) in
-    let at : (v : Point) → v ≡ c.args.cell → flag_at c.set.new.self v ≡ flag_at c.args.grid.now v =
-    (λ v q. subst (λ (w : Point). flag_at c.set.new.self w ≡ flag_at c.args.grid.now w) (sym q) here) in
+    let flag : (v : Point) → Holds start.size v → (flag_at c.set.new.self v ≡ flag_at c.args.grid.now v) ⊎ ((v ≢ c.args.cell) × (flag_at c.set.new.self v ≡
+    flag_at c.args.map.now v)) =
+    (λ v h. elim (cases_cell v c.args.cell) [
+      | inl q ↦ inl (rw q here)
+      | inr ne ↦ inr (
+        ne,
+        now v
+            ∙ flag_other c.args.map.now c.args.cell v c.is_open.result held (rw e.size h) ne,
+      )
+    ]) in
     record {
       size = ap (λ (g : Chart). g.size) c.set.ensures ∙ e.size;
       whole = rw c.set.ensures (length-set c.args.map.now.flags (flag_index c.args.map.now.size c.args.cell) c.is_open.result ∙ e.whole);
-      made = λ v h con. elim (cases_cell v c.args.cell) [
-        | inl q ↦ at v q
-        | inr ne ↦ elim (Contains-push_cases done c.args.cell v con) [ inl before ↦ other v (held_now v h) ne ∙ e.made v h before | inr last ↦ absurd (ne (sym last)) ]
+      made = λ v h con. elim (flag v h) [
+        | inl same ↦ same
+        | inr (ne, kept) ↦ elim (Contains-push_cases done c.args.cell v con) [ inl before ↦ kept ∙ e.made v h before | inr last ↦ absurd (ne (sym last)) ]
       ];
-      either = λ v h. elim (cases_cell v c.args.cell) [
-        | inl q ↦ inl (at v q)
-        | inr ne ↦ elim (e.either v h) [ inl same ↦ inl (other v (held_now v h) ne ∙ same) | inr same ↦ inr (other v (held_now v h) ne ∙ same) ]
+      either = λ v h. elim (flag v h) [
+        | inl same ↦ inl same
+        | inr (ne, kept) ↦ elim (e.either v h) [ inl same ↦ inl (kept ∙ same) | inr same ↦ inr (kept ∙ same) ]
       ];
     }
 

@@ -1,7 +1,6 @@
 use Rattle.std.specs.Prelude.{slice_index}
-use Rattle.std.proofs.Common.{◌≡◌, ◌<◌, ◌≤◌, length, refl, sym, ap, subst, Some, ◌∙◌, arith}
-use Rattle.goal_fields.specs.Held.{Holding, StandFor, rank_of, SameButGoal}
-use Rattle.std.specs.Prelude.{insert, Contains}
+use Rattle.std.proofs.Common.{◌≡◌, ◌<◌, ◌≤◌, length, refl, sym, ap, Some, ◌∙◌, arith}
+use Rattle.goal_fields.specs.Held.{Holding, StandFor, rank_of}
 use Rattle.goal_fields.proofs.HeldLemmas.{IsGap, IsGap-from, HasGoal-gap, HasGoal-at, RiseByGoal-kept, IsKept-insert, IsKept-long, All-insert, SameButGoal-insert, Contains-new}
 use Rattle.goal_fields.proofs.RoomLemmas.{room_stands, HaveRoom-insert, standings-insert, standings-long}
 use Rattle.goal_fields.specs.Standings.{standing_on, standings}
@@ -41,75 +40,32 @@ invariant_of-result c =
 pub made-requires : goal.made-requires
 made-requires c = room_stands c.args.grid.now c.self.inside.fields.items c.self.inside.room c.self.invariant.1 (rw (ap (λ (h : Holding). h.fields) c.self.view_is) c.requires.stands)
 
-pub returns-clause-stands : goal.returns-clause-stands
-returns-clause-stands c =
+pub returns : goal.returns
+returns c =
     let grid = c.args.grid.now in
+    let ranks = c.self.inside.ranks.items in
     let held = c.self.inside.fields.items in
     let old = c.self.inside.room in
-    let now = c.in_ok-room.room in
     let one = c.in_ok-field.field in
     let at = c.in-Err.at in
-    let stand : StandFor grid (standings old held) = rw (ap (λ (h : Holding). h.fields) c.self.view_is) c.requires.stands in
-    let room : at ≤ length held = omega (arith, ap length c.deref.ensures.value, c.in-Err.ensures.room, IsKept-long c.self.inside.ranks.items (standings old held) c.self.invariant.0, standings-long old held) in
-    let place : at ≤ length (standings old held) = omega (arith, room, standings-long old held) in
-    let view = ap (standings (Some now)) c.in_ok-insert-2.ensures.items ∙ standings-insert grid held old c.self.invariant.1 stand one at room now c.in_ok-room.ensures.on in
-    rw view (All-insert (λ field. field.grid ≡ grid) (standings old held) (standing_on grid one) at place stand refl)
-
-pub returns-clause-held : goal.returns-clause-held
-returns-clause-held c =
-    let grid = c.args.grid.now in
-    let held = c.self.inside.fields.items in
-    let old = c.self.inside.room in
-    let now = c.in_ok-room.room in
-    let one = c.in_ok-field.field in
-    let at = c.in-Err.at in
-    let stand : StandFor grid (standings old held) = rw (ap (λ (h : Holding). h.fields) c.self.view_is) c.requires.stands in
-    let room : at ≤ length held = omega (arith, ap length c.deref.ensures.value, c.in-Err.ensures.room, IsKept-long c.self.inside.ranks.items (standings old held) c.self.invariant.0, standings-long old held) in
-    let place : at ≤ length (standings old held) = omega (arith, room, standings-long old held) in
-    let view = ap (standings (Some now)) c.in_ok-insert-2.ensures.items ∙ standings-insert grid held old c.self.invariant.1 stand one at room now c.in_ok-room.ensures.on in
-    let con : Contains (insert (standings old held) at (standing_on grid one)) (standing_on grid one) = Contains-new (standings old held) at (standing_on grid one) place in
-    (standing_on grid one, rw view con, c.in_ok-field.ensures.goal)
-
-pub returns-clause-others : goal.returns-clause-others
-returns-clause-others c =
-    let grid = c.args.grid.now in
-    let held = c.self.inside.fields.items in
-    let old = c.self.inside.room in
-    let now = c.in_ok-room.room in
-    let one = c.in_ok-field.field in
-    let at = c.in-Err.at in
-    let stand : StandFor grid (standings old held) = rw (ap (λ (h : Holding). h.fields) c.self.view_is) c.requires.stands in
-    let room : at ≤ length held = omega (arith, ap length c.deref.ensures.value, c.in-Err.ensures.room, IsKept-long c.self.inside.ranks.items (standings old held) c.self.invariant.0, standings-long old held) in
-    let place : at ≤ length (standings old held) = omega (arith, room, standings-long old held) in
-    let view = ap (standings (Some now)) c.in_ok-insert-2.ensures.items ∙ standings-insert grid held old c.self.invariant.1 stand one at room now c.in_ok-room.ensures.on in
-    let fields = insert (standings old held) at (standing_on grid one) in
-    let same : SameButGoal (standings old held) fields c.args.goal = subst (SameButGoal (standings old held) fields) c.in_ok-field.ensures.goal (SameButGoal-insert (standings old held) (standing_on grid one) at place) in
-    rw (view, ← c.self.view_is) same
-
-pub returns-clause-one_each : goal.returns-clause-one_each
-returns-clause-one_each c =
-    let grid = c.args.grid.now in
-    let held = c.self.inside.fields.items in
-    let old = c.self.inside.room in
-    let now = c.in_ok-room.room in
-    let one = c.in_ok-field.field in
-    let at = c.in-Err.at in
-    let stand : StandFor grid (standings old held) = rw (ap (λ (h : Holding). h.fields) c.self.view_is) c.requires.stands in
-    let room : at ≤ length held = omega (arith, ap length c.deref.ensures.value, c.in-Err.ensures.room, IsKept-long c.self.inside.ranks.items (standings old held) c.self.invariant.0, standings-long old held) in
-    let place : at ≤ length (standings old held) = omega (arith, room, standings-long old held) in
-    let view = ap (standings (Some now)) c.in_ok-insert-2.ensures.items ∙ standings-insert grid held old c.self.invariant.1 stand one at room now c.in_ok-room.ensures.on in
-    let is_rank : c.rank-rank.result ≡ rank_of one.goal = c.rank-rank.ensures.is ∙ ap rank_of (sym c.in_ok-field.ensures.goal) in
-    let gap : IsGap c.self.inside.ranks.items (rank_of one.goal) at =
-    IsGap-from c.self.inside.ranks.items c.deref.result.now c.rank-rank.result (rank_of one.goal) at c.deref.ensures.value is_rank c.in-Err.ensures.room c.in-Err.ensures.below c.in-Err.ensures.above in
+    let fields = standings old held in
+    let stand : StandFor grid fields = rw (ap (λ (h : Holding). h.fields) c.self.view_is) c.requires.stands in
+    let room : at ≤ length held =
+    omega (arith, ap length c.deref.ensures.value, c.in-Err.ensures.room, IsKept-long ranks fields c.self.invariant.0, standings-long old held) in
+    let place : at ≤ length fields = omega (arith, room, standings-long old held) in
+    let view = ap (standings (Some c.in_ok-room.room)) c.in_ok-insert-2.ensures.items
+    ∙ standings-insert grid held old c.self.invariant.1 stand one at room c.in_ok-room.room c.in_ok-room.ensures.on in
+    let gap : IsGap ranks (rank_of c.args.goal) at =
+    IsGap-from ranks c.deref.result.now c.rank-rank.result (rank_of c.args.goal) at c.deref.ensures.value c.rank-rank.ensures.is c.in-Err.ensures.room
+    c.in-Err.ensures.below c.in-Err.ensures.above in
     let sound : IsSound (standing_on grid one) = record { whole = c.in_ok-field.ensures.at_rest.whole; held = c.in_ok-field.ensures.at_rest.goal_held } in
-    let kept = IsKept-insert c.self.inside.ranks.items (standings old held) (standing_on grid one) at c.self.invariant.0 gap sound (rw c.in_ok-field.ensures.goal c.rank-rank.ensures.column) (rw c.in_ok-field.ensures.goal c.rank-rank.ensures.row) in
-    rw view (RiseByGoal-kept _ _ kept)
-
-pub returns-clause-again : goal.returns-clause-again
-returns-clause-again c held =
-    let gap : IsGap c.self.inside.ranks.items (rank_of c.args.goal) c.in-Err.at =
-    IsGap-from c.self.inside.ranks.items c.deref.result.now c.rank-rank.result (rank_of c.args.goal) c.in-Err.at c.deref.ensures.value c.rank-rank.ensures.is c.in-Err.ensures.room c.in-Err.ensures.below c.in-Err.ensures.above in
-    absurd (HasGoal-gap c.self.inside.ranks.items (standings c.self.inside.room c.self.inside.fields.items) c.args.goal c.in-Err.at c.self.invariant.0 gap (rw (ap (λ (h : Holding). h.fields) c.self.view_is) held))
-
-pub returns-clause-told : goal.returns-clause-told
-returns-clause-told c = rw (← c.self.view_is) c.in_ok-room.ensures.told
+    let kept = IsKept-insert ranks fields (standing_on grid one) at c.self.invariant.0 (rw c.in_ok-field.ensures.goal gap) sound
+    (rw c.in_ok-field.ensures.goal c.rank-rank.ensures.column) (rw c.in_ok-field.ensures.goal c.rank-rank.ensures.row) in
+    record {
+      stands = rw view (All-insert (λ field. field.grid ≡ grid) fields (standing_on grid one) at place stand refl);
+      held = (standing_on grid one, rw view (Contains-new fields at (standing_on grid one) place), c.in_ok-field.ensures.goal);
+      others = rw (view, ← c.self.view_is, ← c.in_ok-field.ensures.goal) (SameButGoal-insert fields (standing_on grid one) at place);
+      one_each = rw view (RiseByGoal-kept _ _ kept);
+      told = rw (← c.self.view_is) c.in_ok-room.ensures.told;
+      again = λ has. absurd (HasGoal-gap ranks fields c.args.goal at c.self.invariant.0 gap (rw (ap (λ (h : Holding). h.fields) c.self.view_is) has));
+    }

@@ -19,38 +19,30 @@ invariant_of-self c =
       rw c.remove-in-Ok.ensures.items (HaveRoom-remove c.self.inside.fields.items c.in-Ok.at c.self.inside.room c.let_go.new.room within_fields none some c.self.invariant.1),
     )
 
-pub returns-in-Ok-clause-gone : goal.returns-in-Ok-clause-gone
-returns-in-Ok-clause-gone c =
-    let within : c.in-Ok.at < length c.self.inside.ranks.items = rw (← c.deref.ensures.value) c.in-Ok.ensures.within in
-    let is : slice_index c.self.inside.ranks.items c.in-Ok.at ≡ rank_of c.args.goal = rw (← c.deref.ensures.value) c.in-Ok.ensures.found ∙ c.rank.ensures.is in
-    let within_fields : c.in-Ok.at < length c.self.inside.fields.items = omega (arith, within, IsKept-long c.self.inside.ranks.items (standings c.self.inside.room c.self.inside.fields.items) c.self.invariant.0, standings-long c.self.inside.room c.self.inside.fields.items) in
+pub returns-in-Ok : goal.returns-in-Ok
+returns-in-Ok c =
+    let ranks = c.self.inside.ranks.items in
+    let held = c.self.inside.fields.items in
+    let fields = standings c.self.inside.room held in
+    let within : c.in-Ok.at < length ranks = rw (← c.deref.ensures.value) c.in-Ok.ensures.within in
+    let is : slice_index ranks c.in-Ok.at ≡ rank_of c.args.goal = rw (← c.deref.ensures.value) c.in-Ok.ensures.found ∙ c.rank.ensures.is in
+    let within_fields : c.in-Ok.at < length held = omega (arith, within, IsKept-long ranks fields c.self.invariant.0, standings-long c.self.inside.room held) in
     let left = c.deref-in-Ok.ensures.value in
     let none = rw (left, c.remove-in-Ok.ensures.items) at c.let_go.ensures.none in
     let some = rw (left, c.remove-in-Ok.ensures.items) at c.let_go.ensures.some in
-    let view = ap (standings c.let_go.new.room) c.remove-in-Ok.ensures.items ∙ standings-remove c.self.inside.fields.items c.in-Ok.at c.self.inside.room c.let_go.new.room within_fields none some c.self.invariant.1 in
-    rw view (HasGoal-remove c.self.inside.ranks.items (standings c.self.inside.room c.self.inside.fields.items) c.args.goal c.in-Ok.at c.self.invariant.0 within is)
-
-pub returns-in-Ok-clause-others : goal.returns-in-Ok-clause-others
-returns-in-Ok-clause-others c =
-    let within : c.in-Ok.at < length c.self.inside.ranks.items = rw (← c.deref.ensures.value) c.in-Ok.ensures.within in
-    let is : slice_index c.self.inside.ranks.items c.in-Ok.at ≡ rank_of c.args.goal = rw (← c.deref.ensures.value) c.in-Ok.ensures.found ∙ c.rank.ensures.is in
-    let within_fields : c.in-Ok.at < length c.self.inside.fields.items = omega (arith, within, IsKept-long c.self.inside.ranks.items (standings c.self.inside.room c.self.inside.fields.items) c.self.invariant.0, standings-long c.self.inside.room c.self.inside.fields.items) in
-    let left = c.deref-in-Ok.ensures.value in
-    let none = rw (left, c.remove-in-Ok.ensures.items) at c.let_go.ensures.none in
-    let some = rw (left, c.remove-in-Ok.ensures.items) at c.let_go.ensures.some in
-    let view = ap (standings c.let_go.new.room) c.remove-in-Ok.ensures.items ∙ standings-remove c.self.inside.fields.items c.in-Ok.at c.self.inside.room c.let_go.new.room within_fields none some c.self.invariant.1 in
-    rw (view, ← c.self.view_is) (SameButGoal-remove (standings c.self.inside.room c.self.inside.fields.items) c.args.goal c.in-Ok.at (omega (arith, within_fields, standings-long c.self.inside.room c.self.inside.fields.items))
-    (λ d. goal_at c.self.inside.ranks.items (standings c.self.inside.room c.self.inside.fields.items) c.args.goal c.self.invariant.0 c.rank.ensures.column c.in-Ok.at d within is))
-
-pub returns-in-Ok-clause-one_each : goal.returns-in-Ok-clause-one_each
-returns-in-Ok-clause-one_each c =
-    let within : c.in-Ok.at < length c.self.inside.ranks.items = rw (← c.deref.ensures.value) c.in-Ok.ensures.within in
-    let within_fields : c.in-Ok.at < length c.self.inside.fields.items = omega (arith, within, IsKept-long c.self.inside.ranks.items (standings c.self.inside.room c.self.inside.fields.items) c.self.invariant.0, standings-long c.self.inside.room c.self.inside.fields.items) in
-    let left = c.deref-in-Ok.ensures.value in
-    let none = rw (left, c.remove-in-Ok.ensures.items) at c.let_go.ensures.none in
-    let some = rw (left, c.remove-in-Ok.ensures.items) at c.let_go.ensures.some in
-    let view = ap (standings c.let_go.new.room) c.remove-in-Ok.ensures.items ∙ standings-remove c.self.inside.fields.items c.in-Ok.at c.self.inside.room c.let_go.new.room within_fields none some c.self.invariant.1 in
-    rw view (RiseByGoal-kept _ _ (IsKept-remove c.self.inside.ranks.items (standings c.self.inside.room c.self.inside.fields.items) c.in-Ok.at c.self.invariant.0 within))
+    let view = ap (standings c.let_go.new.room) c.remove-in-Ok.ensures.items
+    ∙ standings-remove held c.in-Ok.at c.self.inside.room c.let_go.new.room within_fields none some c.self.invariant.1 in
+    record {
+      gone = rw view (HasGoal-remove ranks fields c.args.goal c.in-Ok.at c.self.invariant.0 within is);
+      others = rw (view, ← c.self.view_is) (SameButGoal-remove fields c.args.goal c.in-Ok.at (omega (arith, within_fields, standings-long c.self.inside.room held))
+          (λ d. goal_at ranks fields c.args.goal c.self.invariant.0 c.rank.ensures.column c.in-Ok.at d within is));
+      one_each = rw view (RiseByGoal-kept _ _ (IsKept-remove ranks fields c.in-Ok.at c.self.invariant.0 within));
+      told = λ more.
+          let kept : 0 < length c.remove-in-Ok.new.self.items = omega (arith, more, standings-long c.let_go.new.room c.remove-in-Ok.new.self.items) in
+          rw (← c.self.view_is) (ap total_in (rw c.deref-in-Ok.ensures.value at c.let_go.ensures.some kept));
+      unheld = λ unheld. absurd ((rw (← c.self.view_is) at unheld) (HasGoal-at ranks fields c.args.goal c.in-Ok.at c.self.invariant.0 c.rank.ensures.column
+          within is));
+    }
 
 pub returns-in_default-clause-gone : goal.returns-in_default-clause-gone
 returns-in_default-clause-gone c =
@@ -60,14 +52,3 @@ returns-in_default-clause-gone c =
 
 pub returns-in_default-clause-one_each : goal.returns-in_default-clause-one_each
 returns-in_default-clause-one_each c = rw (← c.self.view_is) (RiseByGoal-kept c.self.inside.ranks.items (standings c.self.inside.room c.self.inside.fields.items) c.self.invariant.0)
-
-pub returns-in-Ok-clause-told : goal.returns-in-Ok-clause-told
-returns-in-Ok-clause-told c some =
-    let left : 0 < length c.remove-in-Ok.new.self.items = omega (arith, some, standings-long c.let_go.new.room c.remove-in-Ok.new.self.items) in
-    rw (← c.self.view_is) (ap total_in (rw c.deref-in-Ok.ensures.value at c.let_go.ensures.some left))
-
-pub returns-in-Ok-clause-unheld : goal.returns-in-Ok-clause-unheld
-returns-in-Ok-clause-unheld c none =
-    let within : c.in-Ok.at < length c.self.inside.ranks.items = rw (← c.deref.ensures.value) c.in-Ok.ensures.within in
-    let is : slice_index c.self.inside.ranks.items c.in-Ok.at ≡ rank_of c.args.goal = rw (← c.deref.ensures.value) c.in-Ok.ensures.found ∙ c.rank.ensures.is in
-    absurd ((rw (← c.self.view_is) at none) (HasGoal-at c.self.inside.ranks.items (standings c.self.inside.room c.self.inside.fields.items) c.args.goal c.in-Ok.at c.self.invariant.0 c.rank.ensures.column within is))

@@ -1,29 +1,25 @@
-use Rattle.std.specs.Prelude.{Some, slice_index}
-use Rattle.std.proofs.Common.{◌≡◌, ◌<◌, ◌∙◌, inl, inr, sym, ap, subst, length, arith, ℕ}
-use Rattle.std.proofs.lemmas.List.{get_or_read}
+use Rattle.std.specs.Prelude.{Some}
+use Rattle.std.proofs.Common.{◌∙◌, inl, inr, sym, ap, subst, arith, ℕ}
 use Rattle.grid_cells.specs.Cell.{Point}
 use Rattle.grid_cells.specs.Size.{Holds}
-use Rattle.goal_fields.specs.Lifelong.{IsGood, g_of}
+use Rattle.goal_fields.specs.Lifelong.{IsGood}
 use Rattle.goal_fields.specs.Taking.{Advances, Follows}
 use Rattle.goal_fields.proofs.Neighbours.{cases_cell, cases_adjacent}
-use Rattle.goal_fields.proofs.FollowLemmas.{Advances-update, Advances-trans, Follows-later, IsGood-apart, IsGood-unstirred}
+use Rattle.goal_fields.proofs.FollowLemmas.{g_read, IsSameBut-trans, Advances-update, Advances-trans, Follows-later, IsGood-apart, IsGood-unstirred}
 use Rattle.goal_fields.proofs.lifelong.Lifelong.ripple.Goals as goal
 use Rattle.goal_fields.proofs.lifelong.Lifelong.ripple.Goals.{then-now-was, else-now-was}
 
 pub returns-clause-same : goal.returns-clause-same
 returns-clause-same c =
-    let first = c.update.ensures.same in
-    let then = c.follow_all.ensures.advances.same in
-    record { grid = then.grid ∙ first.grid; goal = then.goal ∙ first.goal; g = then.g ∙ first.g; taken = then.taken ∙ first.taken; total = then.total ∙ first.total }
+    IsSameBut-trans c.args.self.now c.update.new.self c.follow_all.new.self c.update.ensures.same c.follow_all.ensures.advances.same
 
 pub returns-clause-good : goal.returns-clause-good
 returns-clause-good c g taking v held =
     let s = c.args.self.now in
     let from = c.args.from in
     let update = c.update.ensures in
-    let g_in : c.place_of.result < length s.g.items = omega (arith, c.requires.roomy.one_g_each, c.place_of.ensures.bound) in
-    let read : c.index-now.result.now ≡ slice_index s.g.items c.place_of.result = get_or_read s.g.items c.place_of.result c.index-now.result.now g_in c.index-now.ensures 0 in
-    let now_is : g_of s from ≡ c.index-now.result.now = sym (rw (← c.place_of.ensures.is) read) in
+    let now_is = sym (g_read s from c.place_of.result c.index-now.result.now c.requires.roomy.one_g_each c.place_of.ensures.bound c.place_of.ensures.is
+    c.index-now.ensures) in
     let f0 : Follows g s from c.args.was c.index-now.result.now = subst (λ (n : ℕ). Follows g s from c.args.was n) now_is taking.follows in
     let updated : Advances s c.update.new.self = Advances-update s c.update.new.self c.if-now-was.update update.same update.here update.keeps update.others in
     let both : Advances s c.follow_all.new.self = Advances-trans s c.update.new.self c.follow_all.new.self updated c.follow_all.ensures.advances in

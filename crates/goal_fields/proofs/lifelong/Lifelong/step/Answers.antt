@@ -1,7 +1,6 @@
-use Rattle.std.specs.Prelude.{slice_index, slice_index_or, Some, None, min}
+use Rattle.std.specs.Prelude.{slice_index_or, Some, None, min}
 use Rattle.std.proofs.Common.{arith, sym, ap, refl, inl, inr, ◌≡◌, ◌+◌, ◌-◌, ◌*◌, ◌^◌, ◌<◌, ◌≤◌, ◌⊎◌, ◌∙◌, ℕ, length}
 use Rattle.std.proofs.Math.ListN.{set}
-use Rattle.std.proofs.lemmas.List.{get_or_read}
 use Rattle.grid_cells.specs.Cell.{Point}
 use Rattle.goal_fields.specs.Marks.{far}
 use Rattle.grid_cells.specs.Size.{Holds}
@@ -10,8 +9,8 @@ use Rattle.cell_queue.specs.Queue.{area, Queue}
 use Rattle.goal_fields.specs.Repair.{key_for}
 use Rattle.goal_fields.specs.Lifelong.{IsGood, g_of, count_over}
 use Rattle.goal_fields.proofs.TakeLemmas.{IsStep, IsStep-take, IsRhs-good, IsInRepair-step, count_over-le, rhs_in, rhs_in-good}
-use Rattle.goal_fields.proofs.FollowLemmas.{IsTaking-begun, lowered_to}
-use Rattle.goal_fields.proofs.UpdateLemmas.{key_at-out, key_at-other}
+use Rattle.goal_fields.proofs.FollowLemmas.{g_read, IsTaking-begun, lowered_to}
+use Rattle.goal_fields.proofs.UpdateLemmas.{key_at-set, key_at-other}
 use Rattle.goal_fields.proofs.lifelong.Lifelong.step.Goals as goal
 use Rattle.goal_fields.proofs.lifelong.Lifelong.step.Goals.{then-was-key, else-was-key}
 
@@ -19,9 +18,9 @@ pub returns-clause-goes_on : goal.returns-clause-goes_on
 returns-clause-goes_on c d floor inv =
     let held : Holds c.args.self.now.grid.size c.in-Some.least.0 = rw c.requires.queue at c.in-Some.ensures.inside in
     let number : flag_index c.args.self.now.queue.size c.in-Some.least.0 ≡ flag_index c.args.self.now.grid.size c.in-Some.least.0 = rw c.requires.queue refl in
-    let g_in : c.place_of-index.result < length c.args.self.now.g.items = omega (arith, c.requires.one_g_each, c.place_of-index.ensures.bound) in
-    let g_read : c.index-was.result.now ≡ slice_index c.args.self.now.g.items c.place_of-index.result = get_or_read c.args.self.now.g.items c.place_of-index.result c.index-was.result.now g_in c.index-was.ensures 0 in
-    let g_is : c.index-was.result.now ≡ g_of c.args.self.now c.in-Some.least.0 = rw (← c.place_of-index.ensures.is) g_read in
+    let g_is : c.index-was.result.now ≡ g_of c.args.self.now c.in-Some.least.0 =
+    g_read c.args.self.now c.in-Some.least.0 c.place_of-index.result c.index-was.result.now c.requires.one_g_each c.place_of-index.ensures.bound
+    c.place_of-index.ensures.is c.index-was.ensures in
     let case : ((c.in-Some.least.1 < g_of c.args.self.now c.in-Some.least.0) × (c.if-was-key.value ≡ c.in-Some.least.1)) ⊎ ((g_of c.args.self.now c.in-Some.least.0 ≤ c.in-Some.least.1) × (c.if-was-key.value ≡ far)) =
     elim c.if-was-key.branch [
       | then-was-key w ↦ inl (omega (arith, g_is, w.if-was-key.true), w.value-is)
@@ -44,7 +43,7 @@ returns-clause-goes_on c d floor inv =
     let held_q : Holds c.args.self.now.queue.size c.in-Some.least.0 = c.in-Some.ensures.inside in
     let long : length c.args.self.now.queue.keys ≡ area c.args.self.now.queue.size = rw c.requires.queue c.requires.one_key_each in
     let begun = IsTaking-begun c.args.self.now _ c.in-Some.least.0 inv.rhs c.if-was-key.value c.requires held refl refl (rw c.place_of-index.ensures.is refl)
-    (rw c.in-Some.ensures.after (key_at-out c.args.self.now.queue c.in-Some.least.0 held_q long))
+    (rw c.in-Some.ensures.after (key_at-set c.args.self.now.queue c.in-Some.least.0 None held_q long))
     (λ w h apart. rw c.in-Some.ensures.after (key_at-other c.args.self.now.queue c.in-Some.least.0 w None held_q (rw c.requires.queue h) apart))
     inv.repairing.equation inv.queued low in
     let good : (v : Point) → Holds c.ripple.new.self.grid.size v → IsGood c.ripple.new.self v =

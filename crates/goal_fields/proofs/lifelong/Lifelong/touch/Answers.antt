@@ -1,12 +1,11 @@
-use Rattle.std.specs.Prelude.{Some, slice_index}
-use Rattle.std.proofs.Common.{inl, inr, refl, sym, subst, arith, length, ◌≡◌, ◌<◌, ◌⊎◌, ◌∙◌}
-use Rattle.std.proofs.lemmas.List.{get_or_read}
+use Rattle.std.specs.Prelude.{Some}
+use Rattle.std.proofs.Common.{inl, inr, refl, sym, subst, arith, ◌≡◌, ◌⊎◌, ◌∙◌}
 use Rattle.std.proofs.lemmas.List.Elements.{Contains-push_cases}
 use Rattle.grid_cells.specs.Cell.{Point}
 use Rattle.grid_cells.specs.Size.{Holds}
 use Rattle.goal_fields.specs.Lifelong.{IsGood, g_of}
 use Rattle.goal_fields.specs.Taking.{Advances, IsUnstirred}
-use Rattle.goal_fields.proofs.FollowLemmas.{Advances-update, Advances-trans, g_of-same}
+use Rattle.goal_fields.proofs.FollowLemmas.{g_read, Advances-update, Advances-trans, g_of-same}
 use Rattle.goal_fields.proofs.LastLemmas.{IsTouched-more, false≢true_at}
 use Rattle.goal_fields.proofs.lifelong.Lifelong.touch.Goals as goal
 use Rattle.goal_fields.proofs.lifelong.Lifelong.touch.Goals.{else-g-lt-FAR-via-then-g-lt-FAR+else-not-is_open, else-g-lt-FAR-via-else-g-lt-FAR}
@@ -20,9 +19,9 @@ returns-then-not-is_open-clause-touched c start done t =
     let held : Holds s.grid.size a = rw (← c.size.ensures.is) (c.if-holds.ensures.0 refl) in
     let first : Advances s c.update.new.self = Advances-update s c.update.new.self (Some a) update.same update.here update.keeps update.others in
     let on : Advances s c.follow_all.new.self = Advances-trans s c.update.new.self c.follow_all.new.self first after.advances in
-    let g_in : c.place_of.result < length c.update.new.self.g.items = omega (arith, update.roomy.one_g_each, c.place_of.ensures.bound) in
-    let read : c.index-g.result.now ≡ slice_index c.update.new.self.g.items c.place_of.result = get_or_read c.update.new.self.g.items c.place_of.result c.index-g.result.now g_in c.index-g.ensures 0 in
-    let was : g_of c.follow_all.new.self a ≡ c.index-g.result.now = g_of-same c.update.new.self c.follow_all.new.self a after.advances.same ∙ sym (rw (← c.place_of.ensures.is) read) in
+    let read = g_read c.update.new.self a c.place_of.result c.index-g.result.now update.roomy.one_g_each c.place_of.ensures.bound c.place_of.ensures.is
+    c.index-g.ensures in
+    let was : g_of c.follow_all.new.self a ≡ c.index-g.result.now = g_of-same c.update.new.self c.follow_all.new.self a after.advances.same ∙ sym read in
     IsTouched-more start s c.follow_all.new.self done a on after.roomy (after.advances.keeps a (rw update.same.grid held) (update.here a refl))
     (λ v h adj lt. inr (subst (λ n. IsGood c.follow_all.new.self v ⊎ IsUnstirred c.follow_all.new.self v n 4294967295) (sym was) (after.near v (rw (← after.advances.same.grid) h) adj))) t
 
@@ -32,9 +31,8 @@ returns-else-g-lt-FAR-clause-touched c start done t =
     let a = c.args.cell in
     let update = c.update.ensures in
     let first : Advances s c.update.new.self = Advances-update s c.update.new.self (Some a) update.same update.here update.keeps update.others in
-    let g_in : c.place_of.result < length c.update.new.self.g.items = omega (arith, update.roomy.one_g_each, c.place_of.ensures.bound) in
-    let read : c.index-g.result.now ≡ slice_index c.update.new.self.g.items c.place_of.result = get_or_read c.update.new.self.g.items c.place_of.result c.index-g.result.now g_in c.index-g.ensures 0 in
-    let was : g_of c.update.new.self a ≡ c.index-g.result.now = sym (rw (← c.place_of.ensures.is) read) in
+    let was = g_read c.update.new.self a c.place_of.result c.index-g.result.now update.roomy.one_g_each c.place_of.ensures.bound c.place_of.ensures.is
+    c.index-g.ensures in
     IsTouched-more start s c.update.new.self done a first update.roomy (update.here a refl)
     (λ v h adj lt. elim c.else-g-lt-FAR.branch [
       | else-g-lt-FAR-via-then-g-lt-FAR+else-not-is_open w ↦ inl (w.is_open.ensures.0 (w.if-not-is_open.false))
