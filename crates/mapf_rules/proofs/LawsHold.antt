@@ -1,16 +1,16 @@
 -- Laws of the definitions of conflicts.
-use Rattle.std.proofs.Common.{◌≡◌, ℕ, ◌+◌, ◌<◌, ◌≤◌, Some, Option, refl, sym, subst, ◌∙◌, ◌⊎◌, inl, inr, arith}
+use Rattle.std.proofs.lemmas.Bool.Decides.{nat_tests}
+use Rattle.std.proofs.Common.{◌≡◌, ℕ, ◌+◌, ◌<◌, ◌≤◌, Some, Option, refl, subst, ◌∙◌, ◌⊎◌, inl, inr, arith}
 use Rattle.std.specs.Prelude.{IsSome}
 use Rattle.std.proofs.lemmas.Bool.{cases_lt}
-use Rattle.std.proofs.lemmas.Option.{same_Some}
 use Rattle.std.proofs.lemmas.List.{get_or_default}
 use Rattle.grid_cells.specs.Cell.{Point}
 use Rattle.plan_table.specs.Route.{Fleet, position_of, leaves_of, Leaves}
 use Rattle.plan_table.proofs.Order.{ListsAll-unique}
-use Rattle.plan_table.proofs.Fleets.{position_rests, true_or_not, position_sooner}
+use Rattle.plan_table.proofs.Fleets.{true_or_not, position_sooner}
 use Rattle.mapf_rules.specs.Entries.{IsVertex, IsParked, both_end_by}
 use Rattle.mapf_rules.specs.ConflictList.{Stands, listing_key}
-use Rattle.mapf_rules.specs.Laws.{OneConflictList, MeetingsAreTold, SwapIsTwoFollowings, NamedAgentsAreThere, HasStep, Meet}
+use Rattle.mapf_rules.specs.Laws.{OneConflictList, MeetingsAreTold, NamedAgentsAreThere, HasStep, Meet}
 use Rattle.mapf_rules.specs.declared.entries.Conflict.TheVariants.{Vertex, Parked, Edge, Following, Swapping, Cycle}
 
 pub one_list : OneConflictList
@@ -18,58 +18,25 @@ one_list fleet xs ys left right = ListsAll-unique listing_key (Stands fleet) xs 
 
 -- two agents that meet and don't leave, when both are at rest, are parked
 parked_there : (fleet : Fleet) (time first second : ℕ) (cell : Point) → first < second → Meet fleet time first second cell → both_end_by fleet first second ≤ time → (Leaves fleet first → ⊥) → (Leaves fleet second → ⊥) → IsParked fleet (both_end_by fleet first second) first second cell
-parked_there fleet time first second cell ordered meet resting a_stays b_stays =
-    let m : ℕ = both_end_by fleet first second in
-    record {
-      ordered = ordered;
-      first_there = sym (position_rests fleet first m time a_stays (omega arith) resting) ∙ meet.0;
-      second_there = sym (position_rests fleet second m time b_stays (omega arith) resting) ∙ meet.1;
-      rests = refl;
-      first_stays = a_stays;
-      second_stays = b_stays;
-    }
+parked_there fleet time first second cell ordered meet resting a_stays b_stays = grind (arith, nat_tests)
 
 meets : (fleet : Fleet) (time first second : ℕ) (cell : Point) → first < second → Meet fleet time first second cell → IsVertex fleet time first second cell ⊎ ((from : ℕ) × (from ≤ time) × IsParked fleet from first second cell)
 meets fleet time first second cell ordered meet =
     elim (cases_lt time (both_end_by fleet first second)) [
       | inl moving ↦ inl (record { ordered = ordered; first_there = meet.0; second_there = meet.1; passes = inl moving })
-      | inr resting ↦ elim (true_or_not (leaves_of fleet first)) [
-        | inl a_leaves ↦ inl (record { ordered = ordered; first_there = meet.0; second_there = meet.1; passes = inr (inl a_leaves) })
-        | inr a_stays ↦ elim (true_or_not (leaves_of fleet second)) [
-          | inl b_leaves ↦ inl (record { ordered = ordered; first_there = meet.0; second_there = meet.1; passes = inr (inr b_leaves) })
-          | inr b_stays ↦ inr (both_end_by fleet first second, resting, parked_there fleet time first second cell ordered meet resting a_stays b_stays)
-        ]
-      ]
+      | inr resting ↦
+          grind (arith, true_or_not (leaves_of fleet first), true_or_not (leaves_of fleet second), parked_there fleet time first second cell ordered meet resting, resting)
     ]
 
 meets_back : (fleet : Fleet) (time first second : ℕ) (cell : Point) → IsVertex fleet time first second cell ⊎ ((from : ℕ) × (from ≤ time) × IsParked fleet from first second cell) → Meet fleet time first second cell
 meets_back fleet time first second cell (inl vertex) = (vertex.first_there, vertex.second_there)
-meets_back fleet time first second cell (inr (from, le, parked)) =
-    (position_rests fleet first from time parked.first_stays (omega (arith, parked.rests)) le ∙ parked.first_there, position_rests fleet second from time parked.second_stays (omega (arith, parked.rests)) le ∙ parked.second_there)
+meets_back fleet time first second cell (inr (from, le, parked)) = grind (arith, nat_tests)
 
 pub meetings : MeetingsAreTold
 meetings fleet time first second cell ordered = (meets fleet time first second cell ordered, meets_back fleet time first second cell)
 
 is_some : {X : Type 0} (o : Option X) (x : X) → o ≡ Some x → IsSome o
 is_some o x e = rw e refl
-
-pub swap_follows : SwapIsTwoFollowings
-swap_follows fleet time first second cell other swap = (
-  record {
-    two = omega (arith, swap.ordered);
-    leader_there = swap.second_from;
-    leader_goes_on = is_some _ cell swap.second_to;
-    follower_to = swap.first_to;
-    moves = λ same. swap.moves (same_Some cell other (sym swap.first_from ∙ same));
-  },
-  record {
-    two = omega (arith, swap.ordered);
-    leader_there = swap.first_from;
-    leader_goes_on = is_some _ other swap.first_to;
-    follower_to = swap.second_to;
-    moves = λ same. swap.moves (sym (same_Some other cell (sym swap.second_from ∙ same)));
-  },
-)
 
 -- an agent that has a position after a step has one before it
 has_step : (fleet : Fleet) (time agent : ℕ) → IsSome (position_of fleet agent (time + 1)) → HasStep fleet time agent

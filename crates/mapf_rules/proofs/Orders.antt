@@ -10,7 +10,6 @@ use Rattle.std.proofs.lemmas.List.Elements.{All-from_recursion}
 use Rattle.std.proofs.lemmas.List.Kept.{AllPairs-cons}
 use Rattle.std.proofs.lemmas.Map.Lookups.{CmpEqualImpliesEq, exact_bytes}
 use Rattle.std.proofs.lemmas.Map.Views.{tells_apart}
-use Rattle.grid_cells.specs.Cell.{Point}
 use Rattle.mapf_rules.specs.ConflictList.{listing_key}
 use Rattle.mapf_rules.specs.ConflictList.{IsListed}
 use Rattle.mapf_rules.specs.Laws.{EntriesCompareAsListed}
@@ -51,24 +50,10 @@ pub entries_ascend : (entries : List Conflict) → IsStrictlySortedBy order.ghos
 entries_ascend entries sorted = pairs_ascend _ entries (subst (λ R. IsStrictlySortedBy R entries) (λ i a b. conflict_cmp-is a b i) sorted)
 
 -- ---- entries that are equal by their own order are one
-same_point : (a b : Point) → a.x ≡ b.x → a.y ≡ b.y → a ≡ b
-same_point a b xs ys = λ i. record { x = xs i; y = ys i }
-
 -- entries with one key are one
 listing_key-injective : (a b : Conflict) → listing_key a ≡ listing_key b → a ≡ b
-listing_key-injective (Vertex x a b c) (Vertex x' a' b' c') e = let at : c ≡ c' = same_point c c' (cc) (cc) in cc
-listing_key-injective (Parked x a b c) (Parked x' a' b' c') e = let at : c ≡ c' = same_point c c' (cc) (cc) in cc
-listing_key-injective (Edge x a b c n) (Edge x' a' b' c' n') e =
-    let at : c ≡ c' = same_point c c' (cc) (cc) in
-    let to : n ≡ n' = same_point n n' (cc) (cc) in
-    cc
-listing_key-injective (Following x a b c) (Following x' a' b' c') e = let at : c ≡ c' = same_point c c' (cc) (cc) in cc
-listing_key-injective (Swapping x a b c n) (Swapping x' a' b' c' n') e =
-    let at : c ≡ c' = same_point c c' (cc) (cc) in
-    let to : n ≡ n' = same_point n n' (cc) (cc) in
-    cc
 listing_key-injective (Cycle x r) (Cycle x' r') e = cc
-listing_key-injective a b e = cc
+listing_key-injective a b e = grind arith
 
 pub conflict_total : IsTotalOrder order.ghosts.cmp
 conflict_total = laws.total-law

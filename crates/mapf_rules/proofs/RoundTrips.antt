@@ -5,30 +5,23 @@ use Rattle.std.specs.List.{Contains, AllPairs}
 use Rattle.std.proofs.Math.Nat.{mod_self}
 use Rattle.std.proofs.lemmas.Bool.{cases_lt}
 use Rattle.std.proofs.lemmas.Option.{same_Some}
-use Rattle.std.proofs.lemmas.List.{same_lists, get_or_default, get_or_append_left, get_or_push, get_or_read}
+use Rattle.std.proofs.lemmas.List.{same_lists, get_or_default, get_or_append_left, get_or_push}
 use Rattle.std.proofs.lemmas.List.Elements.{All-push, Contains-get_or}
 use Rattle.grid_cells.specs.Cell.{Point}
-use Rattle.plan_table.specs.Route.{Fleet, position_of, last_of, tracks_of}
-use Rattle.plan_table.specs.declared.tracks.Mode.{Mode}
+use Rattle.plan_table.specs.Route.{Fleet, position_of, last_of}
 use Rattle.mapf_rules.specs.Cycles.{MovesOut, Follows, IsRing}
 use Rattle.std.specs.List.{remove}
 use Rattle.std.specs.Ordering.{is_lt, nat_cmp}
 use Rattle.std.proofs.lemmas.Bool.Decides.{nat_tests}
-use Rattle.std.proofs.lemmas.Option.{slice_get_within, get_or_from_slice_get}
-use Rattle.std.proofs.lemmas.List.{length-map}
 use Rattle.std.proofs.lemmas.List.Edits.{length-remove}
 use Rattle.std.proofs.lemmas.List.Sorted.{IsPermutation-remove, Contains-permutation}
-use Rattle.plan_table.specs.Plans.{agents_of}
-use Rattle.plan_table.specs.declared.plans.Row.{Row}
 use Rattle.plan_table.proofs.Order.{Contains-cons_head, Contains-cons_tail, Contains-cons_cases, AllPairs-head, AllPairs-tail}
-use Rattle.plan_table.proofs.Fleets.{rank_of, tracks_live, position_live, changes_early}
+use Rattle.plan_table.proofs.Fleets.{position_live}
 use Rattle.mapf_rules.specs.RingWalk.{IsSoleMover, MovesTo, IsNext, IsChain, BeginsWith}
 
 -- an agent has one next
 pub IsNext-unique : (fleet : Fleet) (time agent a b : ℕ) → IsNext fleet time agent a → IsNext fleet time agent b → a ≡ b
-IsNext-unique fleet time agent a b left right =
-    let cells : left.cell ≡ right.cell = same_Some _ _ (sym left.to ∙ right.to) in
-    right.sole.only a (subst (MovesOut fleet time a) cells left.sole.moves)
+IsNext-unique fleet time agent a b left right = grind (arith, nat_tests)
 
 -- the index after k, round the ring
 pub after_within : (k n : ℕ) → k < n → (k + 1) % n < n
@@ -40,37 +33,40 @@ after_inside k n h = grind arith
 pub after_end : (k n : ℕ) → k + 1 ≡ n → (k + 1) % n ≡ 0
 after_end k n h = rw h (mod_self n)
 
+-- what holds of one index, and of the one after each, holds of all
+module _ (n : ℕ) (P : ℕ → Type 0) (step : (k : ℕ) → k < n → P k → P ((k + 1) % n)) where
+  climb : (steps k : ℕ) → k + steps < n → P k → P (k + steps)
+  climb zero k within h = subst P {x = k} (omega arith) h
+  climb (suc steps) k within h =
+      subst P (after_inside (k + steps) n (omega arith) ∙ omega arith) (step (k + steps) (omega arith) (climb steps k (omega arith) h))
+
+  pub all_round : (i j : ℕ) → i < n → j < n → P i → P j
+  all_round i j i_in j_in h =
+      let last : P (n - 1) = subst P {x = i + (n - 1 - i)} (omega arith) (climb (n - 1 - i) i (omega arith) h) in
+      subst P {x = 0 + j} (omega arith) (climb j 0 (omega arith) (subst P (after_end (n - 1) n (omega arith)) (step (n - 1) (omega arith) last)))
+
 -- an agent that follows another moves out of where it is
 follower_moves_out : (fleet : Fleet) (time agent leader : ℕ) (cell : Point) → Follows fleet time agent leader → position_of fleet agent time ≡ Some cell → MovesOut fleet time agent cell
-follower_moves_out fleet time agent leader cell (to, follows) here = record {
-  from = here;
-  goes_on = rw follows.follower_to refl;
-  moves = λ stays.
-      let same : to ≡ cell = same_Some to cell (sym follows.follower_to ∙ stays) in
-      follows.moves (here ∙ ap Some (sym same));
-}
+follower_moves_out fleet time agent leader cell (to, follows) here = grind (arith, nat_tests)
 
 module _ (fleet : Fleet) (time : ℕ) (ring : List ℕ) (is : IsRing fleet time ring) where
   -- each agent of a ring has the following one as its next
   pub ring_next : (k : ℕ) → k < length ring → IsNext fleet time (slice_index ring k) (slice_index ring ((k + 1) % length ring))
   ring_next k within =
       let j : ℕ = (k + 1) % length ring in
-      let inside : j < length ring = after_within k (length ring) within in
-      let step : Follows fleet time (slice_index ring k) (slice_index ring j) = is.round k within in
+      let step = is.round k within in
       record {
         cell = step.0;
         to = step.1.follower_to;
         moves = step.1.moves;
         sole = record {
-          moves = follower_moves_out fleet time (slice_index ring j) _ step.0 (is.round j inside) step.1.leader_there;
-          only = λ other out. is.alone (slice_index ring j) other step.0 (Contains-get_or ring j 0 inside) step.1.leader_there out;
+          moves = follower_moves_out fleet time (slice_index ring j) _ step.0 (is.round j (after_within k (length ring) within)) step.1.leader_there;
+          only = λ other out.
+              is.alone (slice_index ring j) other step.0 (Contains-get_or ring j 0 (after_within k (length ring) within)) step.1.leader_there out;
         };
       }
 
 module _ (fleet : Fleet) (time first : ℕ) (chain : List ℕ) (is : IsChain fleet time first chain) where
-  last_of_chain : ℕ
-  last_of_chain = slice_index chain (length chain - 1)
-
   module _ (ring : List ℕ) (round : IsRing fleet time ring) (begins : BeginsWith ring chain) where
     -- the ring's agent at the chain's end
     same_last : slice_index ring (length chain - 1) ≡ slice_index chain (length chain - 1)
@@ -86,16 +82,11 @@ module _ (fleet : Fleet) (time first : ℕ) (chain : List ℕ) (is : IsChain fle
 
       -- a longer ring goes on with the next
       pub longer_next : length chain < length ring → slice_index ring (length chain) ≡ next
-      longer_next longer =
-          let at : (length chain - 1 + 1) % length ring ≡ length chain - 1 + 1 = after_inside (length chain - 1) (length ring) (omega (arith, is.some_agent)) in
-          let here : length chain - 1 + 1 ≡ length chain = omega (arith, is.some_agent) in
-          sym (ap (slice_index ring) (at ∙ here)) ∙ ring_goes_on
+      longer_next longer = grind (arith, ring_goes_on, after_inside (length chain - 1) (length ring), is.some_agent)
 
       -- a ring of the chain's length comes back to the first
       pub equal_next : length chain ≡ length ring → next ≡ slice_index ring 0
-      equal_next same =
-          let at : (length chain - 1 + 1) % length ring ≡ 0 = after_end (length chain - 1) (length ring) (omega (arith, is.some_agent)) in
-          sym ring_goes_on ∙ ap (slice_index ring) at
+      equal_next same = grind (arith, ring_goes_on, after_end (length chain - 1) (length ring), is.some_agent)
 
       -- so where the next is not the first, the ring begins with the chain and the next
       pub begins_more : slice_index ring 0 ≡ first → next ≢ first → BeginsWith ring (chain ++ next ∷ [])
@@ -168,6 +159,13 @@ module _ (fleet : Fleet) (time first next : ℕ) (chain : List ℕ) (is : IsChai
         above = All-push (λ a. first ≤ a) chain next is.above above;
       }
 
+-- where each agent of a list has the following one as its next, each is the next of one
+has_before : (fleet : Fleet) (time : ℕ) (ring : List ℕ) → ((k : ℕ) → k < length ring → IsNext fleet time (slice_index ring k) (slice_index ring ((k + 1) % length ring)))
+    → (k : ℕ) → k < length ring → (before : ℕ) × IsNext fleet time before (slice_index ring k)
+has_before fleet time ring next k within =
+    let P : ℕ → Type 0 = λ m. (before : ℕ) × IsNext fleet time before (slice_index ring m) in
+    all_round (length ring) P (λ m lt _. (slice_index ring m, next m lt)) ((0 + 1) % length ring) k (omega arith) within (slice_index ring 0, next 0 (omega arith))
+
 -- a chain that comes back to its first agent is a ring
 module _ (fleet : Fleet) (time first : ℕ) (chain : List ℕ) (is : IsChain fleet time first chain) (back : IsNext fleet time (slice_index chain (length chain - 1)) first) where
   -- each agent of the chain has the one after it, round the ring, as its next
@@ -180,22 +178,12 @@ module _ (fleet : Fleet) (time first : ℕ) (chain : List ℕ) (is : IsChain fle
             rw (after_end k (length chain) (omega arith), is.starts) (subst (λ q. IsNext fleet time (slice_index chain q) first) at_last back)
       ]
 
-  -- and each is the next of some agent
-  linked_to : (k : ℕ) → k < length chain → (before : ℕ) × IsNext fleet time before (slice_index chain k)
-  linked_to zero within = (slice_index chain (length chain - 1), rw is.starts back)
-  linked_to (suc k) within =
-      let next : k + 1 ≡ suc k = omega arith in
-      (slice_index chain k, subst (λ q. IsNext fleet time (slice_index chain k) (slice_index chain q)) next (is.links k (omega arith)))
-
   following : (k : ℕ) → k < length chain → (a : ℕ) → a ≢ slice_index chain k → IsNext fleet time (slice_index chain k) a → Follows fleet time (slice_index chain k) a
   following k within a differs next = (next.cell, record { two = λ same. differs (sym same); leader_there = next.sole.moves.from; leader_goes_on = next.sole.moves.goes_on; follower_to = next.to; moves = next.moves })
 
   round_differs : 3 ≤ length chain → (k : ℕ) → k < length chain → slice_index chain ((k + 1) % length chain) ≢ slice_index chain k
   round_differs three k within same =
-      elim (cases_lt (k + 1) (length chain)) [
-        | inl inside ↦ is.distinct k (k + 1) 0 (omega arith) inside (sym (ap (slice_index chain) (sym (after_inside k (length chain) inside)) ∙ same))
-        | inr end ↦ is.distinct 0 k 0 (omega arith) within (ap (slice_index chain) (sym (after_end k (length chain) (omega arith))) ∙ same)
-      ]
+      grind (arith, is.distinct k (k + 1) 0, is.distinct 0 k 0, after_inside k (length chain), after_end k (length chain))
 
   pub ring_of_chain : 3 ≤ length chain → IsRing fleet time chain
   ring_of_chain three = record {
@@ -204,7 +192,7 @@ module _ (fleet : Fleet) (time first : ℕ) (chain : List ℕ) (is : IsChain fle
     least_first = λ k d within. let low : first ≤ get_or chain k d = is.above k d within in omega (arith, is.starts);
     round = λ k within. following k within (slice_index chain ((k + 1) % length chain)) (round_differs three k within) (round_link k within);
     alone = λ member other cell (k, within, at) there out.
-        let link = linked_to k within in
+        let link = has_before fleet time chain round_link k within in
         let here : slice_index chain k ≡ member = get_or_default chain k 0 member within ∙ at in
         let cells : link.1.cell ≡ cell = same_Some _ _ (sym link.1.sole.moves.from ∙ ap (λ a. position_of fleet a time) here ∙ there) in
         link.1.sole.only other (subst (MovesOut fleet time other) (sym cells) out) ∙ here;
@@ -223,16 +211,6 @@ distinct_fits (x ∷ xs) ys distinct into =
     ]) in
     omega arith
 
--- a ring has no more agents than there are plans
-pub ring_fits : (mode : Mode) (rows : List (ℕ × Row)) (time : ℕ) (ring : List ℕ) → IsRing (tracks_of mode rows) time ring → length ring ≤ length rows
-ring_fits mode rows time ring is =
-    let few = distinct_fits ring (agents_of rows) is.distinct (λ a (k, within, at).
-    let step = is.round k within in
-    let here : slice_index ring k ≡ a = get_or_default ring k 0 a within ∙ at in
-    let rank = rank_of rows (slice_index ring k) (tracks_live mode rows (slice_index ring k) (position_live (tracks_of mode rows) (slice_index ring k) (time + 1) step.0 step.1.follower_to)) in
-    (rank.0, slice_get_within (agents_of rows) rank.0 _ rank.2, get_or_from_slice_get (agents_of rows) rank.0 a a (rank.2 ∙ ap Some here))) in
-    omega (arith, length-map {A = ℕ × Row} rows (λ row. row.0))
-
 -- where a ring cannot go on as the chain does
 module _ (fleet : Fleet) (time first next : ℕ) (chain : List ℕ) (is : IsChain fleet time first chain) (follows : IsNext fleet time (slice_index chain (length chain - 1)) next)
     (differs : next ≢ first) (ring : List ℕ) (round : IsRing fleet time ring) (starts : slice_index ring 0 ≡ first) (begins : BeginsWith ring chain) where
@@ -249,19 +227,11 @@ module _ (fleet : Fleet) (time first next : ℕ) (chain : List ℕ) (is : IsChai
   inside = let long : length (chain ++ next ∷ []) ≡ length chain + 1 = n in omega (arith, more.long)
 
   pub none_below : next < first → ⊥
-  none_below low =
-      let least : slice_index ring 0 ≤ get_or ring (length chain) 0 = round.least_first (length chain) 0 inside in
-      let end : slice_index ring (length chain) ≡ next = at_end in
-      omega arith
+  none_below low = grind (arith, round.least_first (length chain) 0 inside, at_end)
 
   pub none_again : Contains chain next → ⊥
   none_again (k, within, at) =
-      let there : slice_index ring k ≡ next = begins.same k within ∙ get_or_default chain k 0 next within ∙ at in
-      round.distinct k (length chain) 0 within inside (there ∙ sym at_end)
-
--- the last element as an index reads it
-pub last_read : (xs : List ℕ) (x n : ℕ) → 0 < length xs → n ≡ length xs → x ≡ get_or xs (n - 1) x → x ≡ slice_index xs (length xs - 1)
-last_read xs x n some is read = get_or_read xs (length xs - 1) x (omega arith) (subst (λ q. x ≡ get_or xs (q - 1) x) is read) 0
+      grind (arith, begins.same k within, get_or_default chain k 0 next within, round.distinct k (length chain) 0 within inside, at_end)
 
 pub lt_says : (a b : ℕ) → true ≡ is_lt (nat_cmp a b) → a < b
 lt_says a b h = grind (arith, nat_tests)
@@ -274,10 +244,7 @@ pub ring_live : (fleet : Fleet) (time : ℕ) (ring : List ℕ) → IsRing fleet 
 ring_live fleet time ring is = let step = is.round 0 (omega (arith, is.three)) in position_live fleet (slice_index ring 0) (time + 1) step.0 step.1.follower_to
 
 pub ring_early : (fleet : Fleet) (h time : ℕ) (ring : List ℕ) → ((agent : ℕ) → last_of fleet agent ≤ h) → IsRing fleet time ring → time ≤ h
-ring_early fleet h time ring above is =
-    let step = is.round 0 (omega (arith, is.three)) in
-    let early = changes_early fleet (slice_index ring 0) time (λ same. step.1.moves (same ∙ step.1.follower_to)) in
-    omega (arith, above (slice_index ring 0))
+ring_early fleet h time ring above is = grind (arith, nat_tests)
 
 -- the next of an agent that moves to a cell is the one that alone moves out of it
 pub next_of_sole : (fleet : Fleet) (time agent next : ℕ) (cell : Point) → MovesTo fleet time agent cell → IsSoleMover fleet time cell next → IsNext fleet time agent next
@@ -285,10 +252,6 @@ next_of_sole fleet time agent next cell moves sole = record { cell = cell; to = 
 
 pub sole_of_next : (fleet : Fleet) (time agent next : ℕ) (cell : Point) → MovesTo fleet time agent cell → IsNext fleet time agent next → IsSoleMover fleet time cell next
 sole_of_next fleet time agent next cell moves is = subst (λ (c : Point). IsSoleMover fleet time c next) (same_Some _ _ (sym is.to ∙ moves.to)) is.sole
-
--- the first agent of a ring moves
-pub ring_moves : (fleet : Fleet) (time : ℕ) (ring : List ℕ) → IsRing fleet time ring → (cell : Point) × MovesTo fleet time (slice_index ring 0) cell
-ring_moves fleet time ring is = let step = is.round 0 (omega (arith, is.three)) in (step.0, record { to = step.1.follower_to; moves = step.1.moves })
 
 -- ---- few numbers lie below another
 down_from : ℕ → List ℕ
@@ -315,22 +278,11 @@ distinct_below n xs distinct low =
     omega (arith, down_length n)
 
 -- what holds of an agent of a ring, and of each one's next, holds of its least
-module _ (fleet : Fleet) (time : ℕ) (ring : List ℕ) (P : ℕ → Type 0) (step : (a next : ℕ) → IsNext fleet time a next → P a → P next) (is : IsRing fleet time ring) where
-  on : (k : ℕ) → k < length ring → P (slice_index ring k) → P (slice_index ring ((k + 1) % length ring))
-  on k within h = step _ _ (ring_next fleet time ring is k within) h
-
-  climb_to : (k steps : ℕ) → k + steps < length ring → P (slice_index ring k) → P (slice_index ring (k + steps))
-  climb_to k zero within h = subst (λ q. P (slice_index ring q)) {x = k} (omega arith) h
-  climb_to k (suc steps) within h =
-      let before : P (slice_index ring (k + steps)) = climb_to k steps (omega arith) h in
-      let place : (k + steps + 1) % length ring ≡ k + suc steps = after_inside (k + steps) (length ring) (omega arith) ∙ omega arith in
-      subst (λ q. P (slice_index ring q)) place (on (k + steps) (omega arith) before)
-
-  pub round_to_least : (agent : ℕ) → Contains ring agent → P agent → P (slice_index ring 0)
-  round_to_least agent (i, within, at) h =
-      let here : P (slice_index ring i) = subst P (sym (get_or_default ring i 0 agent within ∙ at)) h in
-      let last : P (slice_index ring (length ring - 1)) = subst (λ q. P (slice_index ring q)) {x = i + (length ring - 1 - i)} (omega arith) (climb_to i (length ring - 1 - i) (omega arith) here) in
-      subst (λ q. P (slice_index ring q)) (after_end (length ring - 1) (length ring) (omega arith)) (on (length ring - 1) (omega arith) last)
+pub round_to_least : (fleet : Fleet) (time : ℕ) (ring : List ℕ) (P : ℕ → Type 0) → ((a next : ℕ) → IsNext fleet time a next → P a → P next)
+    → IsRing fleet time ring → (agent : ℕ) → Contains ring agent → P agent → P (slice_index ring 0)
+round_to_least fleet time ring P step is agent (i, within, at) h =
+    let here : P (slice_index ring i) = subst P (sym (get_or_default ring i 0 agent within ∙ at)) h in
+    all_round (length ring) (λ k. P (slice_index ring k)) (λ k lt. step _ _ (ring_next fleet time ring is k lt)) i 0 within (omega arith) here
 
 module _ (fleet : Fleet) (time : ℕ) (ring : List ℕ) (is : IsRing fleet time ring) where
   -- the next of an agent of the ring is of the ring
@@ -353,22 +305,10 @@ module _ (fleet : Fleet) (time : ℕ) (ring : List ℕ) (is : IsRing fleet time 
       sym here_a ∙ ap (slice_index ring) same ∙ here_b
     where
       one_place : (k m : ℕ) → k < length ring → m < length ring → slice_index ring k ≡ slice_index ring m → k ≡ m
-      one_place k m k_in m_in at = elim (cases_lt k m) [
-        | inl lt ↦ absurd (is.distinct k m 0 lt m_in at)
-        | inr ge ↦ elim (cases_lt m k) [ inl gt ↦ absurd (is.distinct m k 0 gt k_in (sym at)) | inr le ↦ omega arith ]
-      ]
+      one_place k m k_in m_in at = grind (arith, is.distinct k m 0, is.distinct m k 0)
 
       same_before : (k m n : ℕ) → k < n → m < n → (k + 1) % n ≡ (m + 1) % n → k ≡ m
-      same_before k m n k_in m_in at = elim (cases_lt (k + 1) n) [
-        | inl k_low ↦ elim (cases_lt (m + 1) n) [
-          | inl m_low ↦ let e : k + 1 ≡ m + 1 = sym (after_inside k n k_low) ∙ at ∙ after_inside m n m_low in omega arith
-          | inr m_end ↦ let e : k + 1 ≡ 0 = sym (after_inside k n k_low) ∙ at ∙ after_end m n (omega arith) in absurd (omega arith)
-        ]
-        | inr k_end ↦ elim (cases_lt (m + 1) n) [
-          | inl m_low ↦ let e : 0 ≡ m + 1 = sym (after_end k n (omega arith)) ∙ at ∙ after_inside m n m_low in absurd (omega arith)
-          | inr m_end ↦ omega arith
-        ]
-      ]
+      same_before k m n k_in m_in at = grind (arith, after_inside k n, after_inside m n, after_end k n, after_end m n)
 
   pub has_next : (agent : ℕ) → Contains ring agent → (next : ℕ) × IsNext fleet time agent next
   has_next agent (i, within, at) =
@@ -377,13 +317,5 @@ module _ (fleet : Fleet) (time : ℕ) (ring : List ℕ) (is : IsRing fleet time 
 
 -- an agent of a ring is the next of another one of it
 pub one_to : (fleet : Fleet) (time : ℕ) (ring : List ℕ) → IsRing fleet time ring → (a : ℕ) → Contains ring a → (before : ℕ) × IsNext fleet time before a
-one_to fleet time ring is a (zero, within, at) =
-    let here : slice_index ring 0 ≡ a = get_or_default ring 0 0 a within ∙ at in
-    let n : ℕ = length ring - 1 in
-    let next = ring_next fleet time ring is n (omega arith) in
-    (slice_index ring n, subst (IsNext fleet time (slice_index ring n)) (ap (slice_index ring) (after_end n (length ring) (omega arith)) ∙ here) next)
-one_to fleet time ring is a (suc k, within, at) =
-    let here : slice_index ring (suc k) ≡ a = get_or_default ring (suc k) 0 a within ∙ at in
-    let next = ring_next fleet time ring is k (omega arith) in
-    let place : (k + 1) % length ring ≡ suc k = after_inside k (length ring) (omega arith) ∙ omega arith in
-    (slice_index ring k, subst (IsNext fleet time (slice_index ring k)) (ap (slice_index ring) place ∙ here) next)
+one_to fleet time ring is a (k, within, at) =
+    subst (λ q. (before : ℕ) × IsNext fleet time before q) (get_or_default ring k 0 a within ∙ at) (has_before fleet time ring (ring_next fleet time ring is) k within)

@@ -1,14 +1,14 @@
 -- A path with no wait at its end settles at its last index.
-use Rattle.std.proofs.Common.{◌≡◌, ℕ, ◌+◌, ◌-◌, ◌≤◌, min, List, Some, None, Option, refl, sym, ap, subst, ◌∙◌, inl, inr, arith}
+use Rattle.std.proofs.lemmas.Bool.Decides.{nat_tests}
+use Rattle.std.proofs.Common.{◌≡◌, ℕ, ◌-◌, ◌≤◌, min, List, Option, refl, sym, ◌∙◌, inl, inr, arith}
 use Rattle.std.specs.Option.{SomeIff}
-use Rattle.std.specs.List.{slice_get, All}
-use Rattle.std.specs.Prelude.{IsSome, map, sum, fold, max, unwrap_or}
+use Rattle.std.specs.List.{slice_get}
 use Rattle.std.proofs.lemmas.Bool.{cases_lt}
 use Rattle.grid_cells.specs.Cell.{Point}
 use Rattle.plan_table.specs.Path.{last_index, place, IsPath}
 use Rattle.plan_table.proofs.Order.{ListsAll-unique, EachOf-unique}
 use Rattle.plan_table.specs.declared.plans.Row.{Row}
-use Rattle.mapf_rules.specs.Costs.{IsSettleTime, IsFinished, IsCost, AreCosts, IsSumOf, IsGreatestOf}
+use Rattle.mapf_rules.specs.Costs.{IsSettleTime, IsCost, AreCosts}
 use Rattle.mapf_rules.specs.Visits.{IsVisit, visit_key}
 use Rattle.mapf_rules.specs.Laws.{SettlesAtLast, OneVisitList, OneSumAndMakespan}
 
@@ -20,14 +20,7 @@ settles path is = record {
   rests = λ later le. place_at_end path later le ∙ sym (place_at_end path (last_index path) (omega arith));
   least = λ earlier rests. elim (cases_lt earlier (last_index path)) [
     | inr done ↦ done
-    | inl early ↦
-        let k : ℕ = last_index path - 1 in
-        let before : min k (last_index path) ≡ k = omega arith in
-        let at_k : place path k ≡ slice_get path k = rw before refl in
-        let same : place path k ≡ place path (last_index path) = rests k (omega arith) ∙ sym (rests (last_index path) (omega arith)) in
-        let next : k + 1 ≡ last_index path = omega arith in
-        let read : slice_get path k ≡ slice_get path (k + 1) = sym at_k ∙ same ∙ place_at_end path (last_index path) (omega arith) ∙ ap (slice_get path) (sym next) in
-        absurd (is.no_wait (k, omega arith, read))
+    | inl early ↦ absurd (is.no_wait (last_index path - 1, omega arith, grind (arith, rests (last_index path - 1), rests (last_index path))))
   ];
 }
 
@@ -39,18 +32,13 @@ settles_law = record { settles = settles; once = settle_once }
 
 -- what is given exactly where a fact holds is given once
 pub SomeIff-unique : {X : Type 0} (a b : Option X) (P : Type 0) (v : X) → SomeIff a P v → SomeIff b P v → a ≡ b
-SomeIff-unique None None P v left right = refl
-SomeIff-unique None (Some y) P v left right = absurd (left right.0)
-SomeIff-unique (Some x) None P v left right = absurd (right left.0)
-SomeIff-unique (Some x) (Some y) P v left right = ap Some (left.1 ∙ sym right.1)
+SomeIff-unique a b P v left right = grind arith
 
 pub visits_law : OneVisitList
 visits_law grid rows xs ys left right = ListsAll-unique visit_key (IsVisit grid rows) xs ys left right
 
 pub IsCost-unique : (row : Row) (a b : Option ℕ) → IsCost row a → IsCost row b → a ≡ b
-IsCost-unique row a b left right =
-    let same : left.time ≡ right.time = settle_once row.plan left.time right.time left.settles right.settles in
-    SomeIff-unique a b (IsFinished row) left.time left.given (rw same right.given)
+IsCost-unique row a b left right = grind (arith, nat_tests)
 
 -- rows have one list of costs
 costs_unique : (rows : List (ℕ × Row)) (xs ys : List (Option ℕ)) → AreCosts rows xs → AreCosts rows ys → xs ≡ ys
@@ -58,10 +46,6 @@ costs_unique rows xs ys left right = EachOf-unique (λ (entry : ℕ × Row) (cos
 
 pub totals_law : OneSumAndMakespan
 totals_law = record {
-  sum = λ rows a b left right.
-      let same = costs_unique rows left.0 right.0 left.1 right.1 in
-      SomeIff-unique a b (All IsSome left.0) (sum (map (λ n. unwrap_or n 0) left.0)) left.2 (subst (λ (costs : List (Option ℕ)). IsSumOf costs b) (sym same) right.2);
-  makespan = λ rows a b left right.
-      let same = costs_unique rows left.0 right.0 left.1 right.1 in
-      SomeIff-unique a b (All IsSome left.0) (fold max 0 (map (λ n. unwrap_or n 0) left.0)) left.2 (subst (λ (costs : List (Option ℕ)). IsGreatestOf costs b) (sym same) right.2);
+  sum = λ rows a b left right. grind (arith, costs_unique rows left.0 right.0 left.1 right.1);
+  makespan = λ rows a b left right. grind (arith, costs_unique rows left.0 right.0 left.1 right.1);
 }

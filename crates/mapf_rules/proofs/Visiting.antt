@@ -1,9 +1,8 @@
 -- Visits, added agent by agent and time by time.
-use Rattle.std.proofs.Common.{◌≡◌, ℕ, ◌+◌, ◌<◌, ◌≤◌, List, [], ◌∷◌, length, get_or, Some, refl, sym, ap, subst, ◌∙◌, ◌⊎◌, inl, inr, arith}
+use Rattle.std.proofs.Common.{◌≡◌, ℕ, ◌+◌, ◌<◌, ◌≤◌, List, [], ◌∷◌, length, get_or, Some, refl, ap, ◌⊎◌, inl, inr, arith}
 use Rattle.std.specs.List.{slice_get, Contains}
-use Rattle.std.proofs.lemmas.Bool.{cases_lt}
 use Rattle.std.proofs.lemmas.Bool.Decides.{nat_tests}
-use Rattle.std.proofs.lemmas.Option.{same_Some, slice_get_within, get_or_from_slice_get}
+use Rattle.std.proofs.lemmas.Option.{same_Some, get_or_from_slice_get}
 use Rattle.grid_cells.specs.Grid.{Chart}
 use Rattle.grid_cells.specs.Cell.{Point}
 use Rattle.plan_table.specs.Path.{last_index}
@@ -11,7 +10,7 @@ use Rattle.plan_table.specs.Plans.{row_of, agents_of, IsByAgent}
 use Rattle.plan_table.specs.Order.{ComesBefore}
 use Rattle.plan_table.specs.declared.plans.Row.{Row}
 use Rattle.plan_table.proofs.Fleets.{below_rank_more, all_agents, row_here}
-use Rattle.mapf_rules.specs.Visits.{IsBlocked, IsVisit, visit_key, AreVisits}
+use Rattle.mapf_rules.specs.Visits.{IsVisit, visit_key, AreVisits}
 use Rattle.mapf_rules.specs.VisitSearch.{IsVisitIn, AddsVisits, IsListed}
 use Rattle.mapf_rules.specs.declared.visits.Visit.{Visit}
 
@@ -24,17 +23,8 @@ pub adds_more : (grid : Chart) (a b c : List Visit) (agent : ℕ) (path : List P
 adds_more grid a b c agent path time first then = record {
   listed = then.listed;
   keeps = λ visit h. then.keeps visit (first.keeps visit h);
-  has = λ visit is. elim (cases_lt visit.time time) [
-    | inl early ↦ then.keeps visit (first.has visit (record { same_agent = is.same_agent; late = is.late; early = early; blocked = is.blocked }))
-    | inr late ↦ then.has visit (record { same_agent = is.same_agent; late = late; early = is.early; blocked = is.blocked })
-  ];
-  only = λ visit h. elim (then.only visit h) [
-    | inl in_b ↦ elim (first.only visit in_b) [
-      | inl in_a ↦ inl in_a
-      | inr is ↦ inr (record { same_agent = is.same_agent; late = is.late; early = omega (arith, is.early); blocked = is.blocked })
-    ]
-    | inr is ↦ inr (record { same_agent = is.same_agent; late = omega arith; early = is.early; blocked = is.blocked })
-  ];
+  has = λ visit is. grind (arith, then.keeps visit, first.has visit, then.has visit);
+  only = λ visit h. grind (arith, then.only visit h, first.only visit);
 }
 
 -- the visits of the agents below a rank
@@ -48,9 +38,6 @@ module _ (grid : Chart) (rows : List (ℕ × Row)) (by_agent : IsByAgent rows) (
   here : (row_of rows agent ≡ Some row) × (slice_get (agents_of rows) rank ≡ Some agent)
   here = row_here rows by_agent rank agent row at
 
-  within : rank < length rows
-  within = slice_get_within rows rank (agent, row) at
-
   is_visit : (visit : Visit) → IsVisitIn grid agent row.plan 0 (last_index row.plan + 1) visit → IsVisit grid rows visit
   is_visit visit is = record { row = row; live = rw is.same_agent here.0; blocked = is.blocked }
 
@@ -61,17 +48,10 @@ module _ (grid : Chart) (rows : List (ℕ × Row)) (by_agent : IsByAgent rows) (
   each_more each visit h = elim (adds.only visit h) [ inl in_old ↦ each visit in_old | inr is ↦ is_visit visit is ]
 
   below_more_visits : ((visit : Visit) → Contains old visit → (k : ℕ) (d : ℕ × Row) → rank ≤ k → k < length rows → visit.agent < (get_or rows k d).0) → (visit : Visit) → Contains new visit → (k : ℕ) (d : ℕ × Row) → rank + 1 ≤ k → k < length rows → visit.agent < (get_or rows k d).0
-  below_more_visits below visit h k d later inside =
-      elim (adds.only visit h) [
-        | inl in_old ↦ below visit in_old k d (omega arith) inside
-        | inr is ↦ omega (arith, is.same_agent, read d, by_agent rank k d (omega arith) inside)
-      ]
+  below_more_visits below visit h k d later inside = grind (arith, adds.only visit h, below visit, read d, by_agent rank k d)
 
   has_here : (visit : Visit) → visit.agent ≡ agent → IsVisit grid rows visit → Contains new visit
-  has_here visit same is =
-      let rows_same : is.row ≡ row = same_Some is.row row (sym is.live ∙ ap (row_of rows) same ∙ here.0) in
-      let blocked : IsBlocked grid row.plan visit.time visit.cell = subst (λ (r : Row). IsBlocked grid r.plan visit.time visit.cell) rows_same is.blocked in
-      adds.has visit (record { same_agent = same; late = omega arith; early = omega (arith, blocked.on_path); blocked = blocked })
+  has_here visit same is = grind (arith, adds.has visit, here, same_Some is.row row)
 
   pub visits_more : VisitsBelow grid rows rank old → VisitsBelow grid rows (rank + 1) new
   visits_more before = record {

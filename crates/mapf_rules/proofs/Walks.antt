@@ -1,13 +1,11 @@
 -- Walks from each agent to the next, round to the first.
-use Rattle.std.proofs.Common.{◌≡◌, ◌≢◌, ◌⊎◌, inl, inr, ℕ, ◌+◌, ◌≤◌, List, [], length, get_or, Contains, refl, sym, ap, subst, ◌∙◌, arith}
+use Rattle.std.proofs.Common.{◌≡◌, ◌≢◌, ◌⊎◌, inl, inr, ℕ, ◌≤◌, List, Contains, refl, sym, ap, subst, ◌∙◌, arith}
 use mathlib.Core.Logic.{◌↔◌}
 use Rattle.std.specs.Prelude.{slice_index}
 use Rattle.std.specs.List.{AllPairs}
 use Rattle.std.specs.List.Sorted.{IsStrictlySortedBy}
 use Rattle.std.specs.Ordering.{nat_cmp}
-use Rattle.std.specs.BTreeSet.{insert_key}
-use Rattle.std.specs.declared.cmp.Ordering.TheVariants.{Less, Equal}
-use Rattle.std.proofs.lemmas.Cmp.{nat_cmp_total, tied_itself}
+use Rattle.std.proofs.lemmas.Bool.Decides.{nat_tests}
 use Rattle.grid_cells.specs.Cell.{Point}
 use Rattle.plan_table.specs.Route.{Fleet}
 use Rattle.mapf_rules.specs.Cycles.{IsRing}
@@ -20,33 +18,7 @@ same_or_not a b = grind arith
 
 -- keys in order are distinct
 pub distinct_keys : (keys : List ℕ) → IsStrictlySortedBy nat_cmp keys → AllPairs (λ a b. a ≢ b) keys
-distinct_keys keys sorted i j d lt within same =
-    let less : nat_cmp (get_or keys i d) (get_or keys j d) ≡ Less = pairs_ascend nat_cmp keys sorted i j d lt within in
-    let tied : nat_cmp (get_or keys i d) (get_or keys i d) ≡ Equal = tied_itself nat_cmp_total (get_or keys i d) in
-    let again : nat_cmp (get_or keys i d) (get_or keys i d) ≡ Less = subst (λ v. nat_cmp (get_or keys i d) v ≡ Less) (sym same) less in
-    let wrong : Less ≡ Equal = sym again ∙ tied in
-    cc
-
--- the walk begins at the first agent
-pub walked_first : (fleet : Fleet) (time first : ℕ) (seen none : List ℕ) (to : Point) → none ≡ [] → ((q : ℕ) → Contains seen q ↔ (Contains none q ⊎ (q ≡ first))) → MovesTo fleet time first to → IsWalked fleet time first seen first to to
-walked_first fleet time first seen none to empty gains moves =
-    let one : (q : ℕ) → Contains seen q → q ≡ first = λ q h. elim ((gains q).0 h) [ inl old ↦ absurd (nothing q (subst (λ (l : List ℕ). Contains l q) empty old)) | inr is ↦ is ] in
-    let has : Contains seen first = (gains first).1 (inr refl) in
-    record {
-      last = first;
-      last_seen = has;
-      goes = moves;
-      first_seen = has;
-      closed = λ a next h apart follows. absurd (apart (one a h));
-      reached = λ b h apart. absurd (apart (one b h));
-      least_seen = has;
-      least_goes = moves;
-      lower = λ a h. let same : a ≡ first = one a h in omega arith;
-      inside = λ ring round in_ring a h. subst (Contains ring) (sym (one a h)) in_ring;
-    }
-  where
-    nothing : (q : ℕ) → Contains [] q → ⊥
-    nothing q (k, within, at) = omega arith
+distinct_keys keys sorted i j d lt within same = grind (arith, nat_tests, pairs_ascend nat_cmp keys sorted i j d lt within)
 
 module _ (fleet : Fleet) (time first : ℕ) (seen : List ℕ) (least : ℕ) (to ahead : Point) (walked : IsWalked fleet time first seen least to ahead) where
   follows_last : (next : ℕ) → IsSoleMover fleet time ahead next → IsNext fleet time walked.last next
@@ -133,7 +105,3 @@ module _ (fleet : Fleet) (time first : ℕ) (seen : List ℕ) (least : ℕ) (to 
           | inr is ↦ subst (Contains ring) (sym is) (in_ring_too ring round in_ring)
         ];
       }
-
--- one key put among none
-pub grows_first : (none one : List ℕ) (key : ℕ) → none ≡ [] → one ≡ insert_key nat_cmp none key → length one ≡ 0 + 1
-grows_first none one key empty is = rw (is, empty) refl

@@ -21,11 +21,13 @@ pub fn swap_is_two_followings()
 {}
 
 /// A law: each agent that an entry of a step names has positions at its start and at its end.
+#[tactic(auto, using(crate::proofs::LawsHold::named))]
 pub fn named_agents_are_there()
     ensures { NamedAgentsAreThere }
 {}
 
 /// A law: a path with no wait at its end settles at its last index, and at no other time.
+#[tactic(auto, using(crate::proofs::Settling::settles_law))]
 pub fn settles_at_last()
     ensures { SettlesAtLast }
 {}
@@ -36,6 +38,7 @@ pub fn one_visit_list()
 {}
 
 /// A law: a table has at most one sum of costs and one makespan.
+#[tactic(auto, using(crate::proofs::Settling::totals_law))]
 pub fn one_sum_and_makespan()
     ensures { OneSumAndMakespan }
 {}

@@ -6,6 +6,7 @@ use plan_table::{MOST_LAST_INDEX, Plan, Plans, Row};
 use std::alloc::Global;
 
 /// The settle time in steps: the least time from which the plan's agent rests.
+#[tactic(auto, using(crate::proofs::Settling::settles))]
 pub fn settle_time(plan: &Plan) -> u32
     ensures is { IsSettleTime plan.now result }
     ensures bound { result ≤ MOST_LAST_INDEX }

@@ -1,9 +1,7 @@
-use Rattle.std.proofs.Common.{◌≡◌, ℕ, refl, sym, subst, ◌∙◌}
+use Rattle.std.proofs.Common.{◌≡◌, refl, sym, ◌∙◌}
 use Rattle.std.proofs.lemmas.Option.{MatchOption-at_some, none-some, same_Some}
 use Rattle.plan_table.specs.Route.{Fleet, tracks_of}
 use Rattle.mapf_rules.specs.Cycles.{IsRing}
-use Rattle.mapf_rules.specs.RingWalk.{MovesTo}
-use Rattle.mapf_rules.proofs.RoundTrips.{ring_moves}
 use Rattle.mapf_rules.proofs.cycles.cycle.Goals as goal
 
 pub returns-in-Some-2-clause-stands : goal.returns-in-Some-2-clause-stands
@@ -22,9 +20,3 @@ pub returns-in-None-clause-found : goal.returns-in-None-clause-found
 returns-in-None-clause-found c ring round starts =
     let fleet : Fleet = tracks_of c.args.mode c.args.plans.now.rows in
     absurd (none-some ring (sym c.in-None.is ∙ c.in_ok-ring.ensures.only fleet ring refl c.in-Some.ensures.moves round starts))
-
-pub returns-in_default-clause-found : goal.returns-in_default-clause-found
-returns-in_default-clause-found c ring round starts =
-    let fleet : Fleet = tracks_of c.args.mode c.args.plans.now.rows in
-    let moves = ring_moves fleet c.args.time ring round in
-    absurd (none-some moves.0 (c.in_default.ensures.found moves.0 (subst (λ (a : ℕ). MovesTo fleet c.args.time a moves.0) starts moves.1)))

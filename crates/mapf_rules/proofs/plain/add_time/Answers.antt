@@ -1,17 +1,9 @@
 use Rattle.std.proofs.Common.{ℕ, arith}
 use Rattle.plan_table.specs.Route.{tracks_of}
-use Rattle.plan_table.proofs.Fleets.{below_rank_more, all_agents, tracks_live}
+use Rattle.plan_table.proofs.Fleets.{all_agents, tracks_live}
 use Rattle.mapf_rules.specs.Finding.{HasPair}
 use Rattle.mapf_rules.proofs.Live.{stands_live}
 use Rattle.mapf_rules.proofs.plain.add_time.Goals as goal
-
-pub loop-rank-preserved : goal.loop-rank-preserved
-loop-rank-preserved c = record {
-  found = c.in_ok-add_agent.ensures.found;
-  keeps = λ entry h. c.in_ok-add_agent.ensures.keeps entry (c.loop-rank.invariant.keeps entry h);
-  has = below_rank_more c.args.plans.now.rows c.loop-rank.rank c.agent_of-first.result (λ (a : ℕ). (second : ℕ) → HasPair (tracks_of c.args.mode c.args.plans.now.rows) c.args.time a second c.add_agent.new.entries.items) c.agent_of-first.ensures
-      (λ a k lt is second entry stands of. c.in_ok-add_agent.ensures.keeps entry (c.loop-rank.invariant.has a k lt is second entry stands of)) c.in_ok-add_agent.ensures.has;
-}
 
 pub returns-clause-has : goal.returns-clause-has
 returns-clause-has c first second entry stands of =

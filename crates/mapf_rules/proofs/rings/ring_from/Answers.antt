@@ -35,12 +35,6 @@ returns-then-eq-clause-ring g c fleet tells moves =
       | else-long w ↦ rw w.result-is tt
     ]
 
-pub returns-then-eq-clause-first : goal.returns-then-eq-clause-first
-returns-then-eq-clause-first g c = elim c.if-long.branch [
-  | then-long w ↦ rw (w.result-is, w.new.ensures) c.loop.invariant.starts
-  | else-long w ↦ rw w.result-is tt
-]
-
 pub returns-then-eq-clause-only : goal.returns-then-eq-clause-only
 returns-then-eq-clause-only g c fleet ring tells moves round starts =
     let chain : List ℕ = c.loop.chain.items in

@@ -5,10 +5,9 @@ use Rattle.std.proofs.lemmas.Cmp.{nat_cmp_total}
 use Rattle.std.proofs.lemmas.Map.Lookups.{exact_unsigned}
 use Rattle.grid_cells.specs.declared.numbers.TheConstants.{MOST_AGENT}
 use Rattle.std.proofs.lemmas.Result.{IfOk-weaker}
-use Rattle.plan_table.proofs.Order.{Contains-nil}
 use Rattle.mapf_rules.proofs.RoundTrips.{distinct_below}
 use Rattle.mapf_rules.proofs.Sets.{set_gains, set_fresh, set_stale}
-use Rattle.mapf_rules.proofs.Walks.{grows_first, distinct_keys, walked_first, goes_on, no_ring_seen, least_found, walked_on}
+use Rattle.mapf_rules.proofs.Walks.{distinct_keys, goes_on, no_ring_seen, least_found, walked_on}
 use Rattle.mapf_rules.proofs.rings.ring_through.Goals as goal
 
 pub returns-clause-only : goal.returns-clause-only
@@ -30,27 +29,11 @@ returns-then-eq-clause-only g c =
     let starts = least_found fleet c.args.time c.args.agent c.loop.seen.keys c.loop.least.0 c.loop.least.1 c.loop.ahead walked c.in-Some.mover.0 (c.in-Some.ensures.sole fleet tells) back ring round has in
     gives fleet ring tells walked.least_goes round starts has) c.ring_with.ensures.only
 
-pub returns-then-eq-clause-ring : goal.returns-then-eq-clause-ring
-returns-then-eq-clause-ring g c = IfOk-weaker c.ring_with.result _ _ (λ found gives fleet tells moves. gives fleet tells (c.loop.invariant.walked fleet tells moves).least_goes) c.ring_with.ensures.ring
-
 pub returns-then-not-branch-clause-only : goal.returns-then-not-branch-clause-only
 returns-then-not-branch-clause-only g c fleet ring tells moves round has =
     let apart : c.in-Some.mover.0 ≢ c.args.agent = λ same. false≢true (c.if-eq.ensures ∙ eq-eqb _ _ same) in
     let again = set_stale nat_cmp_total exact_unsigned c.loop.seen c.in-Some.mover.0 c.in_ok-insert-2.field-0 c.in_ok-insert-2.ensures.added c.if-not-branch.true in
     absurd (no_ring_seen fleet c.args.time c.args.agent c.loop.seen.keys c.loop.least.0 c.loop.least.1 c.loop.ahead (c.loop.invariant.walked fleet tells moves) c.in-Some.mover.0 (c.in-Some.ensures.sole fleet tells) again apart ring round has)
-
-pub loop-init : goal.loop-init
-loop-init g c =
-    let gains = set_gains nat_cmp_total exact_unsigned c.new-seen.result c.insert.new.self c.args.agent c.in_ok-insert.ensures.updates in
-    record {
-      walked = λ fleet tells moves. walked_first fleet c.args.time c.args.agent c.insert.new.self.keys c.new-seen.result.keys c.args.to c.new-seen.ensures.empty gains moves;
-      ordered = c.in_ok-insert.ensures.ordered;
-      numbers = λ agent h. elim ((gains agent).0 h) [
-        | inl old ↦ absurd (Contains-nil agent (rw c.new-seen.ensures.empty at old))
-        | inr is ↦ let low : c.args.agent < MOST_AGENT + 1 = omega arith in rw is low
-      ];
-      many = grows_first c.new-seen.result.keys c.insert.new.self.keys c.args.agent c.new-seen.ensures.empty c.in_ok-insert.ensures.keys;
-    }
 
 pub loop-preserved : goal.loop-preserved
 loop-preserved g c =
