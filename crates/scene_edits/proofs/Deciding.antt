@@ -4,7 +4,9 @@ use Rattle.std.specs.Option.{is_some}
 use Rattle.std.specs.List.{slice_get}
 use Rattle.std.proofs.lemmas.Bool.{cases_lt}
 use Rattle.std.proofs.lemmas.List.Elements.{All-cons, All-head, All-tail, All-nil}
-use Rattle.std.proofs.lemmas.Option.{same_Some, none-some}
+use Rattle.std.proofs.lemmas.Option.{same_Some, none-some, gets}
+use Rattle.std.proofs.lemmas.Bool.Decides.{nat_tests}
+use Rattle.std.proofs.lemmas.Grind.{common_steps}
 use Rattle.grid_cells.specs.Cell.{Point}
 use Rattle.grid_cells.specs.Size.{Extent, Holds}
 use Rattle.plan_table.specs.Path.{last_index}
@@ -47,11 +49,7 @@ most_or_not : (a b : ℕ) → Decided (a ≤ b)
 most_or_not a b = elim (cases_lt b a) [ inl less ↦ inr (λ most. omega arith) | inr most ↦ inl most ]
 
 held_or_not : (size : Extent) (cell : Point) → Decided (Holds size cell)
-held_or_not size cell =
-    elim (less_or_not cell.x size.width) [
-      | inl column ↦ elim (less_or_not cell.y size.height) [ inl row ↦ inl (column, row) | inr not ↦ inr (λ held. not held.1) ]
-      | inr not ↦ inr (λ held. not held.0)
-    ]
+held_or_not size cell = grind (arith, nat_tests, common_steps, gets)
 
 pub in_or_not : (size : Extent) (cells : List Point) → Decided (AreIn size cells)
 in_or_not size [] = inl (All-nil (Holds size))

@@ -1,7 +1,8 @@
 -- Edits in order: one more of them, and all taken back.
-use Rattle.std.proofs.Common.{◌≡◌, ℕ, zero, suc, ◌+◌, ◌≤◌, List, [], ◌∷◌, ◌++◌, take, Ok, Err, Some, refl, sym, ap, subst, ◌∙◌, arith}
+use Rattle.std.proofs.Common.{◌≡◌, ℕ, ◌+◌, ◌≤◌, List, [], ◌∷◌, ◌++◌, take, Ok, Err, Some, refl, sym, ap, subst, ◌∙◌, arith}
 use Rattle.std.specs.List.{slice_get}
-use Rattle.std.proofs.lemmas.Option.{none-some, same_Some}
+use Rattle.std.proofs.lemmas.Grind.{common_steps}
+use Rattle.std.proofs.lemmas.Option.{get_or_from_slice_get, slice_get_within}
 use Rattle.scene_edits.specs.Scene.{SceneState, IsScene}
 use Rattle.scene_edits.specs.Edited.{edited}
 use Rattle.scene_edits.specs.Faults.{FaultOf, IsAllowed}
@@ -43,9 +44,6 @@ pub record Underway (start : SceneState) (edits : List Edit) (done : List Change
   pub ready : AreUndoable scene done
   pub enough : room_left done ≤ room
 
-pub underway-none : (start : SceneState) (room : ℕ) → IsScene start → Underway start [] [] start room
-underway-none start room is_scene = record { is_scene = is_scene; allowed = tt; changes = tt; now = refl; back = refl; ready = tt; enough = omega arith }
-
 pub underway-more : (start : SceneState) (edits : List Edit) (done : List Change) (scene next : SceneState) (room left : ℕ) (edit : Edit) (change : Change) → Underway start edits done scene room → Applied scene edit (Ok change) next → KeepsRoom room (Ok change) left → Underway start (edits ++ edit ∷ []) (done ++ change ∷ []) next left
 underway-more start edits done scene next room left edit change way (allowed, is_change, is) keeps =
     let back = goes_back scene edit change way.is_scene allowed is_change in
@@ -61,11 +59,7 @@ underway-more start edits done scene next room left edit change way (allowed, is
     }
 
 pub take-next : {X : Type 0} (xs : List X) (n : ℕ) (x : X) → slice_get xs n ≡ Some x → take (n + 1) xs ≡ take n xs ++ x ∷ []
-take-next [] n x there = absurd (none-some x there)
-take-next (first ∷ rest) zero x there = ap (λ y. y ∷ []) (same_Some first x there)
-take-next {X = X} (first ∷ rest) (suc n) x there =
-    let next : suc n + 1 ≡ suc (n + 1) = omega arith in
-    ap (λ m. take m (first ∷ rest)) next ∙ ap (λ (l : List X). first ∷ l) (take-next rest n x there)
+take-next xs n x there = grind (arith, common_steps, get_or_from_slice_get xs n x x there, slice_get_within xs n x there)
 
 -- the first edit with a fault
 pub first_fault : (start : SceneState) (edits : List Edit) (done : List Change) (scene : SceneState) (room index : ℕ) (edit : Edit) (why : EditFault) → Underway start (take index edits) done scene room → slice_get edits index ≡ Some edit → FaultOf scene edit why → IsFirstFault start edits index why

@@ -1,10 +1,11 @@
 -- An edit that is allowed keeps what holds of every scene.
-use Rattle.std.proofs.Common.{◌≡◌, Result, Ok, Err, length-append, length-take, ℕ, ◌+◌, ◌<◌, ◌≤◌, ltb, List, [], ◌∷◌, length, take, Option, Some, None, inl, inr, refl, sym, subst, ◌∙◌, arith}
+use Rattle.std.proofs.Common.{◌≡◌, Result, Ok, Err, length-append, length-take, ℕ, ◌+◌, ◌<◌, ◌≤◌, ltb, List, [], ◌∷◌, length, take, Some, None, inl, inr, refl, sym, subst, ◌∙◌, arith}
 use Rattle.std.specs.List.{filter}
 use Rattle.std.proofs.lemmas.Bool.{cases_lt}
 use Rattle.std.proofs.lemmas.Bool.Decides.{nat_tests, eqb_tells}
 use Rattle.std.proofs.lemmas.List.Elements.{All-head, All-tail, All-take, All-append}
-use Rattle.std.proofs.lemmas.Option.{same_Some, none-some}
+use Rattle.std.proofs.lemmas.Option.{same_Some, none-some, gets}
+use Rattle.std.proofs.lemmas.Grind.{common_steps}
 use Rattle.grid_cells.specs.Cell.{Point}
 use Rattle.grid_cells.specs.Size.{Extent, Holds}
 use Rattle.plan_table.specs.Path.{last_index, IsWalkable}
@@ -24,7 +25,7 @@ use Rattle.scene_edits.specs.Laws.{EditsKeepScenes}
 use Rattle.scene_edits.specs.declared.scenes.TheConstants.{MOST_AGENTS}
 use Rattle.scene_edits.specs.declared.edits.Edit.TheVariants.{Add, Drop, Goal, Path, Tail, Open, Close}
 use Rattle.scene_edits.specs.declared.edits.EditFault.{EditFault}
-use Rattle.scene_edits.specs.declared.edits.EditFault.TheVariants.{UnknownAgent, TooManyAgents, OutOfMap, EmptyPath, NotAStep, TooLong}
+use Rattle.scene_edits.specs.declared.edits.EditFault.TheVariants.{TooManyAgents, OutOfMap, EmptyPath, NotAStep, TooLong}
 use Rattle.scene_edits.proofs.RowEdits.{row_of-with_row, row_of-without_row, by_agent-with_row, by_agent-without}
 use Rattle.scene_edits.proofs.PathsOf.{path_of-path, path_of-take}
 use Rattle.scene_edits.proofs.Jumps.{jump_or_steps}
@@ -39,11 +40,7 @@ no_second first second none fault told = none fault (inr (no_first first second 
 
 -- the agent is known
 known_row : (scene : SceneState) (agent : ℕ) → ((fault : EditFault) → unknown scene agent fault → ⊥) → (row : Row) × (row_of scene.rows agent ≡ Some row)
-known_row scene agent none = found (row_of scene.rows agent) refl
-  where
-    found : (o : Option Row) → row_of scene.rows agent ≡ o → (row : Row) × (o ≡ Some row)
-    found None is = absurd (none UnknownAgent (refl, is))
-    found (Some row) is = (row, refl)
+known_row scene agent none = grind (arith, nat_tests, common_steps, gets)
 
 inside : (scene : SceneState) (cells : List Point) → ((fault : EditFault) → outside scene cells fault → ⊥) → AreIn scene.grid.size cells
 inside scene cells none = elim (in_or_not scene.grid.size cells) [ inl all ↦ all | inr not ↦ absurd (none OutOfMap (refl, not)) ]
@@ -62,10 +59,7 @@ length-two_filters (x ∷ rows) agent = grind (arith, nat_tests, length-two_filt
 length-two_filters_live : (rows : List (ℕ × Row)) (agent : ℕ) (row : Row) → row_of rows agent ≡ Some row → length (filter (λ entry. ltb entry.0 agent) rows) + length (filter (λ entry. ltb agent entry.0) rows) + 1 ≤ length rows
 length-two_filters_live [] agent row there = absurd (none-some row there)
 length-two_filters_live (x ∷ rows) agent row there =
-    elim (eqb_tells x.0 agent) [
-      | inl is ↦ grind (arith, nat_tests, length-two_filters rows agent)
-      | inr apart ↦ grind (arith, nat_tests, length-two_filters_live rows agent row)
-    ]
+    grind (arith, nat_tests, length-two_filters rows agent, length-two_filters_live rows agent row)
 
 length-without : (rows : List (ℕ × Row)) (agent : ℕ) → length (without_row rows agent) ≤ length rows
 length-without [] agent = omega arith

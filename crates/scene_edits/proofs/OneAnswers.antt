@@ -1,16 +1,14 @@
 -- To an edit, and to a list of edits, there is one answer at most besides want of memory.
-use Rattle.std.proofs.Common.{◌≡◌, ℕ, zero, suc, ◌<◌, List, [], ◌∷◌, length, take, Option, Some, None, Ok, Err, inl, inr, refl, sym, ap, subst, ◌∙◌, arith}
+use Rattle.std.proofs.Common.{◌≡◌, ℕ, zero, suc, ◌<◌, List, [], ◌∷◌, length, take, Some, Ok, Err, inl, inr, refl, sym, ap, subst, ◌∙◌, arith, rules}
 use Rattle.std.specs.List.{slice_get}
 use Rattle.std.proofs.lemmas.Bool.{cases_order}
 use Rattle.std.proofs.Math.Seq.{take-length}
 use Rattle.std.proofs.lemmas.Option.{same_Some, none-some, slice_get_within}
 use Rattle.plan_table.specs.Plans.{row_of}
-use Rattle.plan_table.specs.Route.{Route, route_in}
 use Rattle.plan_table.specs.declared.plans.Row.{Row}
 use Rattle.scene_edits.specs.Scene.{SceneState}
 use Rattle.scene_edits.specs.Edited.{edited}
 use Rattle.scene_edits.specs.Faults.{FaultOf, IsAllowed}
-use Rattle.scene_edits.specs.Since.{IsSince}
 use Rattle.scene_edits.specs.Changes.{IsMove}
 use Rattle.scene_edits.specs.InOrder.{edited_all, AreAllowed, AreChanges, IsFirstFault}
 use Rattle.scene_edits.specs.Laws.{OneChange, OneAnswer, OneAnswerToAll}
@@ -20,30 +18,12 @@ use Rattle.scene_edits.specs.declared.edits.EditFault.{EditFault}
 use Rattle.scene_edits.specs.declared.edits.ApplyFault.TheVariants.{Fault, OutOfMemory}
 use Rattle.scene_edits.specs.declared.edits.EditsFault.TheVariants as some_edit
 use Rattle.scene_edits.specs.declared.changes.Change.{Change}
-use Rattle.scene_edits.specs.declared.changes.Change.TheVariants.{Dropped, Aimed, Moved}
+use Rattle.scene_edits.specs.declared.changes.Change.TheVariants.{Dropped, Aimed}
 use Rattle.scene_edits.proofs.TakingBack.{some_and}
 use Rattle.scene_edits.proofs.Deciding.{one_fault_holds}
 
-one_since : (before after : Route) (a b : Option ℕ) → IsSince before after a → IsSince before after b → a ≡ b
-one_since before after None None first second = refl
-one_since before after None (Some b) first second = absurd (second.0 (first b))
-one_since before after (Some a) None first second = absurd (first.0 (second a))
-one_since before after (Some a) (Some b) first second =
-    elim (cases_order a b) [
-      | inl is ↦ ap Some is
-      | inr (inl less) ↦ absurd (first.0 (second.1 a less))
-      | inr (inr more) ↦ absurd (second.0 (first.1 b more))
-    ]
-
 one_move : (old new : SceneState) (agent : ℕ) (a b : Change) → IsMove old new agent a → IsMove old new agent b → a ≡ b
-one_move old new agent a b first second =
-    let before : first.before ≡ second.before = same_Some first.before second.before (sym first.was ∙ second.was) in
-    let after : first.after ≡ second.after = same_Some first.after second.after (sym first.is ∙ second.is) in
-    let moved : IsSince (route_in old.mode first.before) (route_in new.mode first.after) second.since =
-    subst (λ (r : Row). IsSince (route_in old.mode r) (route_in new.mode first.after) second.since) (sym before)
-    (subst (λ (r : Row). IsSince (route_in old.mode second.before) (route_in new.mode r) second.since) (sym after) second.first) in
-    let since : first.since ≡ second.since = one_since (route_in old.mode first.before) (route_in new.mode first.after) first.since second.since first.first moved in
-    first.told ∙ ap (λ (r : Row). Moved agent r.plan first.since) before ∙ ap (Moved agent second.before.plan) since ∙ sym second.told
+one_move old new agent a b first second = search rules
 
 pub one_change_holds : OneChange
 one_change_holds scene (Add agent start goal) a b first second = first ∙ sym second

@@ -1,6 +1,9 @@
 -- What is answered to a new path and to a new tail.
-use Rattle.std.proofs.Common.{◌≡◌, ℕ, ◌<◌, ◌≤◌, List, length, Some, Ok, Err, inr, refl, ap, subst, ◌∙◌, arith}
+use Rattle.std.proofs.Common.{◌≡◌, ℕ, ◌<◌, ◌≤◌, List, length, Some, Ok, Err, refl, ap, subst, ◌∙◌, arith}
 use Rattle.std.specs.List.{slice_get}
+use Rattle.std.proofs.lemmas.Bool.Decides.{nat_tests}
+use Rattle.std.proofs.lemmas.Grind.{common_steps}
+use Rattle.std.proofs.lemmas.Option.{gets}
 use Rattle.grid_cells.specs.Cell.{Point}
 use Rattle.plan_table.specs.Path.{last_index, IsWalkable}
 use Rattle.plan_table.specs.Plans.{row_of}
@@ -8,13 +11,12 @@ use Rattle.plan_table.specs.declared.plans.Row.{Row}
 use Rattle.scene_edits.specs.Scene.{SceneState, AreIn, plan_of}
 use Rattle.scene_edits.specs.Paths.{path_of}
 use Rattle.scene_edits.specs.Edited.{continued, with_changed, edited}
-use Rattle.scene_edits.specs.Faults.{◌when◌, ◌otherwise◌, too_long, jump}
+use Rattle.scene_edits.specs.Faults.{◌otherwise◌, too_long, jump}
 use Rattle.scene_edits.specs.Changes.{IsMove}
 use Rattle.scene_edits.specs.Answers.{Applied}
 use Rattle.scene_edits.specs.Board.{Follows}
 use Rattle.scene_edits.specs.declared.edits.Edit.TheVariants.{Path, Tail}
 use Rattle.scene_edits.specs.declared.edits.EditFault.{EditFault}
-use Rattle.scene_edits.specs.declared.edits.EditFault.TheVariants.{NoSuchTime}
 use Rattle.scene_edits.specs.declared.edits.ApplyFault.TheVariants.{Fault}
 use Rattle.scene_edits.specs.declared.changes.Change.{Change}
 use Rattle.scene_edits.proofs.Jumps.{no_jump}
@@ -33,10 +35,7 @@ module _ (scene new : SceneState) (agent : ℕ) (cells : List Point) (row : Row)
   )
 
   pub path_refused : (fault : EditFault) → 0 < length cells → slice_get cells 0 ≡ slice_get row.plan 0 → (too_long cells otherwise jump cells) fault → new ≡ scene → Applied scene (Path agent cells) (Err (Fault fault)) new
-  path_refused fault some start told same = (
-    inr (known scene agent row there, inr (λ other (is, out). out inside, inr (λ other (is, none). omega (arith, some, ap length none), inr (λ other (is, wrong). wrong (rw there start), told)))),
-    same,
-  )
+  path_refused fault some start told same = grind (arith, nat_tests, common_steps, gets)
 
   pub tail_applied : (from : ℕ) (change : Change) → from ≤ last_index row.plan → Follows scene agent (continued row.plan from cells) change new → Applied scene (Tail agent from cells) (Ok change) new
   tail_applied from change early follows =
@@ -49,7 +48,4 @@ module _ (scene new : SceneState) (agent : ℕ) (cells : List Point) (row : Row)
       )
 
   pub tail_refused : (from : ℕ) (fault : EditFault) → from ≤ last_index row.plan → (too_long (continued row.plan from cells) otherwise jump (continued row.plan from cells)) fault → new ≡ scene → Applied scene (Tail agent from cells) (Err (Fault fault)) new
-  tail_refused from fault early told same =
-      let plan : plan_of scene agent ≡ row.plan = rw there refl in
-      let not_late : (other : EditFault) → (NoSuchTime when (last_index (plan_of scene agent) < from)) other → ⊥ = λ other (is, late). let longer : last_index row.plan < from = subst (λ (p : List Point). last_index p < from) plan late in omega arith in
-      (inr (known scene agent row there, inr (λ other (is, out). out inside, inr (not_late, rw plan told))), same)
+  tail_refused from fault early told same = grind (arith, nat_tests, common_steps, gets)

@@ -1,10 +1,11 @@
 -- The path of a list of cells: the same places, no wait at the end, and no other list is so.
-use Rattle.std.proofs.Common.{◌≡◌, ◌≢◌, ℕ, zero, suc, ◌+◌, ◌-◌, ◌<◌, min, true, false, if◌then◌else◌, List, [], ◌∷◌, length, get_or, take, Some, inl, inr, refl, sym, ap, subst, ◌∙◌, arith, length-take}
+use Rattle.std.proofs.Common.{◌≡◌, ◌≢◌, ℕ, zero, suc, ◌+◌, ◌-◌, ◌<◌, min, true, false, if◌then◌else◌, List, [], ◌∷◌, length, get_or, take, Some, inl, inr, refl, sym, ap, subst, ◌∙◌, arith}
 use Rattle.std.specs.List.{slice_get}
 use Rattle.std.proofs.lemmas.Bool.{cases_order}
 use Rattle.std.proofs.lemmas.Bool.Decides.{nat_tests}
-use Rattle.std.proofs.lemmas.List.{get_or-take, same_lists}
-use Rattle.std.proofs.lemmas.Option.{same_Some, slice_get-get_or}
+use Rattle.std.proofs.lemmas.List.{same_lists}
+use Rattle.std.proofs.lemmas.Option.{same_Some, slice_get-get_or, gets}
+use Rattle.std.proofs.lemmas.Grind.{common_steps}
 use Rattle.grid_cells.specs.Cell.{Point}
 use Rattle.plan_table.specs.Path.{place, IsWalkable, EndsInWait, IsPath, IsPathOf}
 use Rattle.plan_table.specs.Route.{is_cell}
@@ -13,10 +14,7 @@ use Rattle.scene_edits.specs.Laws.{OnePath}
 
 -- equal cells, by the test on cells
 pub is_cell-same : (a b : Point) → is_cell (Some a) b ≡ true → a ≡ b
-is_cell-same a b pass =
-    let column : a.x ≡ b.x = grind (arith, nat_tests, pass) in
-    let row : a.y ≡ b.y = grind (arith, nat_tests, pass) in
-    λ i. record { x = column i; y = row i }
+is_cell-same a b pass = grind (arith, nat_tests, common_steps, gets)
 
 pub is_cell-other : (a b : Point) → is_cell (Some a) b ≡ false → a ≢ b
 is_cell-other a b fail same = grind (arith, nat_tests, fail, same)
@@ -27,9 +25,7 @@ place-first cell rest = let first : min 0 (length (cell ∷ rest) - 1) ≡ 0 = o
 
 -- the places of a path with one more cell before it
 pub place-cons : (cell next : Point) (rest : List Point) (time : ℕ) → place (cell ∷ next ∷ rest) (suc time) ≡ place (next ∷ rest) time
-place-cons cell next rest time =
-    let later : min (suc time) (length (cell ∷ next ∷ rest) - 1) ≡ suc (min time (length (next ∷ rest) - 1)) = omega arith in
-    rw later refl
+place-cons cell next rest time = grind (arith, nat_tests, common_steps, gets)
 
 pub place-led_zero : (cell : Point) (path : List Point) → place (led_by cell path) zero ≡ Some cell
 place-led_zero cell [] = refl
@@ -100,13 +96,7 @@ path_of-take [] = (0, refl)
 path_of-take (cell ∷ rest) = let (n, is) = path_of-take rest in led_by-take cell (path_of rest) rest n is
 
 pub take-walkable : (cells : List Point) (n : ℕ) → 0 < length (take n cells) → IsWalkable cells → IsWalkable (take n cells)
-take-walkable cells n some walks = record {
-  some_cell = some;
-  short = omega (arith, length-take n cells, walks.short);
-  steps = λ i d h.
-      let long = length-take n cells in
-      rw (get_or-take n cells i d (omega arith), get_or-take n cells (i + 1) d (omega arith)) (walks.steps i d (omega arith));
-}
+take-walkable cells n some walks = grind (arith, nat_tests, common_steps, gets)
 
 path_of-some : (cells : List Point) → 0 < length cells → 0 < length (path_of cells)
 path_of-some [] some = absurd (omega arith)

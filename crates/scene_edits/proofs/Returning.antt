@@ -1,12 +1,11 @@
 -- Edits in order: what they keep, and that their changes, taken back, give the scene before them.
-use Rattle.std.proofs.Common.{◌≡◌, List, [], ◌∷◌, refl, sym, ap, subst, ◌∙◌}
-use Rattle.scene_edits.specs.Scene.{SceneState, IsScene}
+use Rattle.std.proofs.Common.{◌≡◌, [], ◌∷◌, refl, sym, ap, subst, ◌∙◌}
+use Rattle.scene_edits.specs.Scene.{SceneState}
 use Rattle.scene_edits.specs.Edited.{edited}
-use Rattle.scene_edits.specs.Undone.{undone, undone_all, IsUndoable, AreUndoable}
+use Rattle.scene_edits.specs.Undone.{undone, IsUndoable}
 use Rattle.scene_edits.specs.Laws.{AllEditsKeepScenes, EditsKeepSize, ChangesGoBack}
 use Rattle.scene_edits.specs.declared.edits.Edit.{Edit}
 use Rattle.scene_edits.specs.declared.edits.Edit.TheVariants.{Add, Drop, Goal, Path, Tail, Open, Close}
-use Rattle.scene_edits.specs.declared.changes.Change.{Change}
 use Rattle.scene_edits.proofs.TakingBack.{goes_back}
 use Rattle.scene_edits.proofs.KeptScenes.{edits_keep_scenes_holds}
 

@@ -81,17 +81,11 @@ by_agent-without rows agent up = AllPairs-filter (λ a b. a.0 < b.0) (λ entry. 
 -- one table alone has the row for the agent, and the others' rows as they were
 pub with_row_is : (old new : List (ℕ × Row)) (agent : ℕ) (row : Row) → IsByAgent old → IsByAgent new → ChangesRow old new agent (Some row) → new ≡ with_row old agent row
 with_row_is old new agent row up_old up_new changes = one_table_holds new (with_row old agent row) up_new (by_agent-with_row old agent row up_old) (λ q.
-    elim (eqb_tells agent q) [
-      | inl is ↦ grind (arith, nat_tests, changes.this_agent, row_of-with_row old agent row q)
-      | inr apart ↦ grind (arith, nat_tests, changes.other_agents q, row_of-with_row old agent row q)
-    ])
+    grind (arith, nat_tests, changes.this_agent, changes.other_agents q, row_of-with_row old agent row q))
 
 pub without_row_is : (old new : List (ℕ × Row)) (agent : ℕ) → IsByAgent old → IsByAgent new → ChangesRow old new agent None → new ≡ without_row old agent
 without_row_is old new agent up_old up_new changes = one_table_holds new (without_row old agent) up_new (by_agent-without old agent up_old) (λ q.
-    elim (eqb_tells agent q) [
-      | inl is ↦ grind (arith, nat_tests, changes.this_agent, row_of-without_row old agent q)
-      | inr apart ↦ grind (arith, nat_tests, changes.other_agents q, row_of-without_row old agent q)
-    ])
+    grind (arith, nat_tests, changes.this_agent, changes.other_agents q, row_of-without_row old agent q))
 
 pub with_changed_is : (old new : List (ℕ × Row)) (agent : ℕ) (row : Row) (change : Row → Row) → row_of old agent ≡ Some row → IsByAgent old → IsByAgent new → ChangesRow old new agent (Some (change row)) → new ≡ with_changed old agent change
 with_changed_is old new agent row change there up_old up_new changes = rw there (with_row_is old new agent (change row) up_old up_new changes)

@@ -1,12 +1,10 @@
 -- A change that is taken back gives the scene before it.
-use Rattle.std.proofs.Common.{◌≡◌, ℕ, zero, suc, ◌<◌, Bool, true, false, not, List, [], ◌∷◌, length, get_or, set, Option, Some, None, inl, inr, ◌↔◌, IsTrue, refl, sym, ap, subst, arith}
-use mathlib.Core.Bool.{false≢true}
+use Rattle.std.proofs.Common.{◌≡◌, ℕ, zero, suc, ◌<◌, Bool, true, false, not, List, [], ◌∷◌, length, get_or, set, Option, Some, None, inl, inr, refl, sym, ap, subst, arith}
 use Rattle.std.specs.Option.{IsSome, IsSomeAnd}
-use Rattle.std.specs.List.{slice_get}
-use Rattle.std.proofs.lemmas.Bool.Decides.{nat_tests, eqb_tells}
-use Rattle.std.proofs.lemmas.Option.{get_or_from_slice_get}
+use Rattle.std.proofs.lemmas.Bool.Decides.{nat_tests}
+use Rattle.std.proofs.lemmas.Option.{get_or_from_slice_get, gets}
+use Rattle.std.proofs.lemmas.Grind.{common_steps}
 use Rattle.grid_cells.specs.Cell.{Point}
-use Rattle.grid_cells.specs.Size.{Holds}
 use Rattle.grid_cells.specs.Grid.{Chart, IsOpen, IsClosed, flag_index, with_cell}
 use Rattle.plan_table.specs.Plans.{IsByAgent, row_of}
 use Rattle.plan_table.specs.declared.plans.Row.{Row}
@@ -23,21 +21,6 @@ use Rattle.scene_edits.specs.declared.edits.EditFault.TheVariants.{AgentTaken}
 use Rattle.scene_edits.specs.declared.changes.Change.{Change}
 use Rattle.scene_edits.specs.declared.changes.Change.TheVariants.{Dropped, Aimed, Moved, Flipped, Same}
 use Rattle.scene_edits.proofs.RowEdits.{row_of-with_row, row_of-without_row, by_agent-with_row, by_agent-without}
-
--- what is open has the flag set
-flag_set : (flags : List Bool) (i : ℕ) → get_or flags i false ≡ true → slice_get flags i ≡ Some true
-flag_set [] i h = absurd (false≢true h)
-flag_set (flag ∷ flags) zero h = ap Some h
-flag_set (flag ∷ flags) (suc i) h = flag_set flags i h
-
-pub flag_is : (grid : Chart) (cell : Point) (free : Bool) → Holds grid.size cell → (IsTrue free ↔ IsOpen grid cell) → free ≡ get_or grid.flags (flag_index grid.size cell) false
-flag_is grid cell true held tells = sym (get_or_from_slice_get grid.flags (flag_index grid.size cell) true false (tells.0 refl).1)
-flag_is grid cell false held tells =
-    let flag = get_or grid.flags (flag_index grid.size cell) false in
-    elim flag as (λ b. flag ≡ b → false ≡ b) [
-      | true ↦ λ is. tells.1 (held, flag_set grid.flags (flag_index grid.size cell) is)
-      | false ↦ λ is. refl
-    ] refl
 
 -- a flag written again as it was
 set-same : (flags : List Bool) (i : ℕ) (flag : Bool) → (i < length flags → get_or flags i false ≡ flag) → set flags i flag ≡ flags
@@ -56,26 +39,17 @@ some_and (Some x) P holds = (x, refl, holds)
 -- a new row taken out again
 without_with_row : (rows : List (ℕ × Row)) (agent : ℕ) (row : Row) → IsByAgent rows → row_of rows agent ≡ None → without_row (with_row rows agent row) agent ≡ rows
 without_with_row rows agent row up free = one_table_holds (without_row (with_row rows agent row) agent) rows (by_agent-without (with_row rows agent row) agent (by_agent-with_row rows agent row up)) up (λ q.
-    elim (eqb_tells agent q) [
-      | inl is ↦ grind (arith, nat_tests, row_of-without_row (with_row rows agent row) agent q, free)
-      | inr apart ↦ grind (arith, nat_tests, row_of-without_row (with_row rows agent row) agent q, row_of-with_row rows agent row q)
-    ])
+    grind (arith, nat_tests, row_of-without_row (with_row rows agent row) agent q, row_of-with_row rows agent row q, free))
 
 -- a row that was taken out put back
 with_without_row : (rows : List (ℕ × Row)) (agent : ℕ) (row : Row) → IsByAgent rows → row_of rows agent ≡ Some row → with_row (without_row rows agent) agent row ≡ rows
 with_without_row rows agent row up there = one_table_holds (with_row (without_row rows agent) agent row) rows (by_agent-with_row (without_row rows agent) agent row (by_agent-without rows agent up)) up (λ q.
-    elim (eqb_tells agent q) [
-      | inl is ↦ grind (arith, nat_tests, row_of-with_row (without_row rows agent) agent row q, there)
-      | inr apart ↦ grind (arith, nat_tests, row_of-with_row (without_row rows agent) agent row q, row_of-without_row rows agent q)
-    ])
+    grind (arith, nat_tests, row_of-with_row (without_row rows agent) agent row q, row_of-without_row rows agent q, there))
 
 -- a row that was changed set back
 with_row-twice : (rows : List (ℕ × Row)) (agent : ℕ) (row other : Row) → IsByAgent rows → row_of rows agent ≡ Some row → with_row (with_row rows agent other) agent row ≡ rows
 with_row-twice rows agent row other up there = one_table_holds (with_row (with_row rows agent other) agent row) rows (by_agent-with_row (with_row rows agent other) agent row (by_agent-with_row rows agent other up)) up (λ q.
-    elim (eqb_tells agent q) [
-      | inl is ↦ grind (arith, nat_tests, row_of-with_row (with_row rows agent other) agent row q, there)
-      | inr apart ↦ grind (arith, nat_tests, row_of-with_row (with_row rows agent other) agent row q, row_of-with_row rows agent other q)
-    ])
+    grind (arith, nat_tests, row_of-with_row (with_row rows agent other) agent row q, row_of-with_row rows agent other q, there))
 
 pub row_of-with_row_here : (rows : List (ℕ × Row)) (agent : ℕ) (row : Row) → row_of (with_row rows agent row) agent ≡ Some row
 row_of-with_row_here rows agent row = grind (arith, nat_tests, row_of-with_row rows agent row agent)
@@ -91,12 +65,7 @@ set-twice (first ∷ flags) zero flag was = ap (λ b. b ∷ flags) (sym (was (om
 set-twice (first ∷ flags) (suc i) flag was = ap (λ (l : List Bool). first ∷ l) (set-twice flags i flag (λ within. was (omega arith)))
 
 closed_flag : (grid : Chart) (cell : Point) → IsClosed grid cell → get_or grid.flags (flag_index grid.size cell) false ≡ false
-closed_flag grid cell closed =
-    let flag = get_or grid.flags (flag_index grid.size cell) false in
-    elim flag as (λ b. flag ≡ b → b ≡ false) [
-      | true ↦ λ is. absurd (closed.1 (closed.0, flag_set grid.flags (flag_index grid.size cell) is))
-      | false ↦ λ is. refl
-    ] refl
+closed_flag grid cell closed = grind (arith, nat_tests, common_steps, gets)
 
 open_flag : (grid : Chart) (cell : Point) → IsOpen grid cell → get_or grid.flags (flag_index grid.size cell) false ≡ true
 open_flag grid cell is_open = get_or_from_slice_get grid.flags (flag_index grid.size cell) true false is_open.1

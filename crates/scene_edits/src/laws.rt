@@ -11,6 +11,7 @@ pub fn one_fault_or_none()
 {}
 
 /// An edit makes one change at most.
+#[tactic(auto, using(crate::proofs::OneAnswers::one_change_holds))]
 pub fn one_change()
     ensures { OneChange }
 {}
@@ -26,22 +27,26 @@ pub fn all_edits_keep_scenes()
 {}
 
 /// Edits keep the size of the map, and the mode.
+#[tactic(auto, using(crate::proofs::Returning::edits_keep_size_holds))]
 pub fn edits_keep_size()
     ensures { EditsKeepSize }
 {}
 
 /// The changes of edits can be taken back, the last one first, and that gives the scene before
 /// the edits.
+#[tactic(auto, using(crate::proofs::Returning::changes_go_back_holds))]
 pub fn changes_go_back()
     ensures { ChangesGoBack }
 {}
 
 /// Besides want of memory an edit has one answer at most.
+#[tactic(auto, using(crate::proofs::OneAnswers::one_answer_holds))]
 pub fn one_answer()
     ensures { OneAnswer }
 {}
 
 /// Besides want of memory a list of edits has one answer at most.
+#[tactic(auto, using(crate::proofs::OneAnswers::one_answer_to_all_holds))]
 pub fn one_answer_to_all()
     ensures { OneAnswerToAll }
 {}

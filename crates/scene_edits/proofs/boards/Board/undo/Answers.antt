@@ -1,11 +1,11 @@
-use Rattle.std.proofs.Common.{List, ℕ, Bool, not, rules, ap, ◌∙◌}
-use Rattle.grid_cells.specs.Grid.{Chart, with_cell}
-use Rattle.grid_cells.specs.Size.{Holds}
+use Rattle.std.proofs.Common.{List, ℕ, rules, ap, arith}
+use Rattle.std.proofs.lemmas.Bool.Decides.{nat_tests}
+use Rattle.std.proofs.lemmas.Grind.{common_steps}
+use Rattle.std.proofs.lemmas.Option.{gets}
 use Rattle.plan_table.specs.declared.plans.Row.{Row}
 use Rattle.scene_edits.specs.Board.{scene_of}
 use Rattle.scene_edits.proofs.RowEdits.{with_row_is, without_row_is}
 use Rattle.scene_edits.proofs.AllowedEdits.{changed}
-use Rattle.scene_edits.proofs.TakingBack.{flag_is}
 use Rattle.scene_edits.proofs.boards.Board.undo.Goals as goal
 
 pub returns-in-Added-clause-undone : goal.returns-in-Added-clause-undone
@@ -21,7 +21,4 @@ pub returns-in-Moved-clause-undone : goal.returns-in-Moved-clause-undone
 returns-in-Moved-clause-undone c = rw c.in-Moved.is (changed (scene_of c.args.self.now) c.in-Moved.agent (λ row. record row { plan = c.in-Moved.old_plan }) c.set_plan-plan.new.self.rows (search rules) c.set_plan-plan.ensures.by_agent.0 c.set_plan-plan.ensures.by_agent.1 c.set_plan-plan.ensures.changed)
 
 pub returns-in-Flipped-clause-undone : goal.returns-in-Flipped-clause-undone
-returns-in-Flipped-clause-undone c =
-    let held : Holds c.args.self.now.grid.size c.in-Flipped.cell = search rules in
-    let flag = flag_is c.args.self.now.grid c.in-Flipped.cell c.is_open-free.result held c.is_open-free.ensures in
-    rw c.in-Flipped.is (ap (λ (g : Chart). record (scene_of c.args.self.now) { grid = g }) (c.set.ensures ∙ ap (λ (b : Bool). with_cell c.args.self.now.grid c.in-Flipped.cell (not b)) flag))
+returns-in-Flipped-clause-undone c = grind (arith, nat_tests, common_steps, gets)

@@ -1,5 +1,0 @@
-use Rattle.scene_edits.proofs.OneAnswers.{one_answer_holds}
-use Rattle.scene_edits.proofs.laws.one_answer.Goals as goal
-
-pub returns : goal.returns
-returns c = one_answer_holds
