@@ -3,8 +3,6 @@ use Rattle.std.proofs.Common.{◌≡◌, ◌⊎◌, inl, inr, List, [], ◌≤�
 use mathlib.Core.Logic.{◌↔◌}
 use Rattle.std.specs.Option.{unwrap_or}
 use Rattle.std.specs.Map.{lookup}
-use Rattle.std.specs.Cmp.{first_so, second_so}
-use Rattle.std.proofs.lemmas.Bool.{eqb-true}
 use Rattle.std.proofs.lemmas.Bool.Decides.{nat_tests}
 use Rattle.grid_cells.specs.Cell.{Point}
 use Rattle.grid_cells.specs.declared.numbers.TheConstants.{MOST_AGENT}
@@ -14,10 +12,7 @@ use Rattle.where_index.specs.ByCell.{ByCell, cell_eq, spots_at, AreWithin, Gains
 
 -- ---- equal cells
 pub cell_exact : (a b : Point) → cell_eq a b ≡ true → a ≡ b
-cell_exact a b e =
-    let ys : a.y ≡ b.y = eqb-true a.y b.y (first_so _ _ e) in
-    let xs : a.x ≡ b.x = eqb-true a.x b.x (second_so _ _ e) in
-    λ i. record { x = xs i; y = ys i }
+cell_exact a b e = grind (arith, nat_tests)
 
 pub apart_from : (a b : Point) → cell_eq a b ≡ false → b ≡ a → ⊥
 apart_from a b apart is = grind (arith, nat_tests, apart, is)
@@ -37,14 +32,14 @@ module _ (old new : ByCell) (cell : Point) (set : Option (List Spot)) (puts : Pu
     go false e = there q (apart_from cell q e)
 
   pub gains_at : (s : Spot) → Gains (spots_at old cell) (unwrap_or set []) s → GainsAt old new cell s
-  gains_at s gains = at_each (λ q before after. (v : Spot) → Contains after v ↔ (Contains before v ⊎ ((q ≡ cell) × (v ≡ s))))
-      (λ v. ((λ h. elim ((gains v).0 h) [ inl o ↦ inl o | inr is ↦ inr (refl, is) ]), (λ h. elim h [ inl o ↦ (gains v).1 (inl o) | inr is ↦ (gains v).1 (inr is.1) ])))
-      (λ q apart v. ((λ h. inl h), (λ h. elim h [ inl o ↦ o | inr is ↦ absurd (apart is.0) ])))
+  gains_at s gains =
+      at_each (λ q before after. (v : Spot) → Contains after v ↔ (Contains before v ⊎ ((q ≡ cell) × (v ≡ s)))) (λ v. grind (arith, gains v))
+      (λ q apart v. grind arith)
 
   pub loses_at : (s : Spot) → Loses (spots_at old cell) (unwrap_or set []) s → LosesAt old new cell s
-  loses_at s loses = at_each (λ q before after. (v : Spot) → Contains after v ↔ (Contains before v × ((q ≡ cell) × (v ≡ s) → ⊥)))
-      (λ v. ((λ h. (((loses v).0 h).0, λ is. ((loses v).0 h).1 is.1)), (λ h. (loses v).1 (h.0, λ is. h.1 (refl, is)))))
-      (λ q apart v. ((λ h. (h, λ is. apart is.0)), (λ h. h.0)))
+  loses_at s loses =
+      at_each (λ q before after. (v : Spot) → Contains after v ↔ (Contains before v × ((q ≡ cell) × (v ≡ s) → ⊥))) (λ v. grind (arith, loses v))
+      (λ q apart v. grind arith)
 
   pub have_same : unwrap_or set [] ≡ spots_at old cell → HaveSame old new
   have_same is = at_each (λ q before after. after ≡ before) is (λ q apart. refl)

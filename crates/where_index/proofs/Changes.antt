@@ -1,18 +1,17 @@
 -- One record put in or taken out, as a change of the agents' records over time.
-use Rattle.std.proofs.Common.{◌≡◌, ◌≢◌, ◌⊎◌, inl, inr, ℕ, zero, suc, ◌+◌, ◌<◌, ◌≤◌, Option, Some, None, true, cond, ◌&&◌, refl, sym, ap, ◌∙◌, subst, arith}
+use Rattle.std.proofs.Common.{◌≡◌, ◌≢◌, inl, inr, ℕ, zero, suc, ◌+◌, ◌<◌, ◌≤◌, Option, Some, None, true, refl, sym, ap, ◌∙◌, subst, arith}
 use Rattle.std.proofs.lemmas.Bool.Decides.{nat_tests}
 use Rattle.grid_cells.specs.Cell.{Point}
 use Rattle.plan_table.specs.Route.{Route}
-use Rattle.where_index.specs.declared.spot_sets.Spot.{Spot}
 use Rattle.where_index.specs.declared.trails.Hop.{Hop}
 use Rattle.where_index.specs.Spots.{spot}
 use Rattle.where_index.specs.ByCell.{ByCell, GainsAt, LosesAt}
-use Rattle.where_index.specs.Records.{hop, stand_at, hop_at, leg_between, leg_at, rest_at, changes_below, changed, changed_hop, same_point}
+use Rattle.where_index.specs.Records.{stand_at, hop_at, leg_between, leg_at, rest_at, changes_below, changed, changed_hop, same_point}
 use Rattle.where_index.specs.Changes.{HasSpots, HaveSameAt, set_at, set_row, mixed}
 use Rattle.where_index.proofs.Counts.{same_or_apart}
 
 pub HasSpots-ext : (sets : ByCell) (f g : ℕ → ℕ → Option Hop) → ((a t : ℕ) → f a t ≡ g a t) → HasSpots sets f → HasSpots sets g
-HasSpots-ext sets f g same has cell s = ((λ h. sym (same s.step.agent s.time) ∙ (has cell s).0 h), (λ h. (has cell s).1 (same s.step.agent s.time ∙ h)))
+HasSpots-ext sets f g same has cell s = grind (arith, same s.step.agent s.time, has cell s)
 
 pub same_leg : {old new : Route} {t : ℕ} → HaveSameAt old new t → leg_at old t ≡ leg_at new t
 same_leg {old} {new} {t} same = ap (λ o. leg_between o (hop_at old.path t)) same.stands ∙ ap (λ h. leg_between (stand_at new t) h) same.hops
@@ -20,18 +19,11 @@ same_leg {old} {new} {t} same = ap (λ o. leg_between o (hop_at old.path t)) sam
 pub same_rest : {old new : Route} {t : ℕ} → HaveSameAt old new t → rest_at old t ≡ rest_at new t
 same_rest same = ap (λ o. leg_between o None) same.tails
 
--- whether it is that agent at that time
-at_or_away : (a b x y : ℕ) → ((a ≡ b) × (x ≡ y)) ⊎ ((a ≡ b) → (x ≡ y) → ⊥)
-at_or_away a b x y = grind arith
-
 pub set_same : {X : Type 0} (f : ℕ → ℕ → X) (agent time : ℕ) (v : X) → f agent time ≡ v → (a t : ℕ) → f a t ≡ set_at f agent time v a t
 set_same f agent time v is a t = grind (arith, nat_tests)
 
 pub set_twice : {X : Type 0} (f : ℕ → ℕ → X) (agent time : ℕ) (u v : X) (a t : ℕ) → set_at (set_at f agent time u) agent time v a t ≡ set_at f agent time v a t
 set_twice f agent time u v a t = grind (arith, nat_tests)
-
-spot_is : (cell : Point) (s : Spot) (leg : Hop) (time agent : ℕ) → hop cell s.step.to ≡ leg → s.time ≡ time → s.step.agent ≡ agent → (cell ≡ leg.from) × (s ≡ spot time agent leg.to)
-spot_is cell s leg time agent a b c = (ap (λ (h : Hop). h.from) a, λ i. record { time = b i; step = record { agent = c i; to = (a i).to } })
 
 pub none_some : {X G : Type 0} (o : Option X) (x : X) → o ≡ None → o ≡ Some x → G
 none_some o x a b = absurd (cc)
@@ -40,40 +32,10 @@ pub some_one : {X : Type 0} (o : Option X) (x y : X) → o ≡ Some x → o ≡ 
 some_one o x y a b = cc
 
 pub clears : (old new : ByCell) (agent time : ℕ) (leg : Hop) (f : ℕ → ℕ → Option Hop) → LosesAt old new leg.from (spot time agent leg.to) → HasSpots old f → f agent time ≡ Some leg → HasSpots new (set_at f agent time None)
-clears old new agent time leg f loses has is cell s = elim (at_or_away s.step.agent agent s.time time) [
-  | inl at ↦
-      let now : set_at f agent time None s.step.agent s.time ≡ None = grind (arith, nat_tests) in
-      let same : f s.step.agent s.time ≡ Some leg = grind (arith, nat_tests) in (
-        (λ h. let old_s = (loses cell s).0 h in absurd (old_s.1 (spot_is cell s leg time agent (some_one _ _ _ ((has cell s).0 old_s.0) same) at.1 at.0))),
-        (λ h. none_some _ _ now h),
-      )
-  | inr away ↦
-      let now : set_at f agent time None s.step.agent s.time ≡ f s.step.agent s.time = grind (arith, nat_tests) in (
-        (λ h. now ∙ (has cell s).0 ((loses cell s).0 h).0),
-        (λ h. (loses cell s).1 ((has cell s).1 (sym now ∙ h), λ one. away (ap (λ (q : Spot). q.step.agent) one.1) (ap (λ (q : Spot). q.time) one.1))),
-      )
-]
+clears old new agent time leg f loses has is cell s = grind (arith, nat_tests, loses cell s, has cell s)
 
 pub fills : (old new : ByCell) (agent time : ℕ) (leg : Hop) (f : ℕ → ℕ → Option Hop) → GainsAt old new leg.from (spot time agent leg.to) → HasSpots old f → f agent time ≡ None → HasSpots new (set_at f agent time (Some leg))
-fills old new agent time leg f gains has is cell s = elim (at_or_away s.step.agent agent s.time time) [
-  | inl at ↦
-      let now : set_at f agent time (Some leg) s.step.agent s.time ≡ Some leg = grind (arith, nat_tests) in
-      let same : f s.step.agent s.time ≡ None = grind (arith, nat_tests) in (
-        (λ h. elim ((gains cell s).0 h) [
-          | inl o ↦ none_some _ _ same ((has cell s).0 o)
-          | inr one ↦ now ∙ λ i. Some (hop (sym one.0 i) (sym one.1 i).step.to)
-        ]),
-        (λ h. (gains cell s).1 (inr (spot_is cell s leg time agent (some_one _ _ _ h now) at.1 at.0))),
-      )
-  | inr away ↦
-      let now : set_at f agent time (Some leg) s.step.agent s.time ≡ f s.step.agent s.time = grind (arith, nat_tests) in (
-        (λ h. elim ((gains cell s).0 h) [
-          | inl o ↦ now ∙ (has cell s).0 o
-          | inr one ↦ absurd (away (ap (λ (q : Spot). q.step.agent) one.1) (ap (λ (q : Spot). q.time) one.1))
-        ]),
-        (λ h. (gains cell s).1 (inl ((has cell s).1 (sym now ∙ h)))),
-      )
-]
+fills old new agent time leg f gains has is cell s = grind (arith, nat_tests, gains cell s, has cell s)
 
 pub set_itself : {X : Type 0} (f : ℕ → ℕ → X) (agent time : ℕ) (v : X) → set_at f agent time v agent time ≡ v
 set_itself f agent time v = grind (arith, nat_tests)
@@ -103,10 +65,7 @@ module _ {X : Type 0} (f : ℕ → ℕ → X) (agent : ℕ) (o n : ℕ → X) wh
 
 pub none_below : {X : Type 0} (change : X → X → ℕ) (o n : ℕ → X) → ((a : X) → change a a ≡ 0) → (from : ℕ) → ((t : ℕ) → t < from → o t ≡ n t) → changes_below change o n from ≡ 0
 none_below change o n itself zero same = refl
-none_below change o n itself (suc x) same =
-    let rest = none_below change o n itself x (λ t h. same t (omega arith)) in
-    let last : change (o x) (n x) ≡ 0 = subst (λ v. change (o x) v ≡ 0) (same x (omega arith)) (itself (o x)) in
-    omega arith
+none_below change o n itself (suc x) same = grind (arith, none_below change o n itself x (λ t h. same t (omega arith)), same x (omega arith), itself (o x))
 
 -- old and new differ at one time or two alone
 module _ {X : Type 0} (change : X → X → ℕ) (o n : ℕ → X) (itself : (a : X) → change a a ≡ 0) where
@@ -150,17 +109,13 @@ module _ {X : Type 0} (change : X → X → ℕ) (o n : ℕ → X) (itself : (a 
     past s q h e = grind arith
 
 pub one_more : {X : Type 0} (change : X → X → ℕ) (o n : ℕ → X) (x count more : ℕ) → count ≡ changes_below change o n x → more ≡ change (o x) (n x) → count + more ≡ changes_below change o n (x + 1)
-one_more change o n x count more a b =
-    let next : suc x ≡ x + 1 = omega arith in
-    subst (λ q. count + more ≡ changes_below change o n q) next (omega arith)
+one_more change o n x count more a b = grind arith
 
 pub same_points : (a : Point) → same_point a a ≡ true
 same_points a = grind (arith, nat_tests)
 
 pub changed_itself : (a : Option Point) → changed a a ≡ 0
-changed_itself None = refl
-changed_itself (Some a) = ap (λ b. cond b 0 2) (same_points a)
+changed_itself a = grind (arith, nat_tests)
 
 pub changed_hop_itself : (a : Option Hop) → changed_hop a a ≡ 0
-changed_hop_itself None = refl
-changed_hop_itself (Some a) = ap (λ b. cond (b && same_point a.to a.to) 0 2) (same_points a.from) ∙ ap (λ b. cond b 0 2) (same_points a.to)
+changed_hop_itself a = grind (arith, nat_tests)

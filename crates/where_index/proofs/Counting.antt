@@ -1,8 +1,8 @@
 -- The records that tell two routes apart, listed one by one and counted.
 use Rattle.std.proofs.Common.{◌≡◌, ◌≢◌, ◌⊎◌, inl, inr, ℕ, zero, suc, ◌+◌, ◌<◌, ◌≤◌, max, List, [], ◌∷◌, ◌++◌, length, Contains, Option, Some, None, Bool, true, false, cond, ◌&&◌, refl, sym, ap, ◌∙◌, subst, arith}
+use Rattle.std.proofs.lemmas.Bool.Decides.{nat_tests}
 use mathlib.Core.Logic.{◌↔◌}
 use Rattle.std.specs.List.{AllPairs}
-use Rattle.std.specs.Cmp.{first_so, second_so}
 use Rattle.std.proofs.lemmas.List.{length-append}
 use Rattle.std.proofs.lemmas.List.Elements.{Contains-append_left, Contains-append_right, Contains-append_cases, Contains-get_or}
 use Rattle.std.proofs.lemmas.List.Kept.{AllPairs-cons}
@@ -189,13 +189,10 @@ abbrev same_hop : Hop → Hop → Bool
 same_hop a b = same_point a.from b.from && same_point a.to b.to
 
 hops_one : (a b : Hop) → same_hop a b ≡ true → a ≡ b
-hops_one a b is =
-    let froms = points_one a.from b.from (first_so _ _ is) in
-    let tos = points_one a.to b.to (second_so _ _ is) in
-    λ i. record { from = froms i; to = tos i }
+hops_one a b is = grind (arith, nat_tests)
 
 hops_two : (a : Hop) → same_hop a a ≡ true
-hops_two a = ap (λ b. b && same_point a.to a.to) (same_points a.from) ∙ same_points a.to
+hops_two a = grind (arith, nat_tests)
 
 abbrev move : ℕ → Hop → Record
 move time hop = Move time hop.from hop.to
@@ -216,10 +213,7 @@ move_times : (t s : ℕ) (v w : Hop) → move t v ≡ move s w → t ≡ s
 move_times t s v w e = cc
 
 move_values : (t s : ℕ) (v w : Hop) → move t v ≡ move s w → v ≡ w
-move_values t s v w e =
-    let froms : v.from ≡ w.from = cc in
-    let tos : v.to ≡ w.to = cc in
-    λ i. record { from = froms i; to = tos i }
+move_values t s v w e = grind arith
 
 -- ---- all records of two routes
 module _ (old new : Route) where
@@ -248,15 +242,7 @@ module _ (old new : Route) where
   moves_show = below_shows move move_times move_values same_hop hops_one hops_two (hop_at old.path) (hop_at new.path) until
 
   in_time : {X : Type 0} (o n : ℕ → Option X) → ((t : ℕ) → until ≤ t → o t ≡ None) → ((t : ℕ) → until ≤ t → n t ≡ None) → (t : ℕ) (v : X) → OneIs (o t) (n t) v → t < until
-  in_time o n no_o no_n t v h = elim (early_or_late t until) [
-    | inl early ↦ early
-    | inr late ↦ elim h [
-      | inl a ↦ let gone = no_o t late in let is = a.0 in absurd (cc)
-      | inr b ↦ let gone = no_n t late in let is = b.0 in absurd (cc)
-    ]
-  ] where
-    early_or_late : (a b : ℕ) → (a < b) ⊎ (b ≤ a)
-    early_or_late a b = grind arith
+  in_time o n no_o no_n t v h = grind (arith, no_o t, no_n t)
 
   late_old : (t : ℕ) → until ≤ t → length old.path ≤ t
   unfolding until

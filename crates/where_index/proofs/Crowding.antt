@@ -1,9 +1,7 @@
 -- Crowds, as agents come to a place and leave it.
-use Rattle.std.proofs.Common.{◌≡◌, ◌≢◌, ◌⊎◌, inl, inr, ℕ, ◌<◌, List, [], ◌∷◌, length, get_or, Contains, Option, Some, None, Bool, true, false, cond, refl, sym, ap, ◌∙◌, subst, arith}
+use Rattle.std.proofs.Common.{zero, suc, ◌≡◌, ◌≢◌, ◌⊎◌, inl, inr, ℕ, ◌<◌, List, [], ◌∷◌, length, Contains, Option, Some, None, true, false, cond, refl, sym, ap, ◌∙◌, subst, arith}
 use mathlib.Core.Logic.{◌↔◌}
 use Rattle.std.specs.Map.{lookup}
-use Rattle.std.specs.Cmp.{first_so, second_so}
-use Rattle.std.proofs.lemmas.Bool.{eqb-true}
 use Rattle.std.proofs.lemmas.Bool.Decides.{nat_tests}
 use Rattle.grid_cells.specs.Cell.{Point}
 use Rattle.where_index.specs.declared.moves.Move.{Move}
@@ -14,22 +12,10 @@ use Rattle.where_index.specs.Moves.{PutsMove}
 use Rattle.where_index.specs.Changes.{set_at}
 use Rattle.where_index.specs.Crowds.{place, place_eq, crowd_at, Moves, IsCrowd, HasCrowds, ChangesAt, IsBeside, begun, IsJoined, IsLessened, IsLeft, HasFew}
 use Rattle.plan_table.proofs.Order.{Contains-nil, Contains-cons_head, Contains-cons_cases}
-use Rattle.where_index.proofs.Counts.{same_or_apart}
 use Rattle.where_index.proofs.Changes.{set_itself, none_some, some_one}
 
--- ---- one place
-place_exact : (cell : Point) (time : ℕ) (c : Point) (t : ℕ) → place_eq (place cell time) (place c t) ≡ true → (c ≡ cell) × (t ≡ time)
-place_exact cell time c t e =
-    let cells = first_so _ _ e in
-    let ys : c.y ≡ cell.y = sym (eqb-true _ _ (first_so _ _ cells)) in
-    let xs : c.x ≡ cell.x = sym (eqb-true _ _ (second_so _ _ cells)) in
-    (λ i. record { x = xs i; y = ys i }, sym (eqb-true _ _ (second_so _ _ e)))
-
 place_cases : (cell : Point) (time : ℕ) (c : Point) (t : ℕ) → (((c ≡ cell) × (t ≡ time)) × (place_eq (place cell time) (place c t) ≡ true)) ⊎ (((c ≡ cell) → (t ≡ time) → ⊥) × (place_eq (place cell time) (place c t) ≡ false))
-place_cases cell time c t = go (place_eq (place cell time) (place c t)) refl where
-  go : (b : Bool) → place_eq (place cell time) (place c t) ≡ b → (((c ≡ cell) × (t ≡ time)) × (place_eq (place cell time) (place c t) ≡ true)) ⊎ (((c ≡ cell) → (t ≡ time) → ⊥) × (place_eq (place cell time) (place c t) ≡ false))
-  go true e = inl (place_exact cell time c t e, e)
-  go false e = inr ((λ is_cell is_time. grind (arith, nat_tests, e, is_cell, is_time)), e)
+place_cases cell time c t = grind (arith, nat_tests)
 
 -- a list put at a place, or taken out there
 pub changes_at : (old new : List (Place × List Move)) (cell : Point) (time : ℕ) (list : Option (List Move)) → ((q : Place) → lookup (place_eq q) new ≡ cond (place_eq (place cell time) q) list (lookup (place_eq q) old))
@@ -69,36 +55,22 @@ module _ (old : List (Place × List Move)) where
 -- ---- lists of moves
 -- a list of one move, and a move put in
 pub puts_beside : (one both : List Move) (other added : Move) → PutsMove [] one other → PutsMove one both added → PutsMove (other ∷ []) both added
-puts_beside one both other added first second m = (
-  (λ h. elim ((second m).0 h) [
-    | inl o ↦ elim ((first m).0 o.0) [ inl n ↦ absurd (Contains-nil m n.0) | inr is ↦ inl (subst (λ q. Contains (other ∷ []) q) (sym is) (Contains-cons_head other []), o.1) ]
-    | inr is ↦ inr is
-  ]),
-  (λ h. elim h [
-    | inl o ↦ (second m).1 (inl ((first m).1 (elim (Contains-cons_cases other [] m o.0) [ inl is ↦ inr (sym is) | inr n ↦ absurd (Contains-nil m n) ]), o.1))
-    | inr is ↦ (second m).1 (inr is)
-  ]),
-)
+puts_beside one both other added first second m = grind (arith, first m, second m, Contains-nil m, Contains-cons_head other [], Contains-cons_cases other [] m)
 
 few_are_one : (moves : List Move) → length moves < 2 → (m n : Move) → Contains moves m → Contains moves n → m ≡ n
-few_are_one moves few m n (i, within, is) (j, also, too) =
-    let first : i ≡ 0 = omega arith in
-    let second : j ≡ 0 = omega arith in
-    let a : get_or moves 0 m ≡ m = subst (λ q. get_or moves q m ≡ m) first is in
-    let b : get_or moves 0 n ≡ n = subst (λ q. get_or moves q n ≡ n) second too in
-    sym a ∙ (same moves (omega arith) ∙ b)
-  where
-    same : (l : List Move) → 0 < length l → get_or l 0 m ≡ get_or l 0 n
-    same [] h = absurd (omega arith)
-    same (x ∷ l) h = refl
+few_are_one [] few m n (i, within, is) (j, also, too) = absurd (omega arith)
+few_are_one (x ∷ l) few m n (zero, within, is) (zero, also, too) = sym is ∙ too
+few_are_one (x ∷ l) few m n (suc i, within, is) (j, also, too) = absurd (omega arith)
+few_are_one (x ∷ l) few m n (zero, within, is) (suc j, also, too) = absurd (omega arith)
 
 -- ---- crowds of the same moves
 IsCrowd-ext : (o : Option (List Move)) (P Q : Move → Type 0) → ((m : Move) → P m ↔ Q m) → IsCrowd o P → IsCrowd o Q
-IsCrowd-ext (Some l) P Q same is = λ m. ((λ h. (same m).0 ((is m).0 h)), (λ h. (is m).1 ((same m).1 h)))
+IsCrowd-ext (Some l) P Q same is = λ m. grind (arith, same m, is m)
 IsCrowd-ext None P Q same is = λ m n p q. is m n ((same m).1 p) ((same n).1 q)
 
 pub HasCrowds-ext : (lists : List (Place × List Move)) (f g : ℕ → ℕ → Option Hop) → ((a t : ℕ) → f a t ≡ g a t) → HasCrowds lists f → HasCrowds lists g
-HasCrowds-ext lists f g same has cell time = IsCrowd-ext (crowd_at lists cell time) (Moves f cell time) (Moves g cell time) (λ m. ((λ h. (sym (same m.agent time) ∙ h.0, h.1)), (λ h. (same m.agent time ∙ h.0, h.1)))) (has cell time)
+HasCrowds-ext lists f g same has cell time =
+    IsCrowd-ext (crowd_at lists cell time) (Moves f cell time) (Moves g cell time) (λ m. grind (arith, same m.agent time)) (has cell time)
 
 -- an agent's leg in a step is another one, and neither is a move out of that cell then
 module _ (f : ℕ → ℕ → Option Hop) (agent time : ℕ) (v : Option Hop) where
@@ -137,23 +109,7 @@ module _ (f : ℕ → ℕ → Option Hop) (agent time : ℕ) (leg : Hop) (absent
   added = record { agent = agent; to = leg.to }
 
   here : leg.from ≢ leg.to → (m : Move) → Moves next leg.from time m ↔ ((Moves f leg.from time m × (m.agent ≢ agent)) ⊎ (m ≡ added))
-  here apart m = elim (same_or_apart m.agent agent) [
-    | inl is ↦ (
-      (λ h. let one : leg ≡ hop leg.from m.to = some_one _ _ _ refl (own f agent time (Some leg) leg.from m is h) in
-          inr (λ i. record { agent = is i; to = (sym one i).to })),
-      (λ h. elim h [
-        | inl o ↦ absurd (o.1 is)
-        | inr one ↦ subst (λ q. Moves next leg.from time q) (sym one) (set_itself f agent time (Some leg), apart)
-      ]),
-    )
-    | inr not ↦ (
-      (λ h. inl ((others f agent time (Some leg) leg.from m not).1 h, not)),
-      (λ h. elim h [
-        | inl o ↦ (others f agent time (Some leg) leg.from m not).0 o.0
-        | inr one ↦ absurd (not (ap (λ (q : Move). q.agent) one))
-      ]),
-    )
-  ]
+  here apart m = grind (arith, own f agent time (Some leg) leg.from m, others f agent time (Some leg) leg.from m, set_itself f agent time (Some leg))
 
   joined : (o n : Option (List Move)) (beside : Option Move) → leg.from ≢ leg.to → IsBeside f leg.from time beside → IsCrowd o (Moves f leg.from time) → IsJoined added (begun o beside) n → IsCrowd n (Moves next leg.from time)
   joined (Some l) (Some k) beside apart are is puts = λ m. (
@@ -195,10 +151,7 @@ module _ (f : ℕ → ℕ → Option Hop) (agent time : ℕ) (leg : Hop) (there 
   rest = set_at f agent time None
 
   left : (m : Move) → Moves rest leg.from time m ↔ (Moves f leg.from time m × (m.agent ≢ agent))
-  left m = (
-    (λ h. let not : m.agent ≢ agent = λ is. none_some None (hop leg.from m.to) refl (own f agent time None leg.from m is h) in ((others f agent time None leg.from m not).1 h, not)),
-    (λ h. (others f agent time None leg.from m h.1).0 h.0),
-  )
+  left m = grind (arith, own f agent time None leg.from m, others f agent time None leg.from m)
 
   leaves_place : (o n : Option (List Move)) → IsCrowd o (Moves f leg.from time) → IsLeft agent o n → IsCrowd n (Moves rest leg.from time)
   leaves_place (Some l) (Some k) is loses = λ m. (

@@ -1,5 +1,6 @@
 -- What a set gathers from spots, and the ascending list of it.
-use Rattle.std.proofs.Common.{◌≡◌, ◌⊎◌, inl, inr, ℕ, List, [], ◌∷◌, get_or, Contains, sym, ap, ◌∙◌, subst}
+use Rattle.std.proofs.Common.{◌≡◌, ◌⊎◌, inl, inr, ℕ, List, [], ◌∷◌, get_or, Contains, sym, ap, ◌∙◌, subst, arith}
+use Rattle.std.proofs.lemmas.Bool.Decides.{nat_tests}
 use mathlib.Core.Logic.{◌↔◌}
 use Rattle.std.specs.List.{AllPairs}
 use Rattle.std.specs.List.Sorted.{IsStrictlySortedBy}
@@ -7,23 +8,19 @@ use Rattle.std.specs.Ordering.{nat_cmp, ordering_then}
 use Rattle.std.specs.Cmp.{IsTotalOrder}
 use Rattle.std.proofs.lemmas.Cmp.{nat_cmp_total, on_total, then_total}
 use Rattle.std.proofs.lemmas.Map.Keys.{Less-from_sorted}
-use Rattle.std.proofs.lemmas.Map.Lookups.{CmpEqualImpliesEq, exact_unsigned}
+use Rattle.std.proofs.lemmas.Map.Lookups.{CmpEqualImpliesEq}
 use Rattle.plan_table.specs.Order.{ComesBefore}
 use Rattle.where_index.specs.declared.spot_sets.Spot.{Spot}
 use Rattle.where_index.specs.declared.passings.Passing.{Passing}
 use Rattle.where_index.specs.Shown.{passing_cmp}
 use Rattle.plan_table.proofs.Order.{Contains-nil, Contains-cons_head, Contains-cons_tail, Contains-cons_cases}
-use Rattle.where_index.proofs.SpotOrder.{then_equal, then_end}
+use Rattle.where_index.proofs.SpotOrder.{then_end}
 
 pub passing_total : IsTotalOrder passing_cmp
 passing_total = then_total (on_total (λ (p : Passing). p.time) nat_cmp_total) (on_total (λ (p : Passing). p.agent) nat_cmp_total)
 
 pub passing_exact : CmpEqualImpliesEq passing_cmp
-passing_exact a b e =
-    let parts = then_equal _ _ e in
-    let times : a.time ≡ b.time = exact_unsigned _ _ parts.0 in
-    let agents : a.agent ≡ b.agent = exact_unsigned _ _ parts.1 in
-    λ i. record { time = times i; agent = agents i }
+passing_exact a b e = grind (arith, nat_tests)
 
 -- ---- what is gathered from spots, by what each shows, and what those that are left show
 module _ {K : Type 0} (R : Spot → K → Type 0) where
@@ -34,11 +31,11 @@ module _ {K : Type 0} (R : Spot → K → Type 0) where
   Gathers old spots left now = (x : K) → (Contains now x ⊎ Show left x) ↔ (Contains old x ⊎ Show spots x)
 
   pub gathers_none : (old : List K) (spots left : List Spot) → left ≡ spots → Gathers old spots left old
-  gathers_none old spots left all x = subst (λ l. (Contains old x ⊎ Show left x) ↔ (Contains old x ⊎ Show l x)) all ((λ h. h), (λ h. h))
+  gathers_none old spots left all x = grind arith
 
   pub gathers_more : (old now next : List K) (spots left rest : List Spot) (s : Spot) (k : K) → left ≡ s ∷ rest → ((x : K) → R s x ↔ (k ≡ x)) → Gathers old spots left now → ((x : K) → Contains next x ↔ (Contains now x ⊎ (x ≡ k))) → Gathers old spots rest next
   gathers_more old now next spots left rest s k steps shows inv gains x =
-      let inv = subst (λ l. Gathers old spots l now) steps inv x in (
+      let inv = rw steps at inv x in (
         (λ h. inv.0 (elim h [
           | inl there ↦ elim ((gains x).0 there) [ inl before ↦ inl before | inr is ↦ inr (s, Contains-cons_head s rest, (shows x).1 (sym is)) ]
           | inr w ↦ inr (w.0, Contains-cons_tail s rest w.0 w.1, w.2)
@@ -46,7 +43,7 @@ module _ {K : Type 0} (R : Spot → K → Type 0) where
         (λ h. elim (inv.1 h) [
           | inl before ↦ inl ((gains x).1 (inl before))
           | inr w ↦ elim (Contains-cons_cases s rest w.0 w.1) [
-            | inl is ↦ inl ((gains x).1 (inr (sym ((shows x).0 (subst (λ v. R v x) (sym is) w.2)))))
+            | inl is ↦ inl ((gains x).1 (inr (sym ((shows x).0 (rw (← is) at w.2)))))
             | inr later ↦ inr (w.0, later, w.2)
           ]
         ]),
@@ -56,22 +53,13 @@ module _ {K : Type 0} (R : Spot → K → Type 0) where
   none_left left done x w = Contains-nil w.0 (subst (λ (l : List Spot). Contains l w.0) done w.1)
 
   pub gathers_all : (old now : List K) (spots left : List Spot) → ((x : K) → Show left x → ⊥) → Gathers old spots left now → (x : K) → Contains now x ↔ (Contains old x ⊎ Show spots x)
-  gathers_all old now spots left none inv x = (
-    (λ h. (inv x).0 (inl h)),
-    (λ h. elim ((inv x).1 h) [ inl there ↦ there | inr w ↦ absurd (none x w) ]),
-  )
+  gathers_all old now spots left none inv x = grind (arith, inv x, none x)
 
   -- two lists of spots gathered into an empty set
   pub gathers_two : (none one two : List K) (stands tails : List Spot) → none ≡ []
       → ((x : K) → Contains one x ↔ (Contains none x ⊎ Show stands x)) → ((x : K) → Contains two x ↔ (Contains one x ⊎ Show tails x))
       → (x : K) → Contains two x ↔ (Show stands x ⊎ Show tails x)
-  gathers_two none one two stands tails empty g1 g2 x = (
-    (λ h. elim ((g2 x).0 h) [
-      | inl first ↦ elim ((g1 x).0 first) [ inl o ↦ absurd (Contains-nil x (subst (λ l. Contains l x) empty o)) | inr w ↦ inl w ]
-      | inr w ↦ inr w
-    ]),
-    (λ h. elim h [ inl w ↦ (g2 x).1 (inl ((g1 x).1 (inr w))) | inr w ↦ (g2 x).1 (inr w) ]),
-  )
+  gathers_two none one two stands tails empty g1 g2 x = grind (arith, g1 x, g2 x, Contains-nil x)
 
 -- ---- strictly sorted lists ascend
 pub agents_ascend : (agents : List ℕ) → IsStrictlySortedBy nat_cmp agents → AllPairs (λ a b. ComesBefore (a ∷ []) (b ∷ [])) agents

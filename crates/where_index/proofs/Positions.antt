@@ -1,9 +1,9 @@
 -- Where an agent is, by its records.
-use Rattle.std.proofs.Common.{◌≡◌, ◌≢◌, ◌⊎◌, inl, inr, ℕ, zero, suc, ◌+◌, min, ◌<◌, ◌≤◌, List, [], ◌∷◌, length, slice_get, Contains, Option, Some, None, Bool, true, false, cond, IsTrue, refl, sym, ap, ◌∙◌, subst, arith}
+use Rattle.std.proofs.Common.{◌≡◌, ◌≢◌, ◌⊎◌, inl, inr, ℕ, ◌+◌, min, ◌<◌, ◌≤◌, List, length, slice_get, Contains, Option, Some, None, Bool, true, false, cond, IsTrue, refl, sym, ap, ◌∙◌, subst, arith}
 use mathlib.Core.Logic.{◌↔◌}
 use Rattle.std.specs.Option.{option_and_then, option_map, unwrap_or, IsSome}
 use Rattle.std.proofs.lemmas.Bool.Decides.{nat_tests}
-use Rattle.std.proofs.lemmas.Option.{slice_get_within}
+use Rattle.std.proofs.lemmas.Option.{slice_get_within, slice_get_cases}
 use Rattle.grid_cells.specs.Cell.{Point}
 use Rattle.plan_table.specs.Path.{last_index}
 use Rattle.plan_table.specs.Route.{Route, Fleet, position, position_of, last_of}
@@ -25,8 +25,7 @@ use Rattle.where_index.specs.Index.{all_of}
 use Rattle.where_index.proofs.Standing.{early_stand}
 
 guarded : (b : Bool) (o : Option Point) (cell : Point) → cond b o None ≡ Some cell → (b ≡ true) × (o ≡ Some cell)
-guarded true o cell e = (refl, e)
-guarded false o cell e = absurd (cc)
+guarded b o cell e = grind arith
 
 from_stand : (path : List Point) (leaves : Bool) (t : ℕ) (cell : Point) → stand_at (route path leaves) t ≡ Some cell → position (route path leaves) t ≡ Some cell
 from_stand path leaves t cell e = grind (arith, nat_tests, slice_get_within path t cell)
@@ -46,12 +45,10 @@ to_either path false t cell e = elim (early_or_late path t) [
 
 module _ (t : ℕ) (cell : Point) where
   stands_is : (o : Option Route) → option_and_then (λ r. stand_at r t) o ≡ Some cell → option_and_then (λ r. position r t) o ≡ Some cell
-  stands_is None e = absurd (cc)
-  stands_is (Some r) e = from_stand r.path r.leaves t cell e
+  stands_is o e = grind (arith, from_stand)
 
   rests_is : (x : ℕ) → x ≤ t → (o : Option Route) → option_and_then (λ r. tail_at r x) o ≡ Some cell → option_and_then (λ r. position r t) o ≡ Some cell
-  rests_is x h None e = absurd (cc)
-  rests_is x h (Some r) e = from_rest r.path r.leaves x t cell e h
+  rests_is x h o e = grind (arith, from_rest)
 
   either_is : (o : Option Route) → option_and_then (λ r. position r t) o ≡ Some cell → (option_and_then (λ r. stand_at r t) o ≡ Some cell) ⊎ ((x : ℕ) × (x ≤ t) × (option_and_then (λ r. tail_at r x) o ≡ Some cell))
   either_is None e = absurd (cc)
@@ -62,9 +59,7 @@ abbrev pub ShowCells : ByCell → (ℕ → ℕ → Option Point) → Type 0
 ShowCells sets f = ((cell : Point) (s : Spot) → Contains (spots_at sets cell) s → f s.step.agent s.time ≡ Some cell) × ((cell : Point) (time agent : ℕ) → f agent time ≡ Some cell → HasAt (spots_at sets cell) time agent)
 
 leg_cell : (o : Option Point) (move : Option Hop) (a b : Point) → leg_between o move ≡ Some (hop a b) → o ≡ Some a
-leg_cell None move a b e = absurd (cc)
-leg_cell (Some c) None a b e = let one : hop c c ≡ hop a b = cc in ap (λ (h : Hop). Some h.from) one
-leg_cell (Some c) (Some m) a b e = let one : hop c m.to ≡ hop a b = cc in ap (λ (h : Hop). Some h.from) one
+leg_cell o move a b e = grind arith
 
 some_leg : (o : Option Point) (move : Option Hop) (a : Point) → o ≡ Some a → (b : Point) × (leg_between o move ≡ Some (hop a b))
 some_leg o None a e = (a, ap (λ p. leg_between p None) e)
@@ -72,8 +67,7 @@ some_leg o (Some m) a e = (m.to, ap (λ p. leg_between p (Some m)) e)
 
 module _ (g : Route → ℕ → Option Point) (k : Route → ℕ → Option Hop) where
   cell_shown : (o : Option Route) (t : ℕ) (a b : Point) → option_and_then (λ r. leg_between (g r t) (k r t)) o ≡ Some (hop a b) → option_and_then (λ r. g r t) o ≡ Some a
-  cell_shown None t a b e = absurd (cc)
-  cell_shown (Some r) t a b e = leg_cell (g r t) (k r t) a b e
+  cell_shown o t a b e = grind (arith, leg_cell)
 
   leg_shown : (o : Option Route) (t : ℕ) (a : Point) → option_and_then (λ r. g r t) o ≡ Some a → (b : Point) × (option_and_then (λ r. leg_between (g r t) (k r t)) o ≡ Some (hop a b))
   leg_shown None t a e = absurd (cc)
@@ -109,19 +103,14 @@ standing_exact stands tails s1 s2 fleet cell time has_s has_r b1 b2 a = (
 
 -- ---- a record Stand or Tail is no later than the last index
 stand_early : (o : Option Route) (t : ℕ) (cell : Point) → option_and_then (λ r. stand_at r t) o ≡ Some cell → t ≤ unwrap_or (option_map (λ (r : Route). last_index r.path) o) 0
-stand_early None t cell e = absurd (cc)
-stand_early (Some r) t cell e =
-    let within = slice_get_within r.path t cell (guarded _ _ _ e).1 in
-    omega arith
+stand_early o t cell e = grind (arith, nat_tests, slice_get_within)
 
 -- and before it, where its agent doesn't leave
 stand_passes : (o : Option Route) (t : ℕ) (cell : Point) → option_and_then (λ r. stand_at r t) o ≡ Some cell → (t < unwrap_or (option_map (λ (r : Route). last_index r.path) o) 0) ⊎ IsTrue (unwrap_or (option_map (λ (r : Route). r.leaves) o) false)
-stand_passes None t cell e = absurd (cc)
-stand_passes (Some r) t cell e = grind (arith, nat_tests, slice_get_within r.path t cell)
+stand_passes o t cell e = grind (arith, nat_tests, slice_get_within)
 
 tail_last : (o : Option Route) (t : ℕ) (cell : Point) → option_and_then (λ r. tail_at r t) o ≡ Some cell → t ≡ unwrap_or (option_map (λ (r : Route). last_index r.path) o) 0
-tail_last None t cell e = absurd (cc)
-tail_last (Some r) t cell e = grind (arith, nat_tests)
+tail_last o t cell e = grind (arith, nat_tests)
 
 pub passing_exact : (stands tails : ByCell) (s1 s2 : List Spot) (fleet : Fleet) (cell : Point) (from : ℕ) → ShowCells stands (all_of stand_at fleet) → ShowCells tails (all_of tail_at fleet) → AreFrom (spots_at stands cell) from s1 → AreFrom (spots_at tails cell) from s2 → (p : Passing) → (HasPassing s1 p ⊎ HasPassing s2 p) ↔ Passes fleet cell from p
 passing_exact stands tails s1 s2 fleet cell from has_s has_r b1 b2 p = (
@@ -160,13 +149,10 @@ passing_exact stands tails s1 s2 fleet cell from has_s has_r b1 b2 p = (
 
 -- ---- what the end of an agent's route says
 pub unended : (o : Option Route) → IsEndOf None o → o ≡ None
-unended None is = refl
-unended (Some r) is = absurd is
+unended o is = grind arith
 
 some_within : (path : List Point) (i : ℕ) → i < length path → IsSome (slice_get path i)
-some_within [] i h = absurd (omega arith)
-some_within (c ∷ path) zero h = refl
-some_within (c ∷ path) (suc i) h = some_within path i (omega arith)
+some_within path i h = grind (arith, slice_get_cases path i)
 
 -- whether an agent with that end has a position
 pub has_place : (end : End) (o : Option Route) (t : ℕ) → IsEndOf (Some end) o → (end.leaves ≡ false) ⊎ (t ≤ end.last) → IsSome (option_and_then (λ r. position r t) o)
@@ -177,8 +163,7 @@ has_place end (Some r) t is h =
     grind (arith, nat_tests, some, is.last, is.leaves)
 
 pub no_place : (end : End) (o : Option Route) (t : ℕ) → IsEndOf (Some end) o → end.leaves ≡ true → end.last < t → IsSome (option_and_then (λ r. position r t) o) → ⊥
-no_place end None t is leaves late h = is
-no_place end (Some r) t is leaves late h = grind (arith, nat_tests, is.last, is.leaves)
+no_place end o t is leaves late h = grind (arith, nat_tests)
 
 -- where an agent with that end is, by the sets
 pub is_there : (stands tails : ByCell) (fleet : Fleet) (cell : Point) (agent time : ℕ) (end : End) → ShowCells stands (all_of stand_at fleet) → ShowCells tails (all_of tail_at fleet) → IsEndOf (Some end) (fleet agent) → end.last ≤ time → HasAt (spots_at tails cell) end.last agent → position_of fleet agent time ≡ Some cell
@@ -188,58 +173,29 @@ pub is_rest : (stands tails : ByCell) (fleet : Fleet) (cell : Point) (agent time
 is_rest stands tails fleet cell agent time end has_s has_r is not_standing at = elim (either_is time cell (fleet agent) at) [
   | inl stood ↦ absurd (not_standing (has_s.1 cell time agent stood))
   | inr w ↦
-      let last : w.0 ≡ end.last = tail_last (fleet agent) w.0 cell w.2 ∙ end_last (fleet agent) is in
+      let last : w.0 ≡ end.last = grind (arith, tail_last (fleet agent) w.0 cell w.2) in
       (omega (arith, w.1, last), has_r.1 cell end.last agent (subst (λ q. all_of tail_at fleet agent q ≡ Some cell) last w.2))
-] where
-  end_last : (o : Option Route) → IsEndOf (Some end) o → unwrap_or (option_map (λ (r : Route). last_index r.path) o) 0 ≡ end.last
-  end_last None e = absurd e
-  end_last (Some r) e = sym e.last
+]
 
 pub is_standing : (stands : ByCell) (fleet : Fleet) (cell : Point) (agent time : ℕ) → ShowCells stands (all_of stand_at fleet) → HasAt (spots_at stands cell) time agent → position_of fleet agent time ≡ Some cell
 is_standing stands fleet cell agent time has_s there = stands_is time cell (fleet agent) (has_s.0 cell (spot time agent there.0) there.1)
 
 -- ---- a record Move is a move out of a cell
-hop_parts : (a b : Point) (v : Bool) (h : Hop) → same_point a b ≡ v → cond v None (Some (record { from = a; to = b })) ≡ Some h → (a ≡ h.from) × (b ≡ h.to) × (same_point a b ≡ false)
-hop_parts a b true h e is = absurd (cc)
-hop_parts a b false h e is =
-    let one : record { from = a; to = b } ≡ h = cc in
-    (ap (λ (q : Hop). q.from) one, ap (λ (q : Hop). q.to) one, e)
-
 hop_cases : (o p : Option Point) (h : Hop) → hop_between o p ≡ Some h → (o ≡ Some h.from) × (p ≡ Some h.to) × (same_point h.from h.to ≡ false)
-hop_cases None p h is = absurd (cc)
-hop_cases (Some a) None h is = absurd (cc)
-hop_cases (Some a) (Some b) h is =
-    let parts = hop_parts a b (same_point a b) h refl is in
-    (ap (λ (q : Point). Some q) parts.0, ap (λ (q : Point). Some q) parts.1, subst (λ q. same_point q h.to ≡ false) parts.0 (subst (λ q. same_point a q ≡ false) parts.1 parts.2))
-
-apart_points : (a b : Point) → same_point a b ≡ false → a ≢ b
-apart_points a b e is = grind (arith, nat_tests)
-
-step_place : (path : List Point) (leaves : Bool) (t : ℕ) → t < length path → position (route path leaves) t ≡ slice_get path t
-step_place path leaves t h = grind (arith, nat_tests)
+hop_cases o p h is = grind (arith, nat_tests)
 
 pub hop_moves : (path : List Point) (leaves : Bool) (t : ℕ) (h : Hop) → hop_at path t ≡ Some h → (position (route path leaves) t ≡ Some h.from) × (position (route path leaves) (t + 1) ≡ Some h.to) × (h.from ≢ h.to)
-hop_moves path leaves t h is =
-    let parts = hop_cases (slice_get path t) (slice_get path (t + 1)) h is in
-    let within = slice_get_within path (t + 1) h.to parts.1 in
-    (step_place path leaves t (omega arith) ∙ parts.0, step_place path leaves (t + 1) (omega arith) ∙ parts.1, apart_points h.from h.to parts.2)
+hop_moves path leaves t h is = grind (arith, nat_tests, hop_cases (slice_get path t) (slice_get path (t + 1)) h is, slice_get_within path (t + 1) h.to)
 
 pub points_one : (a b : Point) → same_point a b ≡ true → a ≡ b
-points_one a b is =
-    let xs : a.x ≡ b.x = grind (arith, nat_tests) in
-    let ys : a.y ≡ b.y = grind (arith, nat_tests) in
-    λ i. record { x = xs i; y = ys i }
+points_one a b is = grind (arith, nat_tests)
 
 other_points : (a b : Point) (v : Bool) → same_point a b ≡ v → (a ≢ b) → v ≡ false
-other_points a b false e apart = refl
-other_points a b true e apart = absurd (apart (points_one a b e))
+other_points a b v e apart = grind (arith, nat_tests)
 
 -- a move out of a cell is a record Move
 pub moves_hop : (path : List Point) (leaves : Bool) (t : ℕ) (from to : Point) → position (route path leaves) t ≡ Some from → position (route path leaves) (t + 1) ≡ Some to → from ≢ to → hop_at path t ≡ Some (record { from = from; to = to })
-moves_hop path leaves t from to starts arrives apart = elim (early_or_late path t) [
-  | inl early ↦ grind (arith, nat_tests, other_points from to (same_point from to) refl apart)
-  | inr late ↦ absurd (grind (arith, nat_tests))
-]
+moves_hop path leaves t from to starts arrives apart = grind (arith, nat_tests, other_points from to (same_point from to) refl apart)
 
 -- ---- the moves of a fleet
 pub hop_of : (o : Option Route) (t : ℕ) (h : Hop) → option_and_then (λ r. hop_at r.path t) o ≡ Some h → (option_and_then (λ r. position r t) o ≡ Some h.from) × (option_and_then (λ r. position r (t + 1)) o ≡ Some h.to) × (h.from ≢ h.to)
@@ -247,8 +203,7 @@ hop_of None t h is = absurd (cc)
 hop_of (Some r) t h is = hop_moves r.path r.leaves t h is
 
 pub of_hop : (o : Option Route) (t : ℕ) (from to : Point) → option_and_then (λ r. position r t) o ≡ Some from → option_and_then (λ r. position r (t + 1)) o ≡ Some to → from ≢ to → option_and_then (λ r. hop_at r.path t) o ≡ Some (record { from = from; to = to })
-of_hop None t from to starts arrives apart = absurd (cc)
-of_hop (Some r) t from to starts arrives apart = moves_hop r.path r.leaves t from to starts arrives apart
+of_hop o t from to starts arrives apart = grind (arith, moves_hop)
 
 -- ---- a step to another cell is a move
 pub hop_leg : (o : Option Route) (t : ℕ) (h : Hop) → option_and_then (λ r. hop_at r.path t) o ≡ Some h → option_and_then (λ r. leg_at r t) o ≡ Some h

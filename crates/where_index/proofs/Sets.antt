@@ -1,11 +1,11 @@
 -- Ordered sets and maps as lists of their keys.
-use Rattle.std.proofs.Common.{◌≡◌, ◌⊎◌, inl, inr, List, [], ◌∷◌, Contains, refl, sym, ap, ◌∙◌, subst, Bool, true, false, cond, IsTrue}
+use Rattle.std.proofs.Common.{◌≡◌, ◌⊎◌, inl, inr, List, [], ◌∷◌, Contains, sym, ap, ◌∙◌, subst, Bool, true, false, cond, arith}
 use mathlib.Core.Logic.{◌↔◌}
 use Rattle.std.specs.List.{filter}
 use Rattle.std.specs.Cmp.{IsTotalOrder}
 use Rattle.std.specs.Ordering.{is_eq}
 use Rattle.std.specs.declared.cmp.Ordering.{Ordering}
-use Rattle.std.specs.declared.cmp.Ordering.TheVariants.{Less, Equal, Greater}
+use Rattle.std.specs.declared.cmp.Ordering.TheVariants.{Equal}
 use Rattle.std.specs.BTreeSet as sorted
 use Rattle.std.specs.BTreeSet.{BTreeSet}
 use Rattle.std.proofs.lemmas.Bool.{cases_Bool}
@@ -44,53 +44,13 @@ filter_keeps p (x ∷ xs) y =
     ]
 
 pub tied_or_not : (o : Ordering) → (o ≡ Equal) ⊎ (is_eq o ≡ false)
-tied_or_not Less = inr refl
-tied_or_not Equal = inl refl
-tied_or_not Greater = inr refl
+tied_or_not o = grind arith
 
 module _ {K : Type 0} {R : K → K → Ordering} (o : IsTotalOrder R) (exact : CmpEqualImpliesEq R) where
   pub set_gains : (s n : BTreeSet K) (k : K) → sorted.Updates R s n k true → (q : K) → Contains n.keys q ↔ (Contains s.keys q ⊎ (q ≡ k))
   set_gains s n k h q =
-      let now = btree_set_contains_iff o exact n q in
-      let before = btree_set_contains_iff o exact s q in
-      elim (tied_or_not (R k q)) [
-        | inl same ↦
-            let one : k ≡ q = exact k q same in
-            let here : sorted.contains R n q ≡ true = h.0 q ∙ ap (λ v. cond (is_eq v) true (sorted.contains R s q)) same in
-            ((λ _. inr (sym one)), (λ _. now.0 here))
-        | inr apart ↦
-            let here : sorted.contains R n q ≡ sorted.contains R s q = h.2 q apart in (
-              (λ w. inl (before.0 (subst IsTrue here (now.1 w)))),
-              (λ w. elim w [
-                | inl old ↦ now.0 (subst IsTrue (sym here) (before.1 old))
-                | inr is ↦
-                    let tied : R k q ≡ Equal = subst (λ v. R k v ≡ Equal) (sym is) (tied_itself o k) in
-                    let wrong : is_eq (R k q) ≡ true = ap is_eq tied in
-                    let no : true ≡ false = sym wrong ∙ apart in
-                    absurd (cc)
-              ]),
-            )
-      ]
+      grind (arith, btree_set_contains_iff o exact n q, btree_set_contains_iff o exact s q, h.0 q, h.2 q, exact k q, tied_itself o k, tied_or_not (R k q))
 
   pub set_loses : (s n : BTreeSet K) (k : K) → sorted.Updates R s n k false → (q : K) → Contains n.keys q ↔ (Contains s.keys q × (q ≡ k → ⊥))
   set_loses s n k h q =
-      let now = btree_set_contains_iff o exact n q in
-      let before = btree_set_contains_iff o exact s q in
-      elim (tied_or_not (R k q)) [
-        | inl same ↦
-            let one : k ≡ q = exact k q same in
-            let here : sorted.contains R n q ≡ false = h.0 q ∙ ap (λ v. cond (is_eq v) false (sorted.contains R s q)) same in
-            ((λ w. let no : false ≡ true = sym here ∙ now.1 w in absurd (cc)), (λ w. absurd (w.1 (sym one))))
-        | inr apart ↦
-            let here : sorted.contains R n q ≡ sorted.contains R s q = h.2 q apart in (
-              (λ w. (
-                before.0 (subst IsTrue here (now.1 w)),
-                λ is.
-                    let tied : R k q ≡ Equal = subst (λ v. R k v ≡ Equal) (sym is) (tied_itself o k) in
-                    let wrong : is_eq (R k q) ≡ true = ap is_eq tied in
-                    let no : true ≡ false = sym wrong ∙ apart in
-                    absurd (cc),
-              )),
-              (λ w. now.0 (subst IsTrue (sym here) (before.1 w.0))),
-            )
-      ]
+      grind (arith, btree_set_contains_iff o exact n q, btree_set_contains_iff o exact s q, h.0 q, h.2 q, exact k q, tied_itself o k, tied_or_not (R k q))

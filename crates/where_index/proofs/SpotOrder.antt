@@ -1,5 +1,6 @@
 -- The order of spots.
-use Rattle.std.proofs.Common.{◌≡◌, ◌≤◌, ◌<◌, ◌⊎◌, ℕ, refl, sym, ap, ◌∙◌, subst, List, ◌∷◌, Contains, Bool, true, false, ◌&&◌, arith, inl, inr}
+use Rattle.std.proofs.Common.{◌≡◌, ◌≤◌, ◌<◌, ◌⊎◌, ℕ, refl, sym, ap, ◌∙◌, subst, List, ◌∷◌, Contains, Bool, true, ◌&&◌, arith, inl, inr}
+use Rattle.std.proofs.lemmas.Bool.Decides.{nat_tests}
 use mathlib.Core.Logic.{◌↔◌}
 use Rattle.std.specs.List.{filter, AllPairs}
 use Rattle.std.specs.List.Sorted.{IsStrictlySortedBy}
@@ -7,12 +8,12 @@ use Rattle.std.specs.BTreeMap.Range.{range_contains}
 use Rattle.std.specs.Cmp.{IsTotalOrder}
 use Rattle.std.specs.Ordering.{MatchOrdering, is_le, nat_cmp, ordering_then}
 use Rattle.std.specs.declared.cmp.Ordering.{Ordering}
-use Rattle.std.specs.declared.cmp.Ordering.TheVariants.{Less, Equal, Greater}
+use Rattle.std.specs.declared.cmp.Ordering.TheVariants.{Less, Equal}
 use Rattle.std.specs.declared.ops.Bound.TheVariants.{Included, Unbounded}
 use Rattle.std.proofs.lemmas.List.Kept.{IsStrictlySortedBy-filter}
-use Rattle.std.proofs.lemmas.Cmp.{ranked, by_ranked, nat_cmp_total, on_total, then_total}
+use Rattle.std.proofs.lemmas.Cmp.{ranked, nat_cmp_total, on_total, then_total}
 use Rattle.std.proofs.lemmas.Map.Keys.{Less-from_sorted}
-use Rattle.std.proofs.lemmas.Map.Lookups.{CmpEqualImpliesEq, exact_unsigned}
+use Rattle.std.proofs.lemmas.Map.Lookups.{CmpEqualImpliesEq}
 use Rattle.grid_cells.specs.Cell.{Point, point}
 use Rattle.plan_table.proofs.Order.{Contains-cons_head, Contains-cons_cases, AllPairs-head}
 use Rattle.where_index.specs.declared.moves.Move.{Move}
@@ -35,56 +36,27 @@ pub spot_total : IsTotalOrder spot_cmp
 spot_total = then_total (on_total (λ (s : Spot). s.time) nat_cmp_total) (on_total (λ (s : Spot). s.step) move_total)
 
 pub then_equal : (a b : Ordering) → ordering_then a b ≡ Equal → (a ≡ Equal) × (b ≡ Equal)
-then_equal Less b e = absurd (cc)
-then_equal Equal b e = (refl, e)
-then_equal Greater b e = absurd (cc)
+then_equal a b e = grind arith
 
 pub spot_exact : CmpEqualImpliesEq spot_cmp
-spot_exact a b e =
-    let parts = then_equal _ _ e in
-    let steps = then_equal _ _ parts.1 in
-    let goals = then_equal _ _ steps.1 in
-    let times : a.time ≡ b.time = exact_unsigned _ _ parts.0 in
-    let agents : a.step.agent ≡ b.step.agent = exact_unsigned _ _ steps.0 in
-    let ys : a.step.to.y ≡ b.step.to.y = exact_unsigned _ _ goals.0 in
-    let xs : a.step.to.x ≡ b.step.to.x = exact_unsigned _ _ goals.1 in
-    λ i. record { time = times i; step = record { agent = agents i; to = record { x = xs i; y = ys i } } }
+spot_exact a b e = grind (arith, nat_tests)
 
 -- ---- one place of a comparison
 pub from_lt : (a b : ℕ) → nat_cmp a b ≡ Less → a < b
 from_lt a b e = subst (λ o. MatchOrdering o (a < b) (a ≡ b) (b < a)) e (ranked a b (nat_cmp a b) refl)
 
-pub from_eq : (a b : ℕ) → nat_cmp a b ≡ Equal → a ≡ b
-from_eq a b e = exact_unsigned _ _ e
-
-pub cases3 : (o : Ordering) → (o ≡ Less) ⊎ ((o ≡ Equal) ⊎ (o ≡ Greater))
-cases3 Less = inl refl
-cases3 Equal = inr (inl refl)
-cases3 Greater = inr (inr refl)
-
 place_le : (a b : ℕ) (o : Ordering) → is_le (ordering_then (nat_cmp a b) o) ≡ true → (a < b) ⊎ ((a ≡ b) × (is_le o ≡ true))
-place_le a b o e = by_ranked (a < b) (a ≡ b) (b < a) (nat_cmp a b) (ranked a b (nat_cmp a b) refl) (λ _ lt. inl lt)
-    (λ is same. inr (same, subst (λ v. is_le (ordering_then v o) ≡ true) is e))
-    (λ is _. let wrong : false ≡ true = subst (λ v. is_le (ordering_then v o) ≡ true) is e in absurd (cc))
+place_le a b o e = grind (arith, nat_tests)
 
 from_le : (a b : ℕ) (o : Ordering) → is_le (ordering_then (nat_cmp a b) o) ≡ true → a ≤ b
-from_le a b o e = elim (place_le a b o e) [ inl lt ↦ omega arith | inr same ↦ omega arith ]
-
-le_then : (a b : ℕ) (o : Ordering) → a ≤ b → is_le o ≡ true → is_le (ordering_then (nat_cmp a b) o) ≡ true
-le_then a b o h e = by_ranked (a < b) (a ≡ b) (b < a) (nat_cmp a b) (ranked a b (nat_cmp a b) refl) (λ is _. ap (λ v. is_le (ordering_then v o)) is)
-    (λ is _. ap (λ v. is_le (ordering_then v o)) is ∙ e) (λ _ gt. absurd (omega arith))
+from_le a b o e = grind (arith, nat_tests)
 
 pub then_end : (o : Ordering) → ordering_then o Equal ≡ o
-then_end Less = refl
-then_end Equal = refl
-then_end Greater = refl
+then_end o = grind arith
 
 -- the same number, where neither comes after the other
 squeeze : (a b : ℕ) (o p : Ordering) → is_le (ordering_then (nat_cmp a b) o) ≡ true → is_le (ordering_then (nat_cmp b a) p) ≡ true → (a ≡ b) × (is_le o ≡ true) × (is_le p ≡ true)
-squeeze a b o p low high = elim (place_le a b o low) [
-  | inl lt ↦ absurd (omega (arith, from_le b a p high))
-  | inr same ↦ elim (place_le b a p high) [ inl gt ↦ absurd (omega arith) | inr also ↦ (same.0, same.1, also.1) ]
-]
+squeeze a b o p low high = grind (arith, place_le a b o low, place_le b a p high)
 
 -- ---- from a time on
 -- the spots from an agent's place on
@@ -92,13 +64,10 @@ abbrev pub from_place : ℕ → ℕ → Spot → Bool
 from_place time agent s = is_le (spot_cmp (spot time agent (point 0 0)) s)
 
 reached : (time agent : ℕ) (s : Spot) → time ≤ s.time → agent ≤ s.step.agent → from_place time agent s ≡ true
-reached time agent s lower least =
-    let last : is_le (nat_cmp 0 s.step.to.x) ≡ true = sym (ap is_le (then_end (nat_cmp 0 s.step.to.x))) ∙ le_then 0 s.step.to.x Equal (omega arith) refl in
-    le_then time s.time _ lower (le_then agent s.step.agent _ least (le_then 0 s.step.to.y _ (omega arith) last))
+reached time agent s lower least = grind (arith, nat_tests)
 
 and_end : (b : Bool) → (b && true) ≡ b
-and_end true = refl
-and_end false = refl
+and_end b = grind arith
 
 module _ (time agent : ℕ) (spots found : List Spot) where
   -- what a search with no end finds
@@ -116,10 +85,7 @@ module _ (time agent : ℕ) (spots found : List Spot) where
     among s h = ((kept s).0 h).0
 
     pub are_from : agent ≡ 0 → AreFrom spots time found
-    are_from least s = (
-      (λ h. let k = (kept s).0 h in (k.0, from_le time s.time _ k.1)),
-      (λ h. (kept s).1 (h.0, reached time agent s h.1 (omega arith))),
-    )
+    are_from least s = grind (arith, kept s, from_le time s.time, reached time agent s)
 
     module _ (sorted : IsStrictlySortedBy spot_cmp spots) where
       ascend : AllPairs (λ a b. spot_cmp a b ≡ Less) found

@@ -1,5 +1,6 @@
 -- An index after one route is changed.
-use Rattle.std.proofs.Common.{◌≡◌, ◌≢◌, ℕ, zero, suc, ◌+◌, ◌<◌, ◌≤◌, List, [], ◌∷◌, length, slice_get, Option, Some, None, Bool, true, false, cond, ◌==◌, refl, sym, ap, ◌∙◌, subst, arith}
+use Rattle.std.proofs.Common.{◌≡◌, ◌≢◌, ℕ, ◌+◌, ◌<◌, ◌≤◌, List, [], length, slice_get, Option, Some, None, cond, sym, ap, ◌∙◌, arith}
+use Rattle.std.proofs.lemmas.Option.{slice_get_past}
 use Rattle.std.specs.Option.{unwrap_or, option_and_then, option_map}
 use Rattle.std.specs.Ordering.{nat_cmp, is_eq}
 use Rattle.std.proofs.lemmas.Bool.Decides.{nat_tests}
@@ -18,9 +19,7 @@ use Rattle.where_index.proofs.Flowing.{HasTraffic-ext}
 
 -- ---- no records after the end
 pub past : (path : List Point) (t : ℕ) → length path ≤ t → slice_get path t ≡ None
-past [] t h = refl
-past (x ∷ path) zero h = absurd (omega arith)
-past (x ∷ path) (suc t) h = past path t (omega arith)
+past path t h = slice_get_past path t h
 
 pub stand_past : (r : Route) (t : ℕ) → length r.path ≤ t → stand_at r t ≡ None
 stand_past r t h = grind (arith, nat_tests)
@@ -42,18 +41,13 @@ pub hop_past : (path : List Point) (t : ℕ) → length path ≤ t → hop_at pa
 hop_past path t h = ap (λ (o : Option Point). hop_between o (slice_get path (t + 1))) (past path t h)
 
 pub same_past : (old new : Route) (to t : ℕ) → length old.path ≤ to → length new.path ≤ to → to ≤ t → HaveSameAt old new t
-same_past old new to t a b h = record {
-  stands = stand_past old t (omega arith) ∙ sym (stand_past new t (omega arith));
-  tails = rest_past old t (omega arith) ∙ sym (rest_past new t (omega arith));
-  hops = hop_past old.path t (omega arith) ∙ sym (hop_past new.path t (omega arith));
-}
+same_past old new to t a b h = grind (arith, nat_tests, past old.path t, past new.path t)
 
 -- ---- one agent's route changed
 module _ (fleet : Fleet) (agent : ℕ) (before next : Option Route) (was : fleet agent ≡ before) where
   module _ {X : Type 0} (g : Route → ℕ → Option X) (empty : (t : ℕ) → g nothing t ≡ None) where
     at_option : (o : Option Route) (t : ℕ) → option_and_then (λ r. g r t) o ≡ g (unwrap_or o nothing) t
-    at_option None t = sym (empty t)
-    at_option (Some r) t = refl
+    at_option o t = grind (arith, empty t)
 
     pub agrees : (t : ℕ) → all_of g fleet agent t ≡ g (unwrap_or before nothing) t
     agrees t = ap (λ o. option_and_then (λ r. g r t) o) was ∙ at_option before t
@@ -68,13 +62,7 @@ module _ (fleet : Fleet) (agent : ℕ) (before next : Option Route) (was : fleet
   no_rest t = ap (λ o. leg_between o None) (rest_past nothing t (omega arith))
 
   ends_next : (old new : List (ℕ × End)) (end : Option End) → ((q : ℕ) → end_in new q ≡ cond (is_eq (nat_cmp agent q)) end (end_in old q)) → ((a : ℕ) → IsEndOf (end_in old a) (fleet a)) → IsEndOf end next → (a : ℕ) → IsEndOf (end_in new a) (with_route fleet agent next a)
-  ends_next old new end puts has is a = subst (λ e. IsEndOf e (with_route fleet agent next a)) (sym (puts a ∙ ap (λ b. cond b end (end_in old a)) tied)) (go (a == agent)) where
-    tied : is_eq (nat_cmp agent a) ≡ (a == agent)
-    tied = grind (arith, nat_tests)
-
-    go : (v : Bool) → IsEndOf (cond v end (end_in old a)) (cond v next (fleet a))
-    go true = is
-    go false = has a
+  ends_next old new end puts has is a = grind (arith, nat_tests, puts a, has a)
 
   horizon_next : (old new : ℕ) → ((a : ℕ) → last_of fleet a ≤ old) → old ≤ new → last_index (unwrap_or next nothing).path ≤ new → (a : ℕ) → last_of (with_route fleet agent next) a ≤ new
   horizon_next old new has more last a = grind (arith, nat_tests, has a, last_le next last) where
@@ -97,21 +85,8 @@ module _ (fleet : Fleet) (agent : ℕ) (before next : Option Route) (was : fleet
   }
 
 -- ---- the same records where the positions are the same, well before both ends
-early_place : (r : Route) (t : ℕ) → t + 1 < length r.path → position r t ≡ slice_get r.path t
-early_place r t h = grind (arith, nat_tests)
-
 pub early_stand : (r : Route) (t : ℕ) → t + 1 < length r.path → stand_at r t ≡ slice_get r.path t
 early_stand r t h = grind (arith, nat_tests)
 
-pub early_rest : (r : Route) (t : ℕ) → t + 1 < length r.path → tail_at r t ≡ None
-early_rest r t h = grind (arith, nat_tests)
-
 pub same_early : (old new : Route) (since t : ℕ) → ((x : ℕ) → x < since → position old x ≡ position new x) → t + 1 < since → t + 2 < length old.path → t + 2 < length new.path → HaveSameAt old new t
-same_early old new since t same h a b =
-    let now : slice_get old.path t ≡ slice_get new.path t = sym (early_place old t (omega arith)) ∙ (same t (omega arith) ∙ early_place new t (omega arith)) in
-    let next : slice_get old.path (t + 1) ≡ slice_get new.path (t + 1) = sym (early_place old (t + 1) (omega arith)) ∙ (same (t + 1) h ∙ early_place new (t + 1) (omega arith)) in
-    record {
-      stands = early_stand old t (omega arith) ∙ (now ∙ sym (early_stand new t (omega arith)));
-      tails = early_rest old t (omega arith) ∙ sym (early_rest new t (omega arith));
-      hops = ap (λ o. hop_between o (slice_get old.path (t + 1))) now ∙ ap (λ o. hop_between (slice_get new.path t) o) next;
-    }
+same_early old new since t same h a b = grind (arith, nat_tests, same t, same (t + 1))
