@@ -1,7 +1,7 @@
 -- The entries of a fleet after one route is put in or taken out.
-use Rattle.std.proofs.Common.{◌≡◌, ◌≢◌, ◌⊎◌, inl, inr, ℕ, ◌+◌, ◌%◌, List, length, Some, None, refl, sym, ap, ◌∙◌, subst, arith}
+use Rattle.std.proofs.Common.{◌≡◌, ◌≢◌, ◌⊎◌, inl, inr, ℕ, ◌+◌, ◌<◌, ◌%◌, List, length, Some, None, refl, sym, ap, ◌∙◌, subst, arith}
 use mathlib.Core.Logic.{◌↔◌}
-use Rattle.std.specs.Prelude.{IsSome, IsTrue, slice_index, false}
+use Rattle.std.specs.Prelude.{false}
 use Rattle.std.specs.Option.{unwrap_or, option_map, option_and_then}
 use Rattle.std.specs.List.{Contains}
 use Rattle.std.proofs.lemmas.List.Elements.{Contains-get_or}
@@ -19,6 +19,40 @@ use Rattle.conflict_ledger.specs.declared.places.Place.TheVariants.{Beside, Ahea
 use Rattle.conflict_ledger.specs.Change.{SameBut, RingsAfterArrival}
 use Rattle.mapf_rules.proofs.RoundTrips.{after_within}
 
+-- an agent is at the same places in both fleets in the step that begins at the time, and goes on after it in both, or ends alike
+pub record IsAlike (old new : Fleet) (time a : ℕ) : Type 0 where
+  pub now : position_of old a time ≡ position_of new a time
+  pub later : position_of old a (time + 1) ≡ position_of new a (time + 1)
+  pub ends : ((time < last_of old a) × (time < last_of new a)) ⊎ ((last_of old a ≡ last_of new a) × (leaves_of old a ≡ leaves_of new a))
+
+module _ (old new : Fleet) where
+  follows_alike : (time follower leader : ℕ) (cell : Point) → IsAlike old new time follower → IsAlike old new time leader
+      → IsFollowing old time follower leader cell → IsFollowing new time follower leader cell
+  follows_alike time follower leader cell f l h = grind arith
+
+  out_alike : (time a : ℕ) (cell : Point) → IsAlike old new time a → MovesOut new time a cell → MovesOut old time a cell
+  out_alike time a cell s h = grind arith
+
+  pub ring_alike : (time : ℕ) (ring : List ℕ) → ((a : ℕ) → Contains ring a → IsAlike old new time a)
+      → ((member other : ℕ) (cell : Point) → Contains ring member → position_of new member time ≡ Some cell → MovesOut new time other cell → IsAlike old new time other)
+      → IsRing old time ring → IsRing new time ring
+  ring_alike time ring members others is = record {
+    three = is.three;
+    distinct = is.distinct;
+    least_first = is.least_first;
+    round = λ k within.
+        let step = is.round k within in
+        let next = Contains-get_or ring ((k + 1) % length ring) 0 (after_within k (length ring) within) in
+        (step.0, follows_alike time _ _ step.0 (members _ (Contains-get_or ring k 0 within)) (members _ next) step.1);
+    alone = λ member other cell in_ring at moves.
+        is.alone member other cell in_ring ((members member in_ring).now ∙ at) (out_alike time other cell (others member other cell in_ring at moves) moves);
+  }
+
+  -- an entry of two such agents stands in both fleets
+  pub stands_alike : (entry : Conflict) → IsPair entry → ((a : ℕ) → Names entry a → IsAlike old new (time_of entry) a) → Stands old entry → Stands new entry
+  stands_alike (Cycle time ring) pair all h = absurd pair
+  stands_alike entry pair all h = let a = all _ (inl refl) in let b = all _ (inr refl) in grind arith
+
 module _ (old new : Fleet) (agent : ℕ) (same : SameBut old new agent) where
   pub there : (a time : ℕ) → a ≢ agent → position_of old a time ≡ position_of new a time
   there a time apart = ap (λ r. option_and_then (λ route. position route time) r) (same a apart)
@@ -29,95 +63,15 @@ module _ (old new : Fleet) (agent : ℕ) (same : SameBut old new agent) where
   pub leaving : (a : ℕ) → a ≢ agent → leaves_of old a ≡ leaves_of new a
   leaving a apart = ap (λ r. unwrap_or (option_map (λ (route : Route). route.leaves) r) false) (same a apart)
 
-  follows_stays : (time follower leader : ℕ) (cell : Point) → follower ≢ agent → leader ≢ agent → IsFollowing old time follower leader cell → IsFollowing new time follower leader cell
-  follows_stays time follower leader cell nf nl h = record {
-    two = h.two;
-    leader_there = sym (there leader time nl) ∙ h.leader_there;
-    leader_goes_on = subst IsSome (there leader (time + 1) nl) h.leader_goes_on;
-    follower_to = sym (there follower (time + 1) nf) ∙ h.follower_to;
-    moves = λ is. h.moves (there follower time nf ∙ is);
-  }
-
-  -- an entry of two agents that does not name the agent stays
-  pub pair_stays : (entry : Conflict) → IsPair entry → (Names entry agent → ⊥) → Stands old entry → Stands new entry
-  pair_stays (Vertex time first second cell) pair out h =
-      let nf : first ≢ agent = λ e. out (inl e) in
-      let ns : second ≢ agent = λ e. out (inr e) in
-      let lf = ends first nf in
-      let ls = ends second ns in
-      record {
-        ordered = h.ordered;
-        first_there = sym (there first time nf) ∙ h.first_there;
-        second_there = sym (there second time ns) ∙ h.second_there;
-        passes = elim h.passes [
-          | inl lt ↦ inl (omega (arith, lf, ls, lt))
-          | inr more ↦ inr (elim more [ inl a ↦ inl (subst IsTrue (leaving first nf) a) | inr b ↦ inr (subst IsTrue (leaving second ns) b) ])
-        ];
-      }
-  pair_stays (Parked time first second cell) pair out h =
-      let nf : first ≢ agent = λ e. out (inl e) in
-      let ns : second ≢ agent = λ e. out (inr e) in
-      let lf = ends first nf in
-      let ls = ends second ns in
-      record {
-        ordered = h.ordered;
-        first_there = sym (there first time nf) ∙ h.first_there;
-        second_there = sym (there second time ns) ∙ h.second_there;
-        rests = omega (arith, lf, ls, h.rests);
-        first_stays = λ l. h.first_stays (subst IsTrue (sym (leaving first nf)) l);
-        second_stays = λ l. h.second_stays (subst IsTrue (sym (leaving second ns)) l);
-      }
-  pair_stays (Edge time first second cell next) pair out h =
-      let nf : first ≢ agent = λ e. out (inl e) in
-      let ns : second ≢ agent = λ e. out (inr e) in
-      record {
-        ordered = h.ordered;
-        first_from = sym (there first time nf) ∙ h.first_from;
-        second_from = sym (there second time ns) ∙ h.second_from;
-        first_to = sym (there first (time + 1) nf) ∙ h.first_to;
-        second_to = sym (there second (time + 1) ns) ∙ h.second_to;
-        moves = h.moves;
-      }
-  pair_stays (Following time follower leader cell) pair out h = follows_stays time follower leader cell (λ e. out (inl e)) (λ e. out (inr e)) h
-  pair_stays (Swapping time first second cell other) pair out h =
-      let nf : first ≢ agent = λ e. out (inl e) in
-      let ns : second ≢ agent = λ e. out (inr e) in
-      record {
-        ordered = h.ordered;
-        first_from = sym (there first time nf) ∙ h.first_from;
-        second_from = sym (there second time ns) ∙ h.second_from;
-        first_to = sym (there first (time + 1) nf) ∙ h.first_to;
-        second_to = sym (there second (time + 1) ns) ∙ h.second_to;
-        moves = h.moves;
-      }
-  pair_stays (Cycle time ring) pair out h = absurd pair
+  pub alike : (time a : ℕ) → a ≢ agent → IsAlike old new time a
+  alike time a apart = record { now = there a time apart; later = there a (time + 1) apart; ends = inr (ends a apart, leaving a apart) }
 
   -- a ring without the agent stays, unless the agent moves out of a member's cell
   pub ring_stays : (time : ℕ) (ring : List ℕ) → (Contains ring agent → ⊥)
       → ((member : ℕ) (cell : Point) → Contains ring member → position_of new member time ≡ Some cell → MovesOut new time agent cell → ⊥)
-      → ((a : ℕ) → (a ≡ agent) ⊎ (a ≢ agent)) → IsRing old time ring → IsRing new time ring
-  ring_stays time ring out free which is = record {
-    three = is.three;
-    distinct = is.distinct;
-    least_first = is.least_first;
-    round = λ k within.
-        let step = is.round k within in
-        let here : slice_index ring k ≢ agent = λ e. out (subst (Contains ring) e (Contains-get_or ring k 0 within)) in
-        let next : slice_index ring ((k + 1) % length ring) ≢ agent = λ e. out (subst (Contains ring) e (Contains-get_or ring ((k + 1) % length ring) 0 (after_within k (length ring) within))) in
-        (step.0, follows_stays time _ _ step.0 here next step.1);
-    alone = λ member other cell in_ring at moves. elim (which other) [
-      | inl e ↦ absurd (free member cell in_ring at (subst (λ a. MovesOut new time a cell) e moves))
-      | inr apart ↦
-          let nm : member ≢ agent = λ e. out (subst (Contains ring) e in_ring) in
-          is.alone member other cell in_ring (there member time nm ∙ at) (back other cell apart moves)
-    ];
-  } where
-    back : (other : ℕ) (cell : Point) → other ≢ agent → MovesOut new time other cell → MovesOut old time other cell
-    back other cell apart h = record {
-      from = there other time apart ∙ h.from;
-      goes_on = subst IsSome (sym (there other (time + 1) apart)) h.goes_on;
-      moves = λ still. h.moves (sym (there other (time + 1) apart) ∙ still);
-    }
+      → IsRing old time ring → IsRing new time ring
+  ring_stays time ring out free = ring_alike old new time ring (λ a has. alike time a (λ e. out (subst (Contains ring) e has)))
+      (λ member other cell in_ring at moves. alike time other (λ e. free member cell in_ring at (subst (λ a. MovesOut new time a cell) e moves)))
 
 -- ---- where the entries of an agent are looked for
 -- the other agent is where the agent meets it: there at the start of the step, where the agent is then or goes, or coming to
@@ -150,9 +104,6 @@ near_of fleet agent (Swapping time first second cell other) pair names h = elim 
 ]
 near_of fleet agent (Cycle time ring) pair names h = absurd pair
 
-which_agent : (agent a : ℕ) → (a ≡ agent) ⊎ (a ≢ agent)
-which_agent agent a = grind arith
-
 gone : (fleet : Fleet) (agent time : ℕ) (cell : Point) → fleet agent ≡ None → MovesOut fleet time agent cell → ⊥
 gone fleet agent time cell is h =
     let nowhere : position_of fleet agent time ≡ None = ap (λ r. option_and_then (λ route. position route time) r) is in
@@ -164,14 +115,17 @@ rings_after_arrival old new agent time ring same absent there_or_not =
     let back : SameBut new old agent = λ a apart. sym (same a apart) in (
       (λ h. elim there_or_not [
         | inl in_ring ↦ inl (in_ring, h)
-        | inr out ↦ inr (out, ring_stays new old agent back time ring out (λ member cell in_ring at moves. gone old agent time cell absent moves) (which_agent agent) h, λ member cell in_ring at moves. out (subst (Contains ring) (sym (h.alone member agent cell in_ring at moves)) in_ring))
+        | inr out ↦ inr (out, ring_stays new old agent back time ring out (λ member cell in_ring at moves. gone old agent time cell absent moves) h, λ member cell in_ring at moves. out (subst (Contains ring) (sym (h.alone member agent cell in_ring at moves)) in_ring))
       ]),
       (λ h. elim h [
         | inl with ↦ with.1
-        | inr without ↦ ring_stays old new agent same time ring without.0 without.2 (which_agent agent) without.1
+        | inr without ↦ ring_stays old new agent same time ring without.0 without.2 without.1
       ]),
     )
 
 -- the entries of two agents, likewise
 pub pairs_after_change : (old new : Fleet) (agent : ℕ) (entry : Conflict) → SameBut old new agent → IsPair entry → (Names entry agent → ⊥) → Stands old entry ↔ Stands new entry
-pairs_after_change old new agent entry same pair out = (pair_stays old new agent same entry pair out, pair_stays new old agent (λ a apart. sym (same a apart)) entry pair out)
+pairs_after_change old new agent entry same pair out = (
+  stands_alike old new entry pair (λ a named. alike old new agent same (time_of entry) a (λ e. out (subst (Names entry) e named))),
+  stands_alike new old entry pair (λ a named. alike new old agent (λ b apart. sym (same b apart)) (time_of entry) a (λ e. out (subst (Names entry) e named))),
+)

@@ -1,4 +1,5 @@
 -- What a search beside one agent's track gathers.
+use Rattle.std.proofs.lemmas.Bool.Decides.{nat_tests}
 use Rattle.std.proofs.Common.{◌≡◌, ◌⊎◌, inl, inr, ℕ, ◌+◌, ◌≤◌, ◌<◌, List, [], Contains, Option, Some, None, refl, subst, arith}
 use Rattle.std.proofs.lemmas.Bool.{cases_lt}
 use Rattle.plan_table.proofs.Order.{Contains-nil}
@@ -14,43 +15,29 @@ use Rattle.conflict_ledger.specs.Gathering.{Gathers, IsAgents, AreAgents, HasPla
 use Rattle.conflict_ledger.specs.declared.places.Place.{Place}
 use Rattle.mapf_rules.specs.Finding.{Offers}
 use Rattle.mapf_rules.specs.declared.entries.Conflict.{Conflict}
-use Rattle.mapf_rules.specs.declared.entries.Conflict.TheVariants.{Vertex, Parked, Edge, Following, Swapping, Cycle}
+use Rattle.mapf_rules.specs.declared.entries.Conflict.TheVariants.{Cycle}
 
 pub gathers_nothing : (fleet : Fleet) (agent : ℕ) (at : ℕ → Type 0) (old : List Conflict) → Gathers fleet agent at old old
 gathers_nothing fleet agent at old = record { keeps = λ e h. h; only = λ e h. inl h }
 
 pub gathers_on : (fleet : Fleet) (agent : ℕ) (at : ℕ → Type 0) (old mid new : List Conflict) → Gathers fleet agent at old mid → Gathers fleet agent at mid new → Gathers fleet agent at old new
-gathers_on fleet agent at old mid new a b = record {
-  keeps = λ e h. b.keeps e (a.keeps e h);
-  only = λ e h. elim (b.only e h) [ inl before ↦ a.only e before | inr is ↦ inr is ];
-}
+gathers_on fleet agent at old mid new a b = grind (arith, nat_tests)
 
 -- what is of certain times is of more
 pub gathers_at : (fleet : Fleet) (agent : ℕ) (at more : ℕ → Type 0) (old new : List Conflict) → ((t : ℕ) → at t → more t) → Gathers fleet agent at old new → Gathers fleet agent more old new
-gathers_at fleet agent at more old new into gathers = record {
-  keeps = gathers.keeps;
-  only = λ e h. elim (gathers.only e h) [ inl before ↦ inl before | inr is ↦ inr (is.0, into (time_of e) is.1) ];
-}
+gathers_at fleet agent at more old new into gathers = grind (arith, nat_tests)
 
 -- what was there of a place is there still
 pub place_on : (fleet : Fleet) (agent : ℕ) (at : ℕ → Type 0) (old new : List Conflict) → Gathers fleet agent at old new → (time : ℕ) (place : Place) → HasPlace fleet agent time place old → HasPlace fleet agent time place new
 place_on fleet agent at old new gathers time place has other cell apart own there entry is then two _ met = gathers.keeps entry (has other cell apart own there entry is then two apart met)
 
 pair_time : (entry : Conflict) (time first second : ℕ) → IsOfPair entry time first second → time_of entry ≡ time
-pair_time (Vertex x a b c) time first second of = of.0
-pair_time (Parked x a b c) time first second of = of.0
-pair_time (Edge x a b c n) time first second of = of.0
-pair_time (Following x a b c) time first second of = of.0
-pair_time (Swapping x a b c n) time first second of = of.0
 pair_time (Cycle x r) time first second of = absurd of
+pair_time entry time first second of = of.0
 
 pair_names : (entry : Conflict) (time first second agent : ℕ) → IsOfPair entry time first second → (first ≡ agent) ⊎ (second ≡ agent) → IsPair entry × Names entry agent
-pair_names (Vertex x a b c) time first second agent of who = (tt, rw (of.1, of.2) who)
-pair_names (Parked x a b c) time first second agent of who = (tt, rw (of.1, of.2) who)
-pair_names (Edge x a b c n) time first second agent of who = (tt, rw (of.1, of.2) who)
-pair_names (Following x a b c) time first second agent of who = (tt, rw (of.1, of.2) who)
-pair_names (Swapping x a b c n) time first second agent of who = (tt, rw (of.1, of.2) who)
 pair_names (Cycle x r) time first second agent of who = absurd of
+pair_names entry time first second agent of who = (tt, rw (of.1, of.2) who)
 
 -- an entry of the pair, if it was found, is one of the agent's
 pub gathers_offer : (fleet : Fleet) (agent time first second : ℕ) (old new : List Conflict) (found : Option Conflict) → (first ≡ agent) ⊎ (second ≡ agent) → IfSome found (Stands fleet) → IfSome found (λ entry. IsOfPair entry time first second) → Offers old new found → Gathers fleet agent (λ t. t ≡ time) old new
@@ -69,10 +56,7 @@ gathers_offer fleet agent time first second old new found who stands pair offers
 before_end : (o : Option Tracks) (both : Tracks) (last t : ℕ) → o ≡ Some both → IfSome o (λ both. (time : ℕ) → last ≤ time → position (route_of both.old) time ≡ position (route_of both.new) time)
     → IfSome o (λ both. AreApartAt (route_of both.old) (route_of both.new) t ⊎ AreApartAt (route_of both.old) (route_of both.new) (t + 1)) → t ≤ last
 before_end None both last t is same apart = absurd (cc)
-before_end (Some both) other last t is same apart = elim (cases_lt last t) [
-  | inl past ↦ elim apart [ inl now ↦ absurd (now (same t (omega arith))) | inr later ↦ absurd (later (same (t + 1) (omega arith))) ]
-  | inr up_to ↦ up_to
-]
+before_end (Some both) other last t is same apart = grind (arith, nat_tests)
 
 -- the entries gathered on the path, and after it where the span has no two tracks, are those of the span's times
 module _ (fleet : Fleet) (agent : ℕ) (span : Span) (last : ℕ) (is_last : last ≡ last_of fleet agent) (fits : Fits span (last_of fleet agent)) (none path : List Conflict) (empty : none ≡ [])

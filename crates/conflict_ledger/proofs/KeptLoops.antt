@@ -1,5 +1,5 @@
 -- Entries put in or taken out one after another.
-use Rattle.std.proofs.Common.{inl, inr, List, [], ◌∷◌, ◌++◌}
+use Rattle.std.proofs.Common.{inl, inr, List, [], ◌∷◌, ◌++◌, arith}
 use Rattle.plan_table.proofs.Order.{Contains-nil}
 use Rattle.conflict_ledger.specs.Kept.{GainsEntry, LosesEntry, GainsAll, LosesAll}
 use Rattle.mapf_rules.specs.declared.entries.Conflict.{Conflict}
@@ -12,17 +12,7 @@ pub loses_none : (old : List Conflict) → LosesAll old old []
 loses_none old entry = (λ h. (h, Contains-nil entry), λ h. h.0)
 
 pub gains_more : (old now new entries : List Conflict) (item : Conflict) → GainsAll old now entries → GainsEntry now new item → GainsAll old new (entries ++ item ∷ [])
-gains_more old now new entries item gains gain entry =
-    let more = push_iff entries item entry in (
-      λ h. elim ((gain entry).0 h) [
-        | inl held ↦ elim ((gains entry).0 held) [ inl before ↦ inl before | inr put ↦ inr (more.1 (inl put)) ]
-        | inr is ↦ inr (more.1 (inr is))
-      ],
-      λ h. elim h [
-        | inl before ↦ (gain entry).1 (inl ((gains entry).1 (inl before)))
-        | inr put ↦ elim (more.0 put) [ inl earlier ↦ (gain entry).1 (inl ((gains entry).1 (inr earlier))) | inr is ↦ (gain entry).1 (inr is) ]
-      ],
-    )
+gains_more old now new entries item gains gain entry = grind (arith, push_iff entries item entry, gains entry, gain entry)
 
 pub loses_more : (old now new entries : List Conflict) (item : Conflict) → LosesAll old now entries → LosesEntry now new item → LosesAll old new (entries ++ item ∷ [])
 loses_more old now new entries item loses lose entry =

@@ -1,4 +1,5 @@
 -- Where the entries of one kind stand in the order of all.
+use Rattle.std.proofs.lemmas.Bool.Decides.{nat_tests}
 use Rattle.std.proofs.Common.{◌≡◌, ◌≤◌, ◌<◌, ℕ, zero, suc, List, [], ◌∷◌, Bool, true, false, Contains, length, refl, IsTrue, sym, ap, ◌∙◌, subst, arith}
 use mathlib.Core.Logic.{◌↔◌}
 use mathlib.Core.Bool.{false≢true}
@@ -11,12 +12,11 @@ use Rattle.std.specs.declared.cmp.Ordering.{Ordering}
 use Rattle.std.specs.declared.cmp.Ordering.TheVariants.{Less, Equal, Greater}
 use Rattle.std.specs.declared.ops.Bound.TheVariants.{Included, Unbounded}
 use Rattle.std.proofs.lemmas.Cmp.{ranked}
-use Rattle.std.proofs.lemmas.Map.Lookups.{exact_unsigned}
 use Rattle.std.proofs.lemmas.Map.Views.{btree_set_contains_iff}
 use Rattle.mapf_rules.specs.ConflictList.{kind_of, listing_key}
 use Rattle.conflict_ledger.specs.Kept.{HasKind, IsLeastOf}
 use Rattle.mapf_rules.specs.declared.entries.Conflict.{Conflict}
-use Rattle.mapf_rules.specs.declared.entries.Conflict.TheVariants.{Vertex, Parked, Edge, Following, Swapping, Cycle}
+use Rattle.mapf_rules.specs.declared.entries.Conflict.TheVariants.{Cycle}
 use Rattle.mapf_rules.specs.declared.entries.Kind.{Kind}
 use Rattle.mapf_rules.specs.declared.entries.Kind.TheVariants as kinds
 use Rattle.mapf_rules.specs.contracts.entries.ConflictOrd.TheImpl as order
@@ -42,15 +42,6 @@ none_before_zeros (suc many) (n ∷ ns) long e =
     let not_less : nat_cmp n 0 ≡ Less → ⊥ = (λ lt. let below : n < 0 = subst (λ o. MatchOrdering o (n < 0) (n ≡ 0) (0 < n)) lt (ranked n 0 (nat_cmp n 0) refl) in omega arith) in
     none_before_zeros many ns (omega arith) (after_tie (nat_cmp n 0) (slice_cmp nat_cmp ns (zeros many)) not_less e)
 
--- the first number of what is not after a list is no greater
-first_le : (m n : ℕ) (o : Ordering) → is_gt (ordering_then (nat_cmp m n) o) ≡ false → m ≤ n
-first_le m n o e = go (nat_cmp m n) refl
-  where
-    go : (c : Ordering) → nat_cmp m n ≡ c → m ≤ n
-    go Less is = let below : m < n = subst (λ o. MatchOrdering o (m < n) (m ≡ n) (n < m)) is (ranked m n (nat_cmp m n) refl) in omega arith
-    go Equal is = let same : m ≡ n = exact_unsigned _ _ is in omega arith
-    go Greater is = let wrong : true ≡ false = subst (λ c. is_gt (ordering_then c o) ≡ false) is e in absurd (cc)
-
 -- ---- kinds in the order in which they are listed
 abbrev kind_rank : Kind → ℕ
 kind_rank kinds.Vertex = 0
@@ -69,21 +60,8 @@ one_rank kinds.Swapping kinds.Swapping e = refl
 one_rank kinds.Cycle kinds.Cycle e = refl
 one_rank a b e = absurd (omega arith)
 
--- a key begins with the rank of its kind
-ranked_key : (entry : Conflict) → (later : List ℕ) × (listing_key entry ≡ kind_rank (kind_of entry) ∷ later)
-ranked_key (Vertex t f s c) = (_, refl)
-ranked_key (Parked t f s c) = (_, refl)
-ranked_key (Edge t f s c n) = (_, refl)
-ranked_key (Following t f s c) = (_, refl)
-ranked_key (Swapping t f s c n) = (_, refl)
-ranked_key (Cycle t r) = (_, refl)
-
 kinds_rise : (a b : Conflict) → IsLeBy order.ghosts.cmp a b → kind_rank (kind_of a) ≤ kind_rank (kind_of b)
-kinds_rise a b le =
-    let one = ranked_key a in
-    let other = ranked_key b in
-    let keys : is_gt (slice_cmp nat_cmp (kind_rank (kind_of a) ∷ one.0) (kind_rank (kind_of b) ∷ other.0)) ≡ false = subst (λ (k : List ℕ). is_gt (slice_cmp nat_cmp k (kind_rank (kind_of b) ∷ other.0)) ≡ false) one.1 (subst (λ (k : List ℕ). is_gt (slice_cmp nat_cmp (listing_key a) k) ≡ false) other.1 (sym (ap is_gt (conflict_cmp-is a b)) ∙ le)) in
-    first_le (kind_rank (kind_of a)) (kind_rank (kind_of b)) (slice_cmp nat_cmp one.0 other.0) keys
+kinds_rise a b le = grind (arith, nat_tests)
 
 -- no ring at a time is before the empty one at time 0
 pub least_cycle : (kind : Kind) (time : ℕ) (ring : List ℕ) → kind ≡ kinds.Cycle → time ≡ 0 → ring ≡ [] → IsLeastOf kind (Cycle time ring)

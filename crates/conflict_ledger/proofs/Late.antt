@@ -1,26 +1,23 @@
 -- Where the entries of one agent are found in an index.
-use Rattle.std.proofs.Common.{◌≡◌, ◌≢◌, ◌⊎◌, inl, inr, ℕ, ◌+◌, ◌<◌, ◌≤◌, List, Some, None, Option, refl, sym, ap, subst, ◌∙◌, arith}
-use mathlib.Core.Bool.{false≢true}
-use Rattle.std.specs.Prelude.{IsSome, min, max}
-use Rattle.std.proofs.lemmas.Bool.{cases_lt}
+use Rattle.std.proofs.lemmas.Bool.Decides.{nat_tests}
+use Rattle.std.proofs.Common.{◌≡◌, ◌≢◌, ◌⊎◌, inl, inr, ℕ, ◌+◌, ◌<◌, ◌≤◌, List, Some, None, Option, refl, sym, subst, ◌∙◌, arith}
+use Rattle.std.specs.Prelude.{min, max}
 use Rattle.std.proofs.lemmas.Option.{same_Some}
 use Rattle.grid_cells.specs.Cell.{Point}
-use Rattle.plan_table.specs.Route.{Route, Fleet, position_of, last_of, leaves_of, Leaves}
-use Rattle.plan_table.proofs.Fleets.{changes_early, leaver_early, position_rests, position_sooner, true_or_not}
+use Rattle.plan_table.specs.Route.{Route, Fleet, position_of, last_of, Leaves}
+use Rattle.plan_table.proofs.Fleets.{changes_early}
 use Rattle.where_index.specs.Index.{Contents}
 use Rattle.where_index.specs.Asked.{Passes}
 use Rattle.where_index.specs.declared.passings.Passing.{Passing}
 use Rattle.mapf_rules.specs.Entries.{both_end_by, IsVertex, IsParked, IsFollowing}
 use Rattle.mapf_rules.specs.ConflictList.{Stands}
 use Rattle.mapf_rules.specs.Naming.{IsPair, Names, time_of}
-use Rattle.std.specs.Option.{unwrap_or}
 use Rattle.conflict_ledger.specs.Sight.{Shows}
 use Rattle.conflict_ledger.specs.Gathering.{IsPassed, HasPlace, HasTime, IsLateOf}
 use Rattle.conflict_ledger.specs.declared.places.Place.TheVariants.{Ahead}
-use Rattle.conflict_ledger.proofs.Change.{near_of, there, ends}
-use Rattle.conflict_ledger.proofs.Meetings.{ordered, still_ahead}
+use Rattle.conflict_ledger.proofs.Change.{there}
 use Rattle.mapf_rules.specs.declared.entries.Conflict.{Conflict}
-use Rattle.mapf_rules.specs.declared.entries.Conflict.TheVariants.{Vertex, Parked, Edge, Following, Swapping, Cycle}
+use Rattle.mapf_rules.specs.declared.entries.Conflict.TheVariants.{Vertex, Parked, Following}
 
 module _ (index : Contents) (agent : ℕ) (route : Option Route) (fleet : Fleet) (shows : Shows index agent route fleet) where
   pub base_there : (a time : ℕ) (cell : Point) → a ≢ agent → position_of fleet a time ≡ Some cell → position_of shows.base a time ≡ Some cell
@@ -29,81 +26,35 @@ module _ (index : Contents) (agent : ℕ) (route : Option Route) (fleet : Fleet)
   pub fleet_there : (a time : ℕ) (cell : Point) → a ≢ agent → position_of shows.base a time ≡ Some cell → position_of fleet a time ≡ Some cell
   fleet_there a time cell apart at = sym (there shows.base fleet agent shows.others a time apart) ∙ at
 
-  -- an agent that is nowhere has no entries then
-  pub nowhere_has : (time : ℕ) (entries : List Conflict) → position_of fleet agent time ≡ None → HasTime fleet agent time entries
-  nowhere_has time entries none entry is at =
-      let near = near_of fleet agent entry is.pair is.names is.stands in
-      let none_then : position_of fleet agent (time_of entry) ≡ None = rw at none in
-      elim near.3.1 [
-        | inl w ↦ absurd (gone (time_of entry) near.3.0 none_then w.0)
-        | inr more ↦ elim more [
-          | inl w ↦ let sooner : IsSome (position_of fleet agent (time_of entry)) = position_sooner fleet agent (time_of entry) (rw w.0 refl) in absurd (false≢true (subst IsSome none_then sooner))
-          | inr w ↦ absurd (gone (time_of entry) near.3.0 none_then w.0)
-        ]
-      ]
-    where
-      gone : (t : ℕ) (cell : Point) → position_of fleet agent t ≡ None → position_of fleet agent t ≡ Some cell → ⊥
-      gone t cell none there = let wrong : None ≡ Some cell = sym none ∙ there in cc
-
   module _ (last : ℕ) (is_last : last ≡ last_of fleet agent) where
     -- after its last index the agent is where it is one step later, if anywhere
     pub rests_there : (time : ℕ) (cell : Point) → last < time → position_of fleet agent time ≡ Some cell → position_of fleet agent (last + 1) ≡ Some cell
-    rests_there time cell late at =
-        elim (true_or_not (leaves_of fleet agent)) [
-          | inl leaves ↦ let early = leaver_early fleet agent time cell leaves at in absurd (omega arith)
-          | inr stays ↦ sym (position_rests fleet agent (last + 1) time stays (omega arith) (omega arith)) ∙ at
-        ]
+    rests_there time cell late at = grind (arith, nat_tests)
 
     still : (time : ℕ) → last < time → position_of fleet agent time ≢ position_of fleet agent (time + 1) → ⊥
     still time late changes = let early = changes_early fleet agent time changes in omega arith
 
     -- an agent that comes to a cell in a step has not passed its last index after it
     pub comes_early : (other time : ℕ) (cell : Point) → position_of fleet other time ≢ Some cell → position_of fleet other (time + 1) ≡ Some cell → time + 1 ≤ last_of fleet other
-    comes_early other time cell before after =
-        elim (cases_lt (last_of fleet other) (time + 1)) [
-          | inr early ↦ omega arith
-          | inl late ↦ elim (true_or_not (leaves_of fleet other)) [
-            | inl leaves ↦ leaver_early fleet other (time + 1) cell leaves after
-            | inr stays ↦ absurd (before (sym (position_rests fleet other time (time + 1) stays (omega arith) (omega arith)) ∙ after))
-          ]
-        ]
+    comes_early other time cell before after = grind (arith, nat_tests)
 
     module _ (rest : Point) (rests : position_of fleet agent (last + 1) ≡ Some rest) where
       same_rest : (time : ℕ) (cell : Point) → last < time → position_of fleet agent time ≡ Some cell → cell ≡ rest
       same_rest time cell late at = same_Some cell rest (sym (rests_there time cell late at) ∙ rests)
 
-      -- it is there from its last index on
-      pub rests_on : (time : ℕ) → last ≤ time → position_of fleet agent time ≡ Some rest
-      rests_on time late = elim (true_or_not (leaves_of fleet agent)) [
-        | inl leaves ↦ let early = leaver_early fleet agent (last + 1) rest leaves rests in absurd (omega (arith, is_last))
-        | inr stays ↦ position_rests fleet agent last time stays (omega (arith, is_last)) late ∙ (sym (position_rests fleet agent last (last + 1) stays (omega (arith, is_last)) (omega arith)) ∙ rests)
-      ]
-
       -- and another one passes it
       pub passed : (passing : Passing) → passing.agent ≢ agent → Passes shows.base rest (last + 1) passing → IsPassed fleet passing.time agent passing.agent rest
-      passed passing apart passes = record {
-        apart = apart;
-        there = fleet_there passing.agent passing.time rest apart passes.there;
-        rests = λ t late. rests_on t (omega (arith, passes.not_before, late));
-      }
+      passed passing apart passes = grind (arith, nat_tests)
 
       abbrev LatePlace : Conflict → Type 0
       LatePlace entry = (passing : Passing) × IsLateOf entry passing.time agent passing.agent rest × (passing.agent ≢ agent) × Passes shows.base rest (last + 1) passing
 
       passes : (other time : ℕ) (cell : Point) → other ≢ agent → cell ≡ rest → last < time → time ≤ last_of fleet other → position_of fleet other time ≡ Some cell → Passes shows.base rest (last + 1) (record { time = time; agent = other })
-      passes other time cell apart same late early at =
-          let end : last_of shows.base other ≡ last_of fleet other = ends shows.base fleet agent shows.others other apart in
-          record { not_before = omega arith; not_after = omega arith; there = base_there other time rest apart (at ∙ ap Some same) }
+      passes other time cell apart same late early at = grind (arith, nat_tests)
 
       -- of two agents that meet, of whom one is at rest, the other has not passed its last index
       meets_early : (other time : ℕ) (cell : Point) → last < time → position_of fleet agent time ≡ Some cell → position_of fleet other time ≡ Some cell → (time < both_end_by fleet agent other) ⊎ (Leaves fleet agent ⊎ Leaves fleet other) → time ≤ last_of fleet other
-      meets_early other time cell late here there_too how = elim how [
-        | inl moving ↦ omega (arith, is_last)
-        | inr leaves ↦ elim leaves [
-          | inl own ↦ let early = leaver_early fleet agent time cell own here in absurd (omega (arith, is_last))
-          | inr its ↦ leaver_early fleet other time cell its there_too
-        ]
-      ]
+      meets_early other time cell late here there_too how = grind (arith, nat_tests)
 
       pub late_place : (entry : Conflict) → IsPair entry → Names entry agent → Stands fleet entry → last < time_of entry → LatePlace entry
       late_place (Vertex x p q c) pair names h late = elim names [
@@ -134,10 +85,6 @@ module _ (index : Contents) (agent : ℕ) (route : Option Route) (fleet : Fleet)
             let end : x ≡ both_end_by fleet p agent = subst (λ (a : ℕ). x ≡ both_end_by fleet p a) e h.rests in
             (record { time = x; agent = p }, (refl, same_rest x c late here, inr (refl, e)), apart, passes p x c apart (same_rest x c late here) late (omega (arith, is_last, late)) h.first_there)
       ]
-      late_place (Edge x p q c n) pair names h late = elim names [
-        | inl e ↦ absurd (still x late (λ same. h.moves (same_Some c n (sym (subst (λ (a : ℕ). position_of fleet a x ≡ Some c) e h.first_from) ∙ same ∙ subst (λ (a : ℕ). position_of fleet a (x + 1) ≡ Some n) e h.first_to))))
-        | inr e ↦ absurd (still x late (λ same. h.moves (same_Some c n (sym (subst (λ (a : ℕ). position_of fleet a x ≡ Some c) e h.second_from) ∙ same ∙ subst (λ (a : ℕ). position_of fleet a (x + 1) ≡ Some n) e h.second_to))))
-      ]
       late_place (Following x f l c) pair names h late = elim names [
         | inl e ↦ absurd (still x late (λ same. h.moves (subst (λ (a : ℕ). position_of fleet a x ≡ Some c) (sym e) (same ∙ subst (λ (a : ℕ). position_of fleet a (x + 1) ≡ Some c) e h.follower_to))))
         | inr e ↦
@@ -146,35 +93,20 @@ module _ (index : Contents) (agent : ℕ) (route : Option Route) (fleet : Fleet)
             let early = comes_early f x c h.moves h.follower_to in
             (record { time = x + 1; agent = f }, (refl, same_rest x c late here, refl, e), apart, passes f (x + 1) c apart (same_rest x c late here) (omega arith) early h.follower_to)
       ]
-      late_place (Swapping x p q c n) pair names h late = elim names [
-        | inl e ↦ absurd (still x late (λ same. h.moves (same_Some c n (sym (subst (λ (a : ℕ). position_of fleet a x ≡ Some c) e h.first_from) ∙ same ∙ subst (λ (a : ℕ). position_of fleet a (x + 1) ≡ Some n) e h.first_to))))
-        | inr e ↦ absurd (still x late (λ same. h.moves (sym (same_Some n c (sym (subst (λ (a : ℕ). position_of fleet a x ≡ Some n) e h.second_from) ∙ same ∙ subst (λ (a : ℕ). position_of fleet a (x + 1) ≡ Some c) e h.second_to)))))
-      ]
-      late_place (Cycle x r) pair names h late = absurd pair
+      late_place entry pair names h late = absurd (grind (arith, nat_tests))
 
     -- an agent stays where it is at its last index, and meets nobody ahead
     pub ahead_none : (entries : List Conflict) → HasPlace fleet agent last Ahead entries
-    ahead_none entries other cell apart to there entry is at two _ met =
-        absurd (still_ahead fleet agent other last cell cell (record { now = rests_on cell to last (omega arith); later = ap (λ (o : Option Point). unwrap_or o cell) to }) refl entry is at met)
+    ahead_none entries other cell apart to there entry is at two _ met = grind (arith, nat_tests)
 
     -- an agent that is nowhere after its last index has no entries then
     pub late_none : position_of fleet agent (last + 1) ≡ None → (time : ℕ) (entries : List Conflict) → last < time → HasTime fleet agent time entries
-    late_none none time entries late = nowhere_has time entries (by_place (position_of fleet agent time) refl)
-      where
-        by_place : (o : Option Point) → position_of fleet agent time ≡ o → position_of fleet agent time ≡ None
-        by_place None e = e
-        by_place (Some cell) e = let wrong : None ≡ Some cell = sym none ∙ rests_there time cell late e in absurd (cc)
+    late_none none time entries late = grind (arith, nat_tests)
 
 -- what is offered of an agent at rest and one that passes are all such entries
 pub one_of_late : (fleet : Fleet) (time agent other first second : ℕ) (rest : Point) (m f : Option Conflict) → first ≡ min agent other → second ≡ max agent other
     → (IsVertex fleet time first second rest → m ≡ Some (Vertex time first second rest)) → (IsParked fleet time first second rest → m ≡ Some (Parked time first second rest))
     → ((x : ℕ) → x + 1 ≡ time → IsFollowing fleet x other agent rest → f ≡ Some (Following x other agent rest))
     → (entry : Conflict) → Stands fleet entry → IsLateOf entry time agent other rest → (m ≡ Some entry) ⊎ (f ≡ Some entry)
-one_of_late fleet time agent other first second rest m f least most vs ps fs (Vertex x a b c) h (is_time, is_cell, who) =
-    let same = ordered agent other a b first second least most h.ordered who in
-    inl (vs (rw (← is_time, ← is_cell, ← same.0, ← same.1) h) ∙ rw (is_time, is_cell, same.0, same.1) refl)
-one_of_late fleet time agent other first second rest m f least most vs ps fs (Parked x a b c) h (is_time, is_cell, who) =
-    let same = ordered agent other a b first second least most h.ordered who in
-    inl (ps (rw (← is_time, ← is_cell, ← same.0, ← same.1) h) ∙ rw (is_time, is_cell, same.0, same.1) refl)
 one_of_late fleet time agent other first second rest m f least most vs ps fs (Following x a b c) h (is_time, is_cell, is_f, is_l) = inr (fs x is_time (rw (← is_cell, ← is_f, ← is_l) h) ∙ rw (is_cell, is_f, is_l) refl)
-one_of_late fleet time agent other first second rest m f least most vs ps fs entry h late = absurd late
+one_of_late fleet time agent other first second rest m f least most vs ps fs entry h late = grind (arith, nat_tests)

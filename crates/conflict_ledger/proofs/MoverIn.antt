@@ -1,14 +1,13 @@
 -- Who moves out of a cell, by an index and beside one agent's track.
+use Rattle.std.proofs.lemmas.Bool.Decides.{nat_tests}
 use Rattle.std.proofs.Common.{◌≡◌, ◌≢◌, inl, inr, ℕ, zero, suc, Bool, true, false, ◌+◌, ◌<◌, ◌≤◌, List, length, Some, None, Option, Contains, refl, sym, ap, subst, ◌∙◌, arith}
-use mathlib.Core.Bool.{false≢true}
 use mathlib.Core.Logic.{◌↔◌}
 use Rattle.std.specs.Prelude.{IsSome, IfSome, ◌==◌}
 use Rattle.std.specs.Option.{option_and_then}
-use Rattle.std.proofs.lemmas.Bool.{eqb-true, cases_lt}
+use Rattle.std.proofs.lemmas.Bool.{eqb-true}
 use Rattle.std.proofs.lemmas.Option.{same_Some}
 use Rattle.grid_cells.specs.Cell.{Point}
-use Rattle.plan_table.specs.Route.{Route, Fleet, position, position_of, last_of, leaves_of}
-use Rattle.plan_table.proofs.Fleets.{leaver_early, position_rests, true_or_not}
+use Rattle.plan_table.specs.Route.{Route, Fleet, position, position_of, last_of}
 use Rattle.where_index.specs.Index.{Contents}
 use Rattle.where_index.specs.Asked.{AreMovers}
 use Rattle.where_index.specs.declared.moves.Move.{Move}
@@ -30,14 +29,8 @@ out_of fleet time cell agent to is = record { from = is.from; goes_on = rw is.ar
 into : (fleet : Fleet) (time : ℕ) (cell : Point) (agent : ℕ) (to : Point) → MovesFromTo fleet time cell agent to → MovesTo fleet time agent to
 into fleet time cell agent to is = record { to = is.arrives; moves = λ same. is.moves (same_Some to cell (sym same ∙ is.from)) }
 
-given : (o : Option Point) → IsSome o → (to : Point) × (o ≡ Some to)
-given None h = absurd (false≢true h)
-given (Some to) h = (to, refl)
-
 goal_of : (fleet : Fleet) (time : ℕ) (cell : Point) (agent : ℕ) → MovesOut fleet time agent cell → (to : Point) × MovesFromTo fleet time cell agent to
-goal_of fleet time cell agent out =
-    let end = given (position_of fleet agent (time + 1)) out.goes_on in
-    (end.0, record { from = out.from; arrives = end.1; moves = λ same. out.moves (end.1 ∙ ap Some same) })
+goal_of fleet time cell agent out = grind (arith, nat_tests)
 
 module _ (I : ℕ → Point → Type 0) (fleet : Fleet) (time : ℕ) (cell : Point) (same : (a : ℕ) (to : Point) → I a to ↔ MovesFromTo fleet time cell a to) where
   pub tells_sole : (r : Option (ℕ × Point)) → IfSome r (λ m. I m.0 m.1) → IfSome r (λ m. (a : ℕ) (to : Point) → I a to → a ≡ m.0) → IfSome r (λ m. IsSoleMover fleet time cell m.0)
@@ -58,10 +51,7 @@ module _ (I : ℕ → Point → Type 0) (fleet : Fleet) (time : ℕ) (cell : Poi
 
 -- the moves that an index has are those of its fleet
 moves_in : (fleet : Fleet) (time : ℕ) (cell : Point) (moves : List Move) → AreMovers fleet time cell moves → (a : ℕ) (to : Point) → Contains moves (record { agent = a; to = to }) ↔ MovesFromTo fleet time cell a to
-moves_in fleet time cell moves are a to = (
-  λ h. let is = (are.exact (record { agent = a; to = to })).0 h in record { from = is.starts; arrives = is.arrives; moves = λ same. is.moves (sym same) },
-  λ is. (are.exact (record { agent = a; to = to })).1 (record { starts = is.from; arrives = is.arrives; moves = λ same. is.moves (sym same) }),
-)
+moves_in fleet time cell moves are a to = grind (arith, are.exact (record { agent = a; to = to }))
 
 pub in_sight : (index : Contents) (agent : ℕ) (route : Option Route) (fleet : Fleet) (time : ℕ) (cell : Point) (moves : List Move) (own : Option Point) (shows : Shows index agent route fleet) → AreMovers shows.base time cell moves
     → ((to : Point) → (own ≡ Some to) ↔ ((own_place route time ≡ Some cell) × (own_place route (time + 1) ≡ Some to) × (to ≢ cell)))
@@ -114,12 +104,4 @@ some_if (suc n) b e f = omega arith
 
 -- an agent that moves in a step does so before its last index
 pub early_mover : (fleet : Fleet) (time m : ℕ) (cell : Point) → MovesOut fleet time m cell → time + 1 ≤ last_of fleet m
-early_mover fleet time m cell out =
-    let end = goal_of fleet time cell m out in
-    elim (cases_lt (last_of fleet m) (time + 1)) [
-      | inr early ↦ omega arith
-      | inl late ↦ elim (true_or_not (leaves_of fleet m)) [
-        | inl leaves ↦ leaver_early fleet m (time + 1) end.0 leaves end.1.arrives
-        | inr stays ↦ absurd (out.moves (position_rests fleet m time (time + 1) stays (omega arith) (omega arith) ∙ out.from))
-      ]
-    ]
+early_mover fleet time m cell out = grind (arith, nat_tests)

@@ -1,8 +1,9 @@
 -- Whom an index shows in a cell, and in which place the agent meets them.
-use Rattle.std.proofs.Common.{◌≡◌, ◌≢◌, inl, inr, ℕ, ◌+◌, ◌<◌, ◌≤◌, ◌⊎◌, Bool, true, false, List, Contains, Some, Option, refl, subst, arith}
+use Rattle.std.proofs.lemmas.Bool.Decides.{nat_tests}
+use Rattle.std.proofs.Common.{◌≡◌, ◌≢◌, inl, inr, ℕ, ◌+◌, ◌<◌, ◌≤◌, Bool, true, false, List, Contains, Some, Option, refl, subst, arith}
 use Rattle.std.specs.Prelude.{IsTrue}
 use Rattle.grid_cells.specs.Cell.{Point}
-use Rattle.plan_table.specs.Route.{Route, Fleet, position_of, last_of, Leaves}
+use Rattle.plan_table.specs.Route.{Route, Fleet, position_of}
 use Rattle.where_index.specs.Index.{Contents}
 use Rattle.where_index.specs.Spots.{spot}
 use Rattle.where_index.specs.Asked.{StandsIn, RestsIn, IsOccupant}
@@ -14,7 +15,6 @@ use Rattle.conflict_ledger.specs.Gathering.{AreShowing, IsShown, HasMet, HasSeen
 use Rattle.conflict_ledger.specs.declared.places.Place.{Place}
 use Rattle.conflict_ledger.specs.declared.places.Place.TheVariants.{Beside, Ahead, Behind}
 use Rattle.conflict_ledger.specs.declared.places.Stop.{Stop}
-use Rattle.conflict_ledger.proofs.Change.{ends, leaving}
 use Rattle.conflict_ledger.proofs.Late.{base_there, fleet_there}
 
 -- one that is in the cell as the step begins, or as it ends, is beside one there, or behind
@@ -46,16 +46,7 @@ too_late fleet agent stop lasting s entries order late place of shown = absurd (
 
 module _ (index : Contents) (agent : ℕ) (route : Option Route) (fleet : Fleet) (shows : Shows index agent route fleet) where
   pub stands_show : (cell : Point) (from : ℕ) (stands : List Spot) → ((s : Spot) → Contains stands s → StandsIn shows.base cell from s) → AreShowing fleet agent cell false stands
-  stands_show cell from stands all s h apart time is =
-      let in_cell = all s h in
-      let moves_or_leaves : (s.time < last_of fleet s.step.agent) ⊎ Leaves fleet s.step.agent =
-      rw (← ends shows.base fleet agent shows.others s.step.agent apart, ← leaving shows.base fleet agent shows.others s.step.agent apart) in_cell.passes in
-      record {
-        there = fleet_there index agent route fleet shows s.step.agent time cell apart (subst (λ (t : ℕ). position_of shows.base s.step.agent t ≡ Some cell) is in_cell.there);
-        stays = λ e. absurd (cc);
-        passes = λ _. subst (λ (t : ℕ). (t < last_of fleet s.step.agent) ⊎ Leaves fleet s.step.agent) is moves_or_leaves;
-        goes = λ _ moves. fleet_there index agent route fleet shows s.step.agent (time + 1) s.step.to apart (subst (λ (t : ℕ). position_of shows.base s.step.agent (t + 1) ≡ Some s.step.to) is (in_cell.goes moves));
-      }
+  stands_show cell from stands all s h apart time is = grind (arith, nat_tests)
 
   pub tails_show : (cell : Point) (tails : List Spot) → ((s : Spot) → Contains tails s → RestsIn shows.base cell s) → AreShowing fleet agent cell true tails
   tails_show cell tails all s h apart time is =

@@ -1,15 +1,14 @@
 -- A ring comes back: where a member moves one way, a member moves the opposite way.
-use Rattle.std.proofs.Common.{◌≡◌, ◌⊎◌, inl, inr, ℕ, zero, suc, ◌+◌, ◌-◌, ◌<◌, ◌%◌, Bool, true, false, List, length, Option, Some, Contains, refl, sym, ap, subst, ◌∙◌, arith}
+use Rattle.std.proofs.Common.{◌≡◌, ◌⊎◌, inl, inr, ℕ, zero, suc, ◌+◌, ◌<◌, ◌%◌, Bool, true, false, List, length, Option, Some, Contains, refl, sym, ap, ◌∙◌, arith}
 use mathlib.Core.Bool.{false≢true}
 use Rattle.std.specs.Prelude.{slice_index}
-use Rattle.std.specs.Option.{unwrap_or, option_and_then}
-use Rattle.std.proofs.lemmas.Bool.{cases_lt}
+use Rattle.std.specs.Option.{unwrap_or}
 use Rattle.std.proofs.lemmas.Bool.Decides.{nat_tests}
 use Rattle.std.proofs.lemmas.Option.{same_Some}
 use Rattle.std.proofs.lemmas.List.{get_or_default}
 use Rattle.std.proofs.lemmas.List.Elements.{Contains-get_or}
 use Rattle.grid_cells.specs.Cell.{Point, point}
-use Rattle.plan_table.specs.Route.{Route, Fleet, position, position_of}
+use Rattle.plan_table.specs.Route.{Route, Fleet, position_of}
 use Rattle.where_index.specs.declared.ways.Way.{Way}
 use Rattle.where_index.specs.declared.ways.Way.TheVariants.{Up, Left, Right, Down}
 use Rattle.where_index.specs.Flows.{leads, opposite}
@@ -18,33 +17,14 @@ use Rattle.where_index.specs.Index.{Contents}
 use Rattle.mapf_rules.specs.Cycles.{IsRing, IsRingAt}
 use Rattle.mapf_rules.specs.RingWalk.{IsSoleMover}
 use Rattle.conflict_ledger.specs.Sight.{Shows, own_place}
-use Rattle.conflict_ledger.proofs.Change.{there}
-use Rattle.mapf_rules.proofs.RoundTrips.{after_inside, after_end, one_to}
+use Rattle.mapf_rules.proofs.RoundTrips.{after_within, all_round, one_to}
 use Rattle.mapf_rules.proofs.Walks.{same_or_not}
 
 -- ---- round a ring, what holds of each step holds of the steps back
-module _ (R : ℕ → ℕ → Type 0) (n : ℕ) (itself : (k : ℕ) → R k k) (joined : (i j k : ℕ) → R i j → R j k → R i k) (step : (k : ℕ) → k < n → R k ((k + 1) % n)) where
-  steps : (j k : ℕ) → k + j < n → R k (k + j)
-  steps zero k h = subst (λ (m : ℕ). R k m) {x = k} (omega arith) (itself k)
-  steps (suc j) k h =
-      let next : (k + j + 1) % n ≡ k + suc j = after_inside (k + j) n (omega arith) ∙ omega arith in
-      joined k (k + j) (k + suc j) (steps j k (omega arith)) (subst (λ (m : ℕ). R (k + j) m) next (step (k + j) (omega arith)))
-
-  last_step : (k : ℕ) → k + 1 ≡ n → R k 0
-  last_step k end = subst (λ (m : ℕ). R k m) (after_end k n end) (step k (omega arith))
-
-  from_first : (k : ℕ) → k < n → R 0 k
-  from_first k h = subst (λ (m : ℕ). R 0 m) {x = 0 + k} (omega arith) (steps k 0 (omega arith))
-
-  pub steps_back : (k : ℕ) → k < n → R ((k + 1) % n) k
-  steps_back k h = elim (cases_lt (k + 1) n) [
-    | inl inside ↦
-        let end : k + 1 + (n - 1 - (k + 1)) ≡ n - 1 = omega arith in
-        let on : R (k + 1) (n - 1) = subst (λ (m : ℕ). R (k + 1) m) end (steps (n - 1 - (k + 1)) (k + 1) (omega arith)) in
-        let round : R (k + 1) 0 = joined (k + 1) (n - 1) 0 on (last_step (n - 1) (omega arith)) in
-        subst (λ (m : ℕ). R m k) (sym (after_inside k n inside)) (joined (k + 1) 0 k round (from_first k h))
-    | inr outside ↦ subst (λ (m : ℕ). R m k) {x = 0} (sym (after_end k n (omega arith))) (from_first k h)
-  ]
+steps_back : (R : ℕ → ℕ → Type 0) (n : ℕ) → ((k : ℕ) → R k k) → ((i j k : ℕ) → R i j → R j k → R i k) → ((k : ℕ) → k < n → R k ((k + 1) % n))
+    → (k : ℕ) → k < n → R ((k + 1) % n) k
+steps_back R n itself joined step k h =
+    all_round n (R ((k + 1) % n)) (λ m lt on. joined _ m _ on (step m lt)) ((k + 1) % n) k (after_within k n h) h (itself ((k + 1) % n))
 
 -- ---- ways
 stays : (way : Way) (p : Point) → leads way p p ≡ false
@@ -75,10 +55,7 @@ nowhere_or p zero = inl (λ k h. absurd (omega arith))
 nowhere_or p (suc n) = elim (true_or_not (p n)) [
   | inl on ↦ inr (n, omega arith, on)
   | inr off ↦ elim (nowhere_or p n) [
-    | inl before ↦ inl (λ k h. elim (same_or_not k n) [
-      | inl is ↦ ap p is ∙ off
-      | inr apart ↦ before k (omega (arith, h, apart))
-    ])
+    | inl before ↦ inl (λ k h. grind (arith, before k, off, same_or_not k n))
     | inr found ↦ inr (found.0, omega (arith, found.1), found.2)
   ]
 ]
@@ -132,23 +109,8 @@ module _ (fleet : Fleet) (time : ℕ) (ring : List ℕ) (is : IsRing fleet time 
 -- who moves in the fleet moves in the index, or on the agent's own track
 pub goes_shown : (index : Contents) (agent : ℕ) (route : Option Route) (fleet : Fleet) (shows : Shows index agent route fleet) (time : ℕ) (way : Way) → Goes fleet time way
     → Goes shows.base time way ⊎ ((from : Point) × (to : Point) × (own_place route time ≡ Some from) × (own_place route (time + 1) ≡ Some to) × (leads way from to ≡ true))
-goes_shown index agent route fleet shows time way g = elim (same_or_not g.agent agent) [
-  | inl is ↦ inr (g.from, g.to, sym (place time) ∙ (ap (λ b. position_of fleet b time) (sym is) ∙ g.starts), sym (place (time + 1)) ∙ (ap (λ b. position_of fleet b (time + 1)) (sym is) ∙ g.arrives), g.turns)
-  | inr apart ↦ inl (record {
-    agent = g.agent;
-    from = g.from;
-    to = g.to;
-    starts = there shows.base fleet agent shows.others g.agent time apart ∙ g.starts;
-    arrives = there shows.base fleet agent shows.others g.agent (time + 1) apart ∙ g.arrives;
-    turns = g.turns;
-  })
-] where
-  place : (t : ℕ) → position_of fleet agent t ≡ own_place route t
-  place t = ap (λ (o : Option Route). option_and_then (λ r. position r t) o) shows.own
+goes_shown index agent route fleet shows time way g = grind (arith, nat_tests)
 
 -- the member of a ring is the one agent that moves out of its cell
 pub sole_in_ring : (fleet : Fleet) (time : ℕ) (cell : Point) (ring : List ℕ) (round : IsRingAt fleet time cell ring) → IsSoleMover fleet time cell round.member
-sole_in_ring fleet time cell ring round = record {
-  moves = round.out;
-  only = λ other out. round.round.alone round.member other cell round.of round.out.from out;
-}
+sole_in_ring fleet time cell ring round = grind (arith, nat_tests)

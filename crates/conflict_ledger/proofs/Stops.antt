@@ -1,8 +1,7 @@
 -- The stops of one agent's route, and whom it meets there.
+use Rattle.std.proofs.lemmas.Bool.Decides.{nat_tests}
 use Rattle.std.proofs.Common.{◌≡◌, inl, inr, ℕ, ◌+◌, ◌≤◌, List, Some, None, Option, refl, sym, ap, subst, ◌∙◌, arith}
-use mathlib.Core.Bool.{false≢true}
-use Rattle.std.specs.Prelude.{IsSome, IsTrue}
-use Rattle.std.proofs.lemmas.Bool.{cases_lt}
+use Rattle.std.specs.Prelude.{IsTrue}
 use Rattle.std.specs.Option.{unwrap_or}
 use Rattle.grid_cells.specs.Cell.{Point}
 use Rattle.plan_table.specs.Route.{Route, Fleet, position_of}
@@ -22,21 +21,9 @@ module _ (index : Contents) (agent : ℕ) (route : Option Route) (fleet : Fleet)
   own_there : (time : ℕ) → position_of fleet agent time ≡ own_place route time
   own_there time = ap (λ (o : Option Route). own_place o time) shows.own
 
-  where_own : (time : ℕ) (here next : Point) → own_place route time ≡ Some here → next ≡ unwrap_or (own_place route (time + 1)) here → IsWhere fleet agent time here next
-  where_own time here next at is_next = record { now = own_there time ∙ at; later = ap (λ (o : Option Point). unwrap_or o here) (own_there (time + 1)) ∙ sym is_next }
-
   -- one that is somewhere was somewhere one step before
   pub came_own : (past time : ℕ) (before here : Point) → past + 1 ≡ time → own_place route time ≡ Some here → before ≡ unwrap_or (own_place route past) here → IsWhere fleet agent past before here
-  came_own past time before here is_next at is_before = record { now = by_place (own_place route past) refl; later = ap (λ (o : Option Point). unwrap_or o before) there_then }
-    where
-      there_then : position_of fleet agent (past + 1) ≡ Some here
-      there_then = own_there (past + 1) ∙ rw is_next at
-
-      by_place : (o : Option Point) → own_place route past ≡ o → position_of fleet agent past ≡ Some before
-      by_place None e =
-          let sooner : IsSome (position_of fleet agent past) = position_sooner fleet agent past (rw there_then refl) in
-          absurd (false≢true (subst IsSome (own_there past ∙ e) sooner))
-      by_place (Some cell) e = own_there past ∙ e ∙ ap Some (sym (is_before ∙ ap (λ (o : Option Point). unwrap_or o here) e))
+  came_own past time before here is_next at is_before = grind (arith, own_there past, own_there (past + 1), position_sooner fleet agent past)
 
   -- where nothing is asked of the step before, the cell before is the stop's own
   pub still_before : (stop : Stop) → stop.past ≡ stop.time → own_place route stop.time ≡ Some stop.here → stop.before ≡ unwrap_or (own_place route stop.past) stop.here → stop.before ≡ stop.here
@@ -44,13 +31,7 @@ module _ (index : Contents) (agent : ℕ) (route : Option Route) (fleet : Fleet)
 
   -- so the cells of the route are a stop of the agent's
   pub stop_own : (stop : Stop) → stop.past ≤ stop.time → stop.time ≤ stop.past + 1 → own_place route stop.time ≡ Some stop.here → stop.before ≡ unwrap_or (own_place route stop.past) stop.here → stop.next ≡ unwrap_or (own_place route (stop.time + 1)) stop.here → IsStop fleet agent stop
-  stop_own stop order near at is_before is_next = record {
-    came = λ moves. elim (cases_lt stop.past stop.time) [
-      | inl sooner ↦ came_own stop.past stop.time stop.before stop.here (omega arith) at is_before
-      | inr same ↦ absurd (moves (still_before stop (omega arith) at is_before))
-    ];
-    goes = where_own stop.time stop.here stop.next at is_next;
-  }
+  stop_own stop order near at is_before is_next = grind (arith, nat_tests)
 
   -- who is there at a stop is met in its place
   module _ (stop : Stop) (entries : List Conflict) (has : HasStop fleet agent stop entries) where

@@ -1,5 +1,6 @@
 -- What a ledger has to put in and take out where one agent comes or goes.
-use Rattle.std.proofs.Common.{◌≡◌, ◌≢◌, ◌⊎◌, inl, inr, ℕ, ◌+◌, ◌≤◌, List, [], ◌∷◌, Contains, Bool, true, false, cond, eqb, Option, Some, None, refl, sym, ap, subst, ◌∙◌, arith}
+use Rattle.std.proofs.lemmas.Bool.Decides.{nat_tests}
+use Rattle.std.proofs.Common.{◌≡◌, ◌≢◌, ◌⊎◌, inl, inr, ℕ, ◌+◌, ◌≤◌, List, [], ◌∷◌, Contains, Bool, cond, Option, Some, None, refl, sym, ap, subst, ◌∙◌, arith}
 use mathlib.Core.Bool.{false≢true}
 use mathlib.Core.Logic.{◌↔◌}
 use Rattle.std.specs.Prelude.{IsSome}
@@ -9,7 +10,7 @@ use Rattle.std.proofs.lemmas.Option.{same_Some}
 use Rattle.grid_cells.specs.Cell.{Point}
 use Rattle.plan_table.specs.Route.{Route, Fleet, position, position_of, last_of}
 use Rattle.plan_table.proofs.Order.{Contains-cons_cases, Contains-cons_head, Contains-cons_tail}
-use Rattle.std.proofs.lemmas.Bool.{eqb-true, eq-eqb}
+use Rattle.std.proofs.lemmas.Bool.{eq-eqb}
 use Rattle.where_index.specs.Index.{Contents, StandsFor, with_route}
 use Rattle.mapf_rules.specs.ConflictList.{Stands}
 use Rattle.mapf_rules.specs.Cycles.{MovesOut, IsRing}
@@ -24,8 +25,8 @@ use Rattle.conflict_ledger.specs.declared.turns.Turn.{Turn}
 use Rattle.conflict_ledger.specs.declared.turns.Turn.TheVariants.{Broken, Joined}
 use Rattle.conflict_ledger.specs.Kept.{GainsAll, LosesAll}
 use Rattle.mapf_rules.specs.declared.entries.Conflict.{Conflict}
-use Rattle.mapf_rules.specs.declared.entries.Conflict.TheVariants.{Vertex, Parked, Edge, Following, Swapping, Cycle}
-use Rattle.conflict_ledger.proofs.Change.{there, ends, pairs_after_change, near_of, rings_after_arrival}
+use Rattle.mapf_rules.specs.declared.entries.Conflict.TheVariants.{Vertex, Following, Cycle}
+use Rattle.conflict_ledger.proofs.Change.{there, ends, pairs_after_change, rings_after_arrival}
 use Rattle.mapf_rules.proofs.RoundTrips.{ring_next, one_to}
 use Rattle.conflict_ledger.proofs.MoverIn.{early_mover}
 use Rattle.mapf_rules.proofs.Walks.{same_or_not}
@@ -34,46 +35,29 @@ use Rattle.std.proofs.lemmas.List.{get_or_default}
 
 in_or_not : (xs : List ℕ) (a : ℕ) → Contains xs a ⊎ (Contains xs a → ⊥)
 in_or_not [] a = inr (λ h. omega (arith, h.1))
-in_or_not (x ∷ xs) a = elim (same_or_not x a) [
-  | inl here ↦ inl (subst (Contains (x ∷ xs)) here (Contains-cons_head x xs))
-  | inr apart ↦ elim (in_or_not xs a) [
-    | inl later ↦ inl (Contains-cons_tail x xs a later)
-    | inr none ↦ inr (λ h. elim (Contains-cons_cases x xs a h) [ inl same ↦ apart same | inr later ↦ none later ])
-  ]
-]
-
-either : (p q a : ℕ) → ((p ≡ a) ⊎ (q ≡ a)) ⊎ ((p ≡ a) ⊎ (q ≡ a) → ⊥)
-either p q a = elim (same_or_not p a) [
-  | inl first ↦ inl (inl first)
-  | inr not_first ↦ elim (same_or_not q a) [ inl second ↦ inl (inr second) | inr not_second ↦ inr (λ h. elim h [ inl e ↦ not_first e | inr e ↦ not_second e ]) ]
-]
+in_or_not (x ∷ xs) a = grind (arith, in_or_not xs a, Contains-cons_head x xs, Contains-cons_tail x xs a, Contains-cons_cases x xs a, same_or_not x a)
 
 names_or_not : (entry : Conflict) (a : ℕ) → Names entry a ⊎ (Names entry a → ⊥)
-names_or_not (Vertex x p q c) a = either p q a
-names_or_not (Parked x p q c) a = either p q a
-names_or_not (Edge x p q c n) a = either p q a
-names_or_not (Following x p q c) a = either p q a
-names_or_not (Swapping x p q c n) a = either p q a
 names_or_not (Cycle x r) a = in_or_not r a
+names_or_not entry a = grind arith
 
 given : (o : Option Point) → IsSome o → (to : Point) × (o ≡ Some to)
 given None h = absurd (false≢true h)
 given (Some to) h = (to, refl)
 
 same_point : (a b : Point) → (a ≡ b) ⊎ (a ≢ b)
-same_point a b = elim (same_or_not a.x b.x) [
-  | inl xs ↦ elim (same_or_not a.y b.y) [ inl ys ↦ inl (λ i. record { x = xs i; y = ys i }) | inr not_y ↦ inr (λ e. not_y (ap (λ (p : Point). p.y) e)) ]
-  | inr not_x ↦ inr (λ e. not_x (ap (λ (p : Point). p.x) e))
-]
+same_point a b = grind (arith, nat_tests)
 
-pub at_or_not : (o : Option Point) (cell : Point) → (o ≡ Some cell) ⊎ (o ≡ Some cell → ⊥)
-at_or_not None cell = inr (λ e. cc)
-at_or_not (Some here) cell = elim (same_point here cell) [ inl e ↦ inl (ap Some e) | inr apart ↦ inr (λ e. apart (same_Some here cell e)) ]
+pub place_or_not : (a b : Option Point) → (a ≡ b) ⊎ (a ≢ b)
+place_or_not None None = inl refl
+place_or_not None (Some b) = inr (λ e. cc)
+place_or_not (Some a) None = inr (λ e. cc)
+place_or_not (Some a) (Some b) = grind (arith, same_point a b)
 
 -- one of the agents is in the cell, or none is
 found : (fleet : Fleet) (time : ℕ) (cell : Point) (xs : List ℕ) → ((m : ℕ) × Contains xs m × (position_of fleet m time ≡ Some cell)) ⊎ ((m : ℕ) → Contains xs m → position_of fleet m time ≡ Some cell → ⊥)
 found fleet time cell [] = inr (λ m h at. omega (arith, h.1))
-found fleet time cell (x ∷ xs) = elim (at_or_not (position_of fleet x time) cell) [
+found fleet time cell (x ∷ xs) = elim (place_or_not (position_of fleet x time) (Some cell)) [
   | inl here ↦ inl (x, Contains-cons_head x xs, here)
   | inr apart ↦ elim (found fleet time cell xs) [
     | inl w ↦ inl (w.0, Contains-cons_tail x xs w.0 w.1, w.2)
@@ -96,12 +80,7 @@ module _ (index : Contents) (agent : ℕ) (route : Option Route) (out into : Fle
 
   -- no entry of two agents names one that is nowhere
   unnamed : (entry : Conflict) → IsPair entry → Stands out entry → Names entry agent → ⊥
-  unnamed entry pair stands names =
-      let near = near_of out agent entry pair names stands in
-      elim near.3.1 [
-        | inl w ↦ not_there _ near.3.0 w.0
-        | inr more ↦ elim more [ inl w ↦ not_there _ near.3.0 w.0 | inr w ↦ not_there _ near.3.0 w.0 ]
-      ]
+  unnamed entry pair stands names = grind (arith, nat_tests)
 
   place : (time : ℕ) → position_of into agent time ≡ own_place route time
   place time = ap (λ (o : Option Route). option_and_then (λ r. position r time) o) shows.own
@@ -133,11 +112,7 @@ module _ (index : Contents) (agent : ℕ) (route : Option Route) (out into : Fle
       leaves_from t a r is has = moves_from into t a r is has
 
   agent_out : (fleet : Fleet) (time : ℕ) (ring : List ℕ) (left : IsLeftAt fleet route time ring) → MovesOut into time agent left.cell
-  agent_out fleet time ring left = record {
-    from = place time ∙ left.from;
-    goes_on = rw (place (time + 1) ∙ left.arrives) refl;
-    moves = λ stays. left.moves (same_Some left.to left.cell (sym (place (time + 1) ∙ left.arrives) ∙ stays));
-  }
+  agent_out fleet time ring left = grind (arith, nat_tests)
 
   joined_in : (time : ℕ) (ring : List ℕ) → IsLeftAt into route time ring → Contains ring agent
   joined_in time ring left = subst (Contains ring) (sym (left.round.round.alone left.round.member agent left.cell left.round.of left.round.out.from (agent_out into time ring left))) left.round.of
@@ -232,12 +207,8 @@ module _ (index : Contents) (agent : ℕ) (route : Option Route) (out into : Fle
 
     -- where such rings have an entry that tells of them, the agent's entries have it
     told_at : (turn : Turn) (fleet : Fleet) → ((x : ℕ) (r : List ℕ) → IsLeftAt fleet route x r → (e : Conflict) × IsAgents into agent e × (time_of e ≡ x) × MayTurn turn e agent) → (e : Conflict) → IsIn span (time_of e) → IsLeft fleet route e → IsToldAt turn pairs agent (time_of e)
-    told_at turn fleet tells (Vertex x a b c) inside left = absurd left
-    told_at turn fleet tells (Parked x a b c) inside left = absurd left
-    told_at turn fleet tells (Edge x a b c n) inside left = absurd left
-    told_at turn fleet tells (Following x a b c) inside left = absurd left
-    told_at turn fleet tells (Swapping x a b c n) inside left = absurd left
     told_at turn fleet tells (Cycle x r) inside left = let w = tells x r left in record { entry = w.0; has = p_are.has w.0 w.1 (subst (IsIn span) (sym w.2) inside); at = w.2; may = w.3 }
+    told_at turn fleet tells e inside left = absurd left
 
     b_is : (e : Conflict) → IsIn span (time_of e) → Contains broken e ↔ IsLeft out route e
     b_is e inside = (λ h. (b_only e h).0, λ left. b_has e left (told_at Broken out told_broken e inside left))
@@ -266,11 +237,6 @@ module _ (index : Contents) (agent : ℕ) (route : Option Route) (out into : Fle
       )
 
       pub enter_law : HasEntriesIn span k0 out → HasEntriesIn span k3 into
-      enter_law has (Vertex x a b c) inside = pair_enters has (Vertex x a b c) inside tt (λ h. h) (λ h. h)
-      enter_law has (Parked x a b c) inside = pair_enters has (Parked x a b c) inside tt (λ h. h) (λ h. h)
-      enter_law has (Edge x a b c n) inside = pair_enters has (Edge x a b c n) inside tt (λ h. h) (λ h. h)
-      enter_law has (Following x a b c) inside = pair_enters has (Following x a b c) inside tt (λ h. h) (λ h. h)
-      enter_law has (Swapping x a b c n) inside = pair_enters has (Swapping x a b c n) inside tt (λ h. h) (λ h. h)
       enter_law has (Cycle x r) inside = (
         λ h. elim ((more (Cycle x r)).0 h) [
           | inr p ↦ absurd ((p_is (Cycle x r) inside).0 p).pair
@@ -286,6 +252,7 @@ module _ (index : Contents) (agent : ℕ) (route : Option Route) (out into : Fle
           | inr w ↦ inl ((loses (Cycle x r)).1 ((has (Cycle x r) inside).1 w.1, λ b. not_free x r w.0 ((b_is (Cycle x r) inside).0 b) w.2))
         ]))),
       )
+      enter_law has e inside = pair_enters has e inside tt (λ h. h) (λ h. h)
 
       pub enter_beside : SameBeside span k0 k3
       enter_beside e beside = (
@@ -313,11 +280,6 @@ module _ (index : Contents) (agent : ℕ) (route : Option Route) (out into : Fle
       )
 
       pub leave_law : HasEntriesIn span k0 into → HasEntriesIn span k3 out
-      leave_law has (Vertex x a b c) inside = pair_leaves has (Vertex x a b c) inside tt (λ h. h) (λ h. h)
-      leave_law has (Parked x a b c) inside = pair_leaves has (Parked x a b c) inside tt (λ h. h) (λ h. h)
-      leave_law has (Edge x a b c n) inside = pair_leaves has (Edge x a b c n) inside tt (λ h. h) (λ h. h)
-      leave_law has (Following x a b c) inside = pair_leaves has (Following x a b c) inside tt (λ h. h) (λ h. h)
-      leave_law has (Swapping x a b c n) inside = pair_leaves has (Swapping x a b c n) inside tt (λ h. h) (λ h. h)
       leave_law has (Cycle x r) inside = (
         λ h. elim ((gains (Cycle x r)).0 h) [
           | inr b ↦ ((b_is (Cycle x r) inside).0 b).round.round
@@ -333,6 +295,7 @@ module _ (index : Contents) (agent : ℕ) (route : Option Route) (out into : Fle
               (gains (Cycle x r)).1 (inl ((fewer (Cycle x r)).1 ((loses (Cycle x r)).1 ((has (Cycle x r) inside).1 (stays_ring x r is free), λ j. none (joined_in x r ((j_is (Cycle x r) inside).0 j))), λ p. absurd ((p_is (Cycle x r) inside).0 p).pair)))
         ],
       )
+      leave_law has e inside = pair_leaves has e inside tt (λ h. h) (λ h. h)
 
       pub leave_beside : SameBeside span k0 k3
       leave_beside e beside = (
@@ -348,10 +311,7 @@ pub with_own : (fleet : Fleet) (agent : ℕ) (r : Option Route) → with_route f
 with_own fleet agent r = ap (λ (b : Bool). cond b r (fleet agent)) (eq-eqb agent agent refl)
 
 pub with_other : (fleet : Fleet) (agent : ℕ) (r : Option Route) (a : ℕ) → a ≢ agent → fleet a ≡ with_route fleet agent r a
-with_other fleet agent r a apart = go (eqb a agent) refl where
-  go : (b : Bool) → eqb a agent ≡ b → fleet a ≡ with_route fleet agent r a
-  go true e = absurd (apart (eqb-true a agent e))
-  go false e = sym (ap (λ (b : Bool). cond b r (fleet a)) e)
+with_other fleet agent r a apart = grind (arith, nat_tests)
 
 pub with_shows : (index : Contents) (fleet : Fleet) (agent : ℕ) (r : Option Route) → StandsFor index fleet → Shows index agent r (with_route fleet agent r)
 with_shows index fleet agent r stands = record { base = fleet; stands = stands; others = with_other fleet agent r; own = with_own fleet agent r }

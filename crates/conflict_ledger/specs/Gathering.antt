@@ -231,10 +231,8 @@ HasAllLate sight last entries fleet = last ≡ last_of fleet sight.agent → (ti
 abbrev pub IsLateOf : Conflict → ℕ → ℕ → ℕ → Point → Type 0
 IsLateOf (Vertex time first second cell) x agent other rest = (time ≡ x) × (cell ≡ rest) × (((first ≡ agent) × (second ≡ other)) ⊎ ((first ≡ other) × (second ≡ agent)))
 IsLateOf (Parked time first second cell) x agent other rest = (time ≡ x) × (cell ≡ rest) × (((first ≡ agent) × (second ≡ other)) ⊎ ((first ≡ other) × (second ≡ agent)))
-IsLateOf (Edge time first second cell next) x agent other rest = ⊥
 IsLateOf (Following time follower leader cell) x agent other rest = (time + 1 ≡ x) × (cell ≡ rest) × (follower ≡ other) × (leader ≡ agent)
-IsLateOf (Swapping time first second cell next) x agent other rest = ⊥
-IsLateOf (Cycle time ring) x agent other rest = ⊥
+IsLateOf entry x agent other rest = ⊥
 
 -- the agent rests in the cell where the other one is at the time, and is in it one step before too
 pub record IsPassed (fleet : Fleet) (time agent other : ℕ) (rest : Point) : Type 0 where

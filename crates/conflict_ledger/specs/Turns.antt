@@ -22,30 +22,18 @@ pub record IsLeftAt (fleet : Fleet) (route : Option Route) (time : ℕ) (ring : 
 
 -- the entry is such a ring
 abbrev pub IsLeft : Fleet → Option Route → Conflict → Type 0
-IsLeft fleet route (Vertex time first second cell) = ⊥
-IsLeft fleet route (Parked time first second cell) = ⊥
-IsLeft fleet route (Edge time first second cell next) = ⊥
-IsLeft fleet route (Following time follower leader cell) = ⊥
-IsLeft fleet route (Swapping time first second cell other) = ⊥
 IsLeft fleet route (Cycle time ring) = IsLeftAt fleet route time ring
+IsLeft fleet route entry = ⊥
 
 -- the entry is a meeting before the later path's end: where the agent's moves break a ring of others, there is one
 abbrev pub MayBreak : Conflict → Type 0
 MayBreak (Vertex time first second cell) = Unit {0}
-MayBreak (Parked time first second cell) = ⊥
-MayBreak (Edge time first second cell next) = ⊥
-MayBreak (Following time follower leader cell) = ⊥
-MayBreak (Swapping time first second cell other) = ⊥
-MayBreak (Cycle time ring) = ⊥
+MayBreak entry = ⊥
 
 -- the entry is of one who follows the agent: where the agent is in a ring, there is one
 abbrev pub MayJoin : Conflict → ℕ → Type 0
-MayJoin (Vertex time first second cell) agent = ⊥
-MayJoin (Parked time first second cell) agent = ⊥
-MayJoin (Edge time first second cell next) agent = ⊥
 MayJoin (Following time follower leader cell) agent = leader ≡ agent
-MayJoin (Swapping time first second cell other) agent = ⊥
-MayJoin (Cycle time ring) agent = ⊥
+MayJoin entry agent = ⊥
 
 -- the entry lets the agent's moves break, or join, a ring at its time
 abbrev pub MayTurn : Turn → Conflict → ℕ → Type 0

@@ -1,11 +1,6 @@
 use Rattle.std.proofs.Common.{arith}
-use Rattle.conflict_ledger.proofs.Gathers.{gathered_apart, gathered_all}
+use Rattle.conflict_ledger.proofs.Gathers.{gathered_all}
 use Rattle.conflict_ledger.proofs.gather.gather.Goals as goal
-
-pub returns-in-Some : goal.returns-in-Some
-returns-in-Some c fleet shows fits =
-    gathered_apart fleet _ c.args.span.now c.own_last-last.result (c.own_last-last.ensures.is fleet shows) fits _ _ c.new-entries.ensures.items
-    (c.in_ok-gather_path.ensures.gathers fleet shows (omega (arith, fits.begins, c.own_last-last.ensures.is fleet shows))) (c.in_ok-gather_path.ensures.has fleet shows (c.own_last-last.ensures.is fleet shows)) c.in-Some._tracks c.in-Some.is
 
 pub returns : goal.returns
 returns c fleet shows fits =

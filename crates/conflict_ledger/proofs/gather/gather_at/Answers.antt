@@ -9,14 +9,8 @@ use Rattle.conflict_ledger.specs.Gathering.{IsWhere, IsStop, IsAbout, IsStepOf, 
 use Rattle.conflict_ledger.specs.declared.places.Stop.{Stop}
 use Rattle.conflict_ledger.specs.declared.places.Place.TheVariants.{Ahead}
 use Rattle.conflict_ledger.proofs.Gathers.{gathers_at}
-use Rattle.conflict_ledger.proofs.Stops.{came_own, nowhere_place, nowhere_here, still_before, stop_own, stop_ahead, stop_here}
+use Rattle.conflict_ledger.proofs.Stops.{came_own, still_before, stop_own, stop_ahead, stop_here}
 use Rattle.conflict_ledger.proofs.gather.gather_at.Goals as goal
-
-pub returns-in_default-clause-ahead : goal.returns-in_default-clause-ahead
-returns-in_default-clause-ahead c came fleet shows past next = nowhere_place _ _ _ fleet shows Ahead past _ (rw next (sym c.own.ensures ∙ c.in_default.is))
-
-pub returns-in_default-clause-here : goal.returns-in_default-clause-here
-returns-in_default-clause-here c goes fleet shows = nowhere_here _ _ _ fleet shows c.args.time _ (sym c.own.ensures ∙ c.in_default.is)
 
 module _ (c : goal.After-gather_stop) (fleet : Fleet) (shows : Sees c.args.sight.now fleet) where
   abbrev stop : Stop

@@ -1,23 +1,13 @@
 use Rattle.std.proofs.Common.{◌≡◌, ◌↔◌, ◌+◌, ◌≤◌, ℕ, inl, inr, sym, subst, arith}
-use mathlib.Core.Bool.{false≢true}
 use Rattle.std.specs.Prelude.{IsTrue}
 use Rattle.std.proofs.lemmas.Bool.{cases_lt}
 use Rattle.conflict_ledger.specs.Gathering.{HasPlace, HasHere}
 use Rattle.conflict_ledger.specs.Spans.{IsIn}
 use Rattle.conflict_ledger.specs.declared.places.Place.TheVariants.{Ahead}
-use Rattle.conflict_ledger.proofs.Gathers.{gathers_nothing, gathers_on, gathers_at, place_on}
+use Rattle.conflict_ledger.proofs.Gathers.{gathers_on, gathers_at, place_on}
 use Rattle.conflict_ledger.proofs.Late.{ahead_none}
 use Rattle.conflict_ledger.proofs.Stops.{step_has}
 use Rattle.conflict_ledger.proofs.gather.gather_path.Goals as goal
-
-pub loop-time-init : goal.loop-time-init
-loop-time-init c = record {
-  later = λ is. absurd (false≢true is);
-  came = λ t next. (λ is. absurd (false≢true is), λ inside. absurd (let from : c.args.span.now.from ≤ t = inside.not_before in omega (arith, from, next)));
-  gathers = λ fleet shows. gathers_nothing fleet _ _ _;
-  ahead = λ fleet shows t inside lt. absurd (let from : c.args.span.now.from ≤ t = inside.not_before in omega (arith, from, lt));
-  here = λ fleet shows t inside lt. absurd (let from : c.args.span.now.from ≤ t = inside.not_before in omega (arith, from, lt));
-}
 
 pub loop-time-preserved : goal.loop-time-preserved
 loop-time-preserved c = record {

@@ -5,18 +5,9 @@ use Rattle.where_index.specs.Spots.{AreRising}
 use Rattle.where_index.specs.declared.spot_sets.Spot.{Spot}
 use Rattle.conflict_ledger.specs.Sight.{Sees}
 use Rattle.conflict_ledger.specs.Gathering.{IsStop, AreShowing, HasSeen}
-use Rattle.conflict_ledger.proofs.Gathers.{gathers_nothing, gathers_on}
+use Rattle.conflict_ledger.proofs.Gathers.{gathers_on}
 use Rattle.conflict_ledger.proofs.Occupied.{seen_all, too_late}
 use Rattle.conflict_ledger.proofs.gather.offer_spots.Goals as goal
-
-pub loop-spot-init : goal.loop-spot-init
-loop-spot-init c =
-    let all = c.into_iter-spot-iterator.ensures.into_iter_gives in record {
-      left = λ s h. subst (λ (l : List Spot). Contains l s) all h;
-      rising = subst AreRising (sym all);
-      gathers = λ fleet shows is showing. gathers_nothing fleet _ _ _;
-      has = λ fleet shows is showing s h. inl (subst (λ (l : List Spot). Contains l s) (sym all) h);
-    }
 
 pub loop-spot-preserved : goal.loop-spot-preserved
 loop-spot-preserved c =

@@ -20,10 +20,6 @@ pub returns-clause-gathers : goal.returns-clause-gathers
 returns-clause-gathers c =
     on_ok_weaker c.offer_met.result (λ gives fleet shows is showing. gathers_at fleet _ _ _ _ _ (λ t at. inr (at, search rules)) (gives fleet shows is.goes (near c fleet showing))) c.offer_met.ensures.gathers
 
-pub returns-clause-beside : goal.returns-clause-beside
-returns-clause-beside c =
-    on_ok_weaker c.offer_met.result (λ gives fleet shows is showing _ now. subst (HasIn c fleet) (same_Some _ _ (sym c.in-Some.is ∙ c.place_of.ensures.beside now)) (gives fleet shows is.goes (near c fleet showing))) c.offer_met.ensures.has
-
 pub returns-clause-behind : goal.returns-clause-behind
 returns-clause-behind c =
     on_ok_weaker c.offer_met.result (λ gives fleet shows is showing _ later. elim (c.place_of.ensures.behind later) [

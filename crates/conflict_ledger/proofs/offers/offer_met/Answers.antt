@@ -2,23 +2,11 @@ use Rattle.std.proofs.Common.{◌≢◌, inl, inr, refl, sym, subst, ◌∙◌}
 use mathlib.Core.Bool.{false≢true}
 use Rattle.std.proofs.lemmas.Bool.{eq-eqb}
 use Rattle.std.proofs.lemmas.Option.{same_Some}
-use Rattle.std.specs.Result.{OnOk}
-use Rattle.conflict_ledger.specs.Gathering.{IsMet, IsNear, GathersMet, HasAllMet}
+use Rattle.conflict_ledger.specs.Gathering.{IsMet, IsNear}
 use Rattle.conflict_ledger.specs.declared.places.Place.{Place}
-use Rattle.conflict_ledger.proofs.Gathers.{gathers_nothing, gathers_on, gathers_offer}
+use Rattle.conflict_ledger.proofs.Gathers.{gathers_on, gathers_offer}
 use Rattle.conflict_ledger.proofs.Meetings.{goes_on, met_ahead}
 use Rattle.conflict_ledger.proofs.offers.offer_met.Goals as goal
-
-pub returns-then-eq-clause-gathers : goal.returns-then-eq-clause-gathers
-returns-then-eq-clause-gathers c fleet shows place near = gathers_nothing fleet _ _ _
-
-pub returns-in-Beside-clause-gathers : goal.returns-in-Beside-clause-gathers
-returns-in-Beside-clause-gathers c =
-    subst (λ (p : Place). OnOk c.offer_beside.result (GathersMet c.args.sight.now p c.args.lasting c.args.spot.now c.args.time c.args.here c.args.next c.args.entries.now.items c.offer_beside.new.entries.items)) (sym c.in-Beside.is) c.offer_beside.ensures.gathers
-
-pub returns-in-Beside-clause-has : goal.returns-in-Beside-clause-has
-returns-in-Beside-clause-has c =
-    subst (λ (p : Place). OnOk c.offer_beside.result (HasAllMet c.args.sight.now p c.args.lasting c.args.spot.now c.args.time c.args.here c.args.next c.offer_beside.new.entries.items)) (sym c.in-Beside.is) c.offer_beside.ensures.has
 
 pub returns-in_ok-offer-in-Ahead-3-clause-gathers : goal.returns-in_ok-offer-in-Ahead-3-clause-gathers
 returns-in_ok-offer-in-Ahead-3-clause-gathers c fleet shows place near =

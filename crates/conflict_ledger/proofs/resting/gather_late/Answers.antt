@@ -8,13 +8,8 @@ use Rattle.where_index.specs.declared.passings.Passing.{Passing}
 use Rattle.conflict_ledger.specs.Sight.{Sees}
 use Rattle.conflict_ledger.specs.Gathering.{HasLate}
 use Rattle.conflict_ledger.proofs.Gathers.{gathers_on, gathers_at}
-use Rattle.conflict_ledger.proofs.Late.{late_none, late_place, passed}
+use Rattle.conflict_ledger.proofs.Late.{late_place, passed}
 use Rattle.conflict_ledger.proofs.resting.gather_late.Goals as goal
-
-pub returns-in_default-clause-has : goal.returns-in_default-clause-has
-returns-in_default-clause-has c fleet shows is_last time late =
-    late_none _ _ _ fleet shows c.args.last is_last
-    (ap (λ (o : Option Route). option_and_then (λ r. position r (c.args.last + 1)) o) shows.own ∙ (sym c.own.ensures ∙ c.in_default.is)) time c.args.entries.now.items late
 
 pub loop-passing-preserved : goal.loop-passing-preserved
 loop-passing-preserved c =

@@ -3,13 +3,10 @@ use mathlib.Core.Bool.{false≢true}
 use Rattle.std.proofs.lemmas.Bool.{eq-eqb}
 use Rattle.plan_table.specs.Route.{position_of}
 use Rattle.mapf_rules.specs.Entries.{IsFollowing}
-use Rattle.conflict_ledger.proofs.Gathers.{gathers_nothing, gathers_on, gathers_offer, gathers_at}
+use Rattle.conflict_ledger.proofs.Gathers.{gathers_on, gathers_offer, gathers_at}
 use Rattle.conflict_ledger.proofs.Late.{one_of_late}
 use Rattle.conflict_ledger.proofs.Meetings.{one_of, together}
 use Rattle.conflict_ledger.proofs.resting.offer_passing.Goals as goal
-
-pub returns-then-eq-clause-gathers : goal.returns-then-eq-clause-gathers
-returns-then-eq-clause-gathers c fleet shows passed = gathers_nothing fleet _ _ _
 
 pub returns-in_ok-offer-2-clause-gathers : goal.returns-in_ok-offer-2-clause-gathers
 returns-in_ok-offer-2-clause-gathers c fleet shows passed =

@@ -20,11 +20,5 @@ returns-in-Some c fleet ring shows round =
     let same : agent ≡ round.member = round.round.alone round.member agent c.args.cell round.of round.out.from out in
     c.may_close.ensures fleet ring round.member shows round.round round.of round.out.from (subst (λ (a : ℕ). position_of fleet a (c.args.time + 1) ≡ Some c.in-Some.to) same arrives)
 
-pub returns-in-Some-sole_mover : goal.returns-in-Some-sole_mover
-returns-in-Some-sole_mover c fleet ring shows round =
-    let same : round.member ≡ c.in-Some-sole_mover.mover.0 = (c.in-Some-sole_mover.ensures.sole fleet shows).only round.member round.out in
-    let arrives : position_of fleet round.member (c.args.time + 1) ≡ Some c.in-Some-sole_mover.mover.1 = ap (λ (m : ℕ). position_of fleet m (c.args.time + 1)) same ∙ (c.in-Some-sole_mover.ensures.to fleet shows).to in
-    c.may_close-in-Some-sole_mover.ensures fleet ring round.member shows round.round round.of round.out.from arrives
-
 pub returns-in-None : goal.returns-in-None
 returns-in-None c fleet ring shows round = absurd (false≢true (c.in-None.ensures.found fleet round.member shows (sole_in_ring fleet c.args.time c.args.cell ring round)))

@@ -6,12 +6,6 @@ use Rattle.mapf_rules.specs.Cycles.{IsRingAt}
 use Rattle.conflict_ledger.proofs.turns.ring_left_at.Goals as goal
 use Rattle.conflict_ledger.proofs.turns.ring_left_at.Goals.{then-eq-via-then-eq, then-eq-via-else-eq+then-not-may_ring}
 
-pub returns-in_default-clause-has : goal.returns-in_default-clause-has
-returns-in_default-clause-has c fleet shows ring left = absurd (none-some left.cell (sym c.in_default.is ∙ c.own.ensures ∙ left.from))
-
-pub returns-in_default-own-clause-has : goal.returns-in_default-own-clause-has
-returns-in_default-own-clause-has c fleet shows ring left = absurd (none-some left.to (sym c.in_default-own.is ∙ c.own-2.ensures ∙ left.arrives))
-
 pub returns-then-eq-clause-has : goal.returns-then-eq-clause-has
 returns-then-eq-clause-has c fleet shows ring left =
     let same : left.cell ≡ c.in-Some.cell = same_Some _ _ (sym left.from ∙ sym c.own.ensures ∙ c.in-Some.is) in

@@ -26,9 +26,7 @@ loop-entry-preserved c = record {
   ];
 }
 
-pub returns : goal.returns
-returns c = record {
-  only = c.loop-entry.invariant.only;
-  has = λ fleet other shows beside e left told.
-      c.loop-entry.invariant.has fleet other shows beside e left told.has.0 told.entry (omega (arith, told.has.1)) (ap time_of told.has.2 ∙ told.at) (subst (λ (x : Conflict). MayTurn c.args.turn x c.args.with.now.agent) (sym told.has.2) told.may);
-}
+pub returns-clause-has : goal.returns-clause-has
+returns-clause-has c fleet other shows beside e left told =
+    c.loop-entry.invariant.has fleet other shows beside e left told.has.0 told.entry (omega (arith, told.has.1)) (ap time_of told.has.2 ∙ told.at)
+    (subst (λ (x : Conflict). MayTurn c.args.turn x c.args.with.now.agent) (sym told.has.2) told.may)

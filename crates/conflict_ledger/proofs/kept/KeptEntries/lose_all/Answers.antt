@@ -1,11 +1,8 @@
 use Rattle.std.proofs.Common.{◌≡◌, ◌∷◌, [], ◌++◌, ◌+◌, take, sym, ap, subst, ◌∙◌, arith}
 use Rattle.std.proofs.lemmas.List.{take_more, take_all}
 use Rattle.conflict_ledger.specs.Kept.{LosesAll}
-use Rattle.conflict_ledger.proofs.KeptLoops.{loses_none, loses_more}
+use Rattle.conflict_ledger.proofs.KeptLoops.{loses_more}
 use Rattle.conflict_ledger.proofs.kept.KeptEntries.lose_all.Goals as goal
-
-pub loop-entry-init : goal.loop-entry-init
-loop-entry-init c = loses_none c.args.self.now
 
 pub loop-entry-preserved : goal.loop-entry-preserved
 loop-entry-preserved c =

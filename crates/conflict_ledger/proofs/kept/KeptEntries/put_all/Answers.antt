@@ -2,11 +2,8 @@ use Rattle.std.proofs.Common.{◌≡◌, ◌++◌, ◌∷◌, [], append-nil, ap
 use Rattle.std.proofs.lemmas.List.{nil_from_length}
 use Rattle.std.specs.Vec.Iter.{into_iter_items}
 use Rattle.conflict_ledger.specs.Kept.{GainsAll}
-use Rattle.conflict_ledger.proofs.KeptLoops.{gains_none, gains_more}
+use Rattle.conflict_ledger.proofs.KeptLoops.{gains_more}
 use Rattle.conflict_ledger.proofs.kept.KeptEntries.put_all.Goals as goal
-
-pub loop-entry-init : goal.loop-entry-init
-loop-entry-init c = record { can = tt; finite = tt; all = c.into_iter-entry-iterator.ensures.into_iter_gives.0; gains = gains_none c.args.self.now }
 
 pub loop-entry-preserved : goal.loop-entry-preserved
 loop-entry-preserved c = record {
