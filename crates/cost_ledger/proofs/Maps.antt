@@ -1,5 +1,8 @@
 -- Maps that differ in one cell, and ledgers with no agent.
-use Rattle.std.proofs.Common.{◌≡◌, ◌≢◌, ℕ, zero, suc, Bool, List, [], ◌∷◌, Some, None, refl, sym, ap, ◌∙◌}
+use Rattle.std.proofs.Common.{◌≡◌, ◌≢◌, ℕ, Bool, List, [], Some, arith}
+use Rattle.std.proofs.lemmas.Option.{gets}
+use Rattle.std.proofs.lemmas.Grind.{common_steps}
+use Rattle.std.proofs.lemmas.List.{get_or-set_other}
 use Rattle.std.proofs.Math.ListN.{set}
 use Rattle.std.specs.List.{slice_get}
 use Rattle.std.proofs.lemmas.Nat.{same_from_place}
@@ -12,11 +15,7 @@ use Rattle.cost_ledger.specs.Laws.{EmptyStandsForAll, SettingChangesOne}
 
 -- an element after a write at another place
 set_elsewhere : (xs : List Bool) (i j : ℕ) (v : Bool) → j ≢ i → slice_get (set xs i v) j ≡ slice_get xs j
-set_elsewhere [] i j v apart = refl
-set_elsewhere (x ∷ xs) zero zero v apart = absurd (apart refl)
-set_elsewhere (x ∷ xs) zero (suc j) v apart = refl
-set_elsewhere (x ∷ xs) (suc i) zero v apart = refl
-set_elsewhere (x ∷ xs) (suc i) (suc j) v apart = set_elsewhere xs i j v (λ e. apart (ap suc e))
+set_elsewhere xs i j v apart = grind (arith, common_steps, gets, get_or-set_other)
 
 -- two cells of a map have one flag only if they are one
 same_cell : (size : Extent) (a b : Point) → Holds size a → Holds size b → flag_index size a ≡ flag_index size b → a ≡ b
@@ -29,13 +28,10 @@ other_flag grid cell other free held_cell held_other apart =
     set_elsewhere grid.flags (flag_index grid.size cell) (flag_index grid.size other) free (λ e. apart (same_cell grid.size other cell held_other held_cell e))
 
 pub setting : SettingChangesOne
-setting grid cell free held other apart = (
-  (λ closed. (closed.0, λ opened. closed.1 (opened.0, sym (other_flag grid cell other free held closed.0 apart) ∙ opened.1))),
-  (λ closed. (closed.0, λ opened. closed.1 (opened.0, other_flag grid cell other free held closed.0 apart ∙ opened.1))),
-)
+setting grid cell free held other apart = grind (arith, other_flag grid cell other free held)
 
 no_row : {G : Type 0} (rows : List (ℕ × Row)) (agent : ℕ) (row : Row) → rows ≡ [] → row_of rows agent ≡ Some row → G
-no_row rows agent row none live = let wrong : None ≡ Some row = ap (λ (r : List (ℕ × Row)). row_of r agent) (sym none) ∙ live in absurd (cc)
+no_row rows agent row none live = absurd (grind arith)
 
 pub empty : EmptyStandsForAll
 empty ledger one other none stands = record {

@@ -1,5 +1,5 @@
 -- The visits of rows' paths to a cell, row by row.
-use Rattle.std.proofs.Common.{◌≡◌, inl, inr, ℕ, ◌+◌, List, [], ◌∷◌, ◌++◌, Some, Contains, refl, sym, ap, ◌∙◌, subst, arith}
+use Rattle.std.proofs.Common.{◌≡◌, inl, inr, ℕ, ◌+◌, List, [], ◌∷◌, ◌++◌, Some, Contains, refl, sym, ap, ◌∙◌, arith}
 use mathlib.Core.Logic.{◌↔◌}
 use Rattle.std.specs.BTreeMap.{BTreeMap, IsOrdered, get}
 use Rattle.std.specs.Ordering.{nat_cmp}
@@ -31,15 +31,9 @@ entries_more entries agent row cell old new before gains v =
     let entry : ℕ × Row = (agent, row) in (
       (λ h. elim ((gains v).0 h) [
         | inl o ↦ let had = (before v).0 o in (had.0, (push_iff entries entry (v.agent, had.0)).1 (inl had.1), had.2)
-        | inr is ↦ (row, (push_iff entries entry (v.agent, row)).1 (inr (λ i. (is.1.same_agent i, row))), (is.0, record { same_agent = refl; late = is.1.late; early = is.1.early; there = is.1.there }))
+        | inr is ↦ (row, (push_iff entries entry (v.agent, row)).1 (inr (λ i. (is.1.same_agent i, row))), grind arith)
       ]),
-      (λ h. elim ((push_iff entries entry (v.agent, h.0)).0 h.1) [
-        | inl old_entry ↦ (gains v).1 (inl ((before v).1 (h.0, old_entry, h.2)))
-        | inr e ↦
-            let rows : h.0 ≡ row = ap (λ (x : ℕ × Row). x.1) e in
-            let to : IsTo cell v.agent row v = subst (λ (r : Row). IsTo cell v.agent r v) rows h.2 in
-            (gains v).1 (inr (to.0, record { same_agent = ap (λ (x : ℕ × Row). x.0) e; late = to.1.late; early = to.1.early; there = to.1.there }))
-      ]),
+      (λ h. grind (arith, gains v, before v, (push_iff entries entry (v.agent, h.0)).0 h.1)),
     )
 
 pub all_through : (rows : BTreeMap ℕ Row) (cell : Point) (visits : List Visit) → IsOrdered nat_cmp rows → AreOfEntries rows.entries cell visits → AreThrough rows.entries cell visits

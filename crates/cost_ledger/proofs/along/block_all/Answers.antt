@@ -1,15 +1,12 @@
-use Rattle.std.proofs.Common.{List, Contains, subst, arith}
+use Rattle.std.proofs.Common.{arith}
 use Rattle.std.proofs.lemmas.List.{take_all}
-use Rattle.cost_ledger.specs.Sets.{GainsAll}
-use Rattle.mapf_rules.specs.declared.visits.Visit.{Visit}
-use Rattle.cost_ledger.proofs.Sets.{gains_more}
-use Rattle.cost_ledger.proofs.PathSteps.{taken_more}
+use Rattle.cost_ledger.proofs.Sets.{gains_then, taken_more}
 use Rattle.cost_ledger.proofs.along.block_all.Goals as goal
 
 pub loop-visit-preserved : goal.loop-visit-preserved
 loop-visit-preserved c =
-    gains_more _ _ _ _ _ _ (taken_more c.args.visits.now c.loop-visit.visit-index c.visit-item.result c.loop-visit-test.true c.visit-item.is) c.loop-visit.invariant c.in_ok-add.ensures
+    gains_then _ _ _ _ _ _
+    (taken_more c.args.visits.now c.loop-visit.visit-index c.visit-item.result c.loop-visit-test.true c.visit-item.is) c.loop-visit.invariant c.in_ok-add.ensures
 
 pub returns : goal.returns
-returns c =
-    subst (λ (first : List Visit). GainsAll c.args.blocked.now c.loop-visit.blocked (Contains first)) (take_all c.loop-visit.visit-index c.args.visits.now (omega arith)) c.loop-visit.invariant
+returns c = rw (take_all c.loop-visit.visit-index c.args.visits.now (omega arith)) at c.loop-visit.invariant

@@ -23,7 +23,7 @@ returns-clause-some c =
       record {
         was = was;
         now = rw (← c.self.view_is) (changes _ _ _ _ (h.3 (subst IsSome (sym looked) refl)).0);
-        sums = λ number. rw (h.0, ← c.self.view_is) (sum_set number c.args.agent c.in-Some.row.now after _ (rw c.self.view_is was));
+        sums = λ number. rw (h.0, ← c.self.view_is) (sum_set number c.args.agent c.in-Some.row.now _ after (rw c.self.view_is was));
       },
       c.elsewhere-before.ensures,
       c.elsewhere.ensures,
