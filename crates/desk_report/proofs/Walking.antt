@@ -1,13 +1,12 @@
 -- A path over open cells that ends at the goal takes at least as long as its lower bound.
-use Rattle.std.proofs.Common.{◌≡◌, ℕ, suc, ◌+◌, ◌-◌, ◌≤◌, min, Bool, true, false, List, [], ◌∷◌, length, get_or, Some, None, Option, refl, sym, ap, subst, ◌∙◌, ◌⊎◌, inl, inr, arith}
-use Rattle.std.specs.Prelude.{unwrap_or}
+use Rattle.std.proofs.Common.{◌≡◌, ℕ, suc, ◌-◌, ◌≤◌, min, List, [], ◌∷◌, length, get_or, Some, None, Option, refl, sym, subst, ◌⊎◌, inl, inr, arith}
 use Rattle.std.specs.Option.{SomeIff}
-use Rattle.std.specs.List.{slice_get, AllAdjacentBelow, slice_index_or, All}
+use Rattle.std.specs.List.{slice_get, AllAdjacentBelow, All}
 use Rattle.std.proofs.lemmas.Bool.{cases_lt}
 use Rattle.std.proofs.lemmas.Option.{same_Some, slice_get-get_or}
 use Rattle.std.proofs.lemmas.List.Elements.{All-head, All-tail}
 use Rattle.grid_cells.specs.Cell.{Point, IsStep, steps_between}
-use Rattle.grid_cells.specs.Grid.{Chart, IsOpen, IsClosed, flag_index}
+use Rattle.grid_cells.specs.Grid.{Chart, IsOpen, IsClosed}
 use Rattle.grid_cells.specs.Walks.{Walk, IsDistance}
 use Rattle.grid_cells.specs.Size.{Holds}
 use Rattle.plan_table.specs.Path.{last_index, place, IsPath}
@@ -21,12 +20,10 @@ use Rattle.desk_report.specs.Laws.{SettleIsBoundAndGap, IsPathOn, HasBoundAndGap
 use Rattle.desk_report.specs.declared.reports.AgentLine.{AgentLine}
 
 no_steps : (a b : Point) → steps_between a b ≡ 0 → a ≡ b
-no_steps a b h = let xs : a.x ≡ b.x = omega arith in let ys : a.y ≡ b.y = omega arith in λ i. record { x = xs i; y = ys i }
+no_steps a b h = grind arith
 
 steps_tail : (a b : Point) (cells : List Point) → AllAdjacentBelow IsStep (a ∷ b ∷ cells) (length (a ∷ b ∷ cells)) → AllAdjacentBelow IsStep (b ∷ cells) (length (b ∷ cells))
-steps_tail a b cells steps k d h =
-    let next : suc k + 1 ≡ suc (k + 1) = omega arith in
-    subst (λ q. IsStep (slice_index_or (b ∷ cells) k d) (slice_index_or (a ∷ b ∷ cells) q d)) next (steps (suc k) d (omega arith))
+steps_tail a b cells steps k d h = grind (arith, steps (suc k) d)
 
 -- open cells that are each a step from the one before make a walk from the first to the last, of at most as many steps
 walks_along : (grid : Chart) (a : Point) (cells : List Point) → All (IsOpen grid) (a ∷ cells) → AllAdjacentBelow IsStep (a ∷ cells) (length (a ∷ cells)) → (goal : Point) → slice_get (a ∷ cells) (length cells) ≡ Some goal → (steps : ℕ) × (steps ≤ length cells) × Walk grid steps a goal
@@ -55,12 +52,7 @@ bound_given grid (a ∷ cells) start goal bound is free first last dist =
 
 -- a cell of the map is open or closed
 open_or_closed : (grid : Chart) (cell : Point) → Holds grid.size cell → IsOpen grid cell ⊎ IsClosed grid cell
-open_or_closed grid cell held = by_flag (slice_get grid.flags (flag_index grid.size cell)) refl
-  where
-    by_flag : (o : Option Bool) → slice_get grid.flags (flag_index grid.size cell) ≡ o → IsOpen grid cell ⊎ IsClosed grid cell
-    by_flag (Some true) e = inl (held, e)
-    by_flag (Some false) e = inr (held, λ is. cc)
-    by_flag None e = inr (held, λ is. cc)
+open_or_closed grid cell held = grind arith
 
 -- an unblocked path on the map is over open cells
 all_open : (grid : Chart) (path : List Point) → All (Holds grid.size) path → IsUnblocked grid path → All (IsOpen grid) path
@@ -75,19 +67,17 @@ all_open grid path held free k d within =
 
 -- what is given where a fact holds, where it does
 given_there : {X : Type 0} (o : Option X) (P : Type 0) (v : X) → SomeIff o P v → P → o ≡ Some v
-given_there None P v iff holds = absurd (iff holds)
-given_there (Some x) P v iff holds = ap Some iff.1
+given_there o P v iff holds = grind arith
 
 line_law : (grid : Chart) (entry : ℕ × Row) (line : AgentLine) → IsPathOn grid entry.1.plan → IsLine grid entry line → IsFinished entry.1 → IsUnblocked grid entry.1.plan → HasBoundAndGap line
 line_law grid entry line on is finished free =
     let path : List Point = entry.1.plan in
-    let settle : line.settle ≡ last_index path = settle_once path line.settle (last_index path) is.settle (settles path on.path_is) in
-    let rest : finished.0 ≡ last_index path = settle_once path finished.0 (last_index path) finished.1 (settles path on.path_is) in
-    let end : min (last_index path) (last_index path) ≡ last_index path = omega arith in
-    let last : slice_get path (last_index path) ≡ Some entry.1.goal = rw end at (rw rest at finished.2) in
+    let settle = settle_once path line.settle (last_index path) is.settle (settles path on.path_is) in
+    let rest = settle_once path finished.0 (last_index path) finished.1 (settles path on.path_is) in
+    let last : slice_get path (last_index path) ≡ Some entry.1.goal = grind arith in
     let given = bound_given grid path is.bound.start entry.1.goal line.bound on.path_is (all_open grid path on.held free) is.bound.starts last is.bound.distance in
-    let gap : line.gap ≡ Some (line.settle - given.0) = given_there line.gap (IsFinished entry.1 × IsUnblocked grid path) _ is.gap (finished, free) ∙ ap (λ (o : Option ℕ). Some (line.settle - unwrap_or o 0)) given.1 in
-    record { bound = given.0; gap = line.settle - given.0; bound_given = given.1; gap_given = gap; sum = omega (arith, given.2) }
+    let gap = given_there line.gap (IsFinished entry.1 × IsUnblocked grid path) _ is.gap (finished, free) in
+    record { bound = given.0; gap = line.settle - given.0; bound_given = given.1; gap_given = grind (arith, given.1); sum = omega (arith, given.2) }
 
 pub gap_law : SettleIsBoundAndGap
 gap_law grid mode rows report paths is =
