@@ -1,7 +1,7 @@
 -- A walk along the chain of one bucket.
-use Rattle.std.proofs.Common.{◌≡◌, ◌≢◌, ℕ, ◌<◌, ◌≤◌, List, length, get_or, Some, None, Option, refl, sym, subst, ◌∙◌, inl, inr, arith}
-use Rattle.std.proofs.lemmas.Bool.{cases_lt}
+use Rattle.std.proofs.Common.{◌≡◌, ◌≢◌, ℕ, ◌<◌, ◌≤◌, List, length, get_or, Some, None, Option, refl, arith}
 use Rattle.std.specs.List.{Contains}
+use Rattle.std.proofs.lemmas.List.{get_or_default}
 use Rattle.grid_cells.specs.Cell.{Point}
 use Rattle.desk_audit.specs.declared.tables.Pass.{Pass}
 use Rattle.desk_audit.specs.Filing.{bucket_of, slot_bucket, IsLast, IsFiled}
@@ -19,46 +19,26 @@ pub record Walked (table : Table) (bucket : ℕ) (next : Option ℕ) (Done : Slo
   pub last : IsLast table.slots.items (many_of table) bucket bound next
   pub done : (k : ℕ) (d : Slot) → bound ≤ k → k < length table.slots.items → Done (get_or table.slots.items k d)
 
-pub walk_begins : (table : Table) (bucket : ℕ) (next : Option ℕ) (Done : Slot → Type 0) → IsFiled table → bucket < many_of table → next ≡ get_or table.heads.items bucket next → Walked table bucket next Done
-walk_begins table bucket next Done filed inside is = record {
-  bound = length table.slots.items;
-  within = omega arith;
-  last = rw is (filed.heads bucket next inside);
-  done = λ k d le lt. absurd (omega arith);
-}
-
 module _ (table : Table) (bucket place : ℕ) (slot : Slot) (Done More : Slot → Type 0)
     (filed : IsFiled table) (walk : Walked table bucket (Some place) Done) (is : slot ≡ get_or table.slots.items place slot)
     (keeps : (s : Slot) → Done s → More s) (here : More slot) (others : (s : Slot) → slot_bucket (many_of table) s ≢ bucket → More s) where
   done_more : (k : ℕ) (d : Slot) → place ≤ k → k < length table.slots.items → More (get_or table.slots.items k d)
-  done_more k d le lt = elim (cases_lt k walk.bound) [
-    | inr late ↦ keeps _ (walk.done k d late lt)
-    | inl early ↦ elim (cases_lt place k) [
-      | inl later ↦ others _ (walk.last.2 k d (omega arith) early)
-      | inr same_place ↦
-          let at : k ≡ place = omega arith in
-          let read : get_or table.slots.items k d ≡ slot = rw at (Rattle.std.proofs.lemmas.List.get_or_default table.slots.items place d slot (omega arith) ∙ sym is) in
-          rw read here
-    ]
-  ]
+  done_more k d le lt =
+      let s = get_or table.slots.items k d in
+      grind (arith, keeps s, walk.done k d, others s, walk.last.2 k d, get_or_default table.slots.items place d slot)
 
   pub walk_more : Walked table bucket slot.before More
   walk_more =
-      let inside : place < length table.slots.items = omega (arith, walk.last.0, walk.within) in
       let bucket_is : slot_bucket (many_of table) slot ≡ bucket = rw is (walk.last.1 slot) in
-      let link : IsLast table.slots.items (many_of table) (slot_bucket (many_of table) slot) place slot.before = subst (λ (s : Slot). IsLast table.slots.items (many_of table) (slot_bucket (many_of table) s) place s.before) (sym is) (filed.links place slot inside) in
       record {
         bound = place;
-        within = omega arith;
-        last = subst (λ b. IsLast table.slots.items (many_of table) b place slot.before) bucket_is link;
+        within = omega (arith, walk.last.0, walk.within);
+        last = rw (← is, bucket_is) at (filed.links place slot (omega (arith, walk.last.0, walk.within)));
         done = done_more;
       }
 
 pub walk_over : (table : Table) (bucket : ℕ) (Done : Slot → Type 0) → Walked table bucket None Done → ((s : Slot) → slot_bucket (many_of table) s ≢ bucket → Done s) → (k : ℕ) (d : Slot) → k < length table.slots.items → Done (get_or table.slots.items k d)
-walk_over table bucket Done walk others k d lt = elim (cases_lt k walk.bound) [
-  | inl early ↦ others _ (walk.last k d (omega arith) early)
-  | inr late ↦ walk.done k d late lt
-]
+walk_over table bucket Done walk others k d lt = grind (arith, others (get_or table.slots.items k d), walk.last k d, walk.done k d)
 
 -- a slot with that key, of another agent, has its pass in the list
 abbrev pub Gathers : Point → ℕ → ℕ → List Pass → Slot → Type 0

@@ -1,14 +1,13 @@
 -- Parts joined rank by rank.
-use Rattle.std.proofs.Common.{◌≡◌, ℕ, ◌+◌, ◌-◌, ◌*◌, ◌/◌, ◌<◌, ◌≤◌, List, [], ◌∷◌, ◌++◌, length, get_or, take, drop, slice_range, Some, refl, sym, ap, subst, ◌∙◌, ◌⊎◌, inl, inr, arith, length-append}
+use Rattle.std.proofs.Common.{◌≡◌, ℕ, ◌+◌, ◌-◌, ◌*◌, ◌/◌, ◌<◌, ◌≤◌, List, [], ◌∷◌, ◌++◌, length, get_or, drop, slice_range, Some, refl, inl, inr, arith}
 use mathlib.Core.Logic.{◌↔◌}
-use Rattle.std.specs.List.{Contains, AllPairs, slice_get}
+use Rattle.std.specs.List.{Contains, slice_get}
 use Rattle.std.proofs.Math.Seq.{take-add}
 use Rattle.std.proofs.Math.Nat.{div-mul-le_self, mul-div_cancel_left}
 use Rattle.std.proofs.lemmas.Nat.{le-div}
-use Rattle.std.proofs.lemmas.Bool.{cases_lt}
 use Rattle.std.proofs.lemmas.Bool.Decides.{nat_tests}
-use Rattle.std.proofs.lemmas.Option.{same_Some, get_or_from_slice_get, slice_get_within}
-use Rattle.std.proofs.lemmas.List.{get_or_append_left, get_or-append_right, drop-drop}
+use Rattle.std.proofs.lemmas.Option.{get_or_from_slice_get, slice_get_within}
+use Rattle.std.proofs.lemmas.List.{drop-drop}
 use Rattle.std.proofs.lemmas.List.Elements.{Contains-append_left, Contains-append_right, Contains-append_cases, Contains-get_or}
 use Rattle.grid_cells.specs.Grid.{Chart}
 use Rattle.plan_table.specs.Order.{ComesBefore, ListsAll, EachOf}
@@ -16,34 +15,22 @@ use Rattle.plan_table.specs.Path.{last_index}
 use Rattle.plan_table.specs.Plans.{row_of, agents_of, IsByAgent}
 use Rattle.plan_table.specs.declared.plans.Row.{Row}
 use Rattle.plan_table.proofs.Order.{Contains-nil}
+use Rattle.scene_edits.proofs.RowEdits.{AllPairs-append}
 use Rattle.plan_table.proofs.Fleets.{row_at_rank, row_here, rank_of}
-use Rattle.mapf_rules.specs.Visits.{IsVisit, IsBlocked, visit_key, AreVisits}
+use Rattle.mapf_rules.specs.Visits.{IsVisit, visit_key, AreVisits}
 use Rattle.mapf_rules.specs.VisitSearch.{AddsVisits}
 use Rattle.mapf_rules.specs.declared.visits.Visit.{Visit}
 use Rattle.desk_audit.specs.Parts.{IsRanked, IsVisitOf, edge}
+use Rattle.desk_audit.proofs.Finding.{widen, ranked_or, later_rank}
 
 -- agents rise with their ranks
 pub ranks_rise : (rows : List (ℕ × Row)) → IsByAgent rows → (i j a b : ℕ) → slice_get (agents_of rows) i ≡ Some a → slice_get (agents_of rows) j ≡ Some b → i < j → a < b
 ranks_rise rows by_agent i j a b at_i at_j lt =
     let left = row_at_rank rows by_agent i a at_i in
     let right = row_at_rank rows by_agent j b at_j in
-    let d : ℕ × Row = (a, left.0) in
-    let first : (get_or rows i d).0 ≡ a = ap (λ (e : ℕ × Row). e.0) (get_or_from_slice_get rows i (a, left.0) d left.2) in
-    let second : (get_or rows j d).0 ≡ b = ap (λ (e : ℕ × Row). e.0) (get_or_from_slice_get rows j (b, right.0) d right.2) in
-    omega (arith, by_agent i j d lt (slice_get_within rows j (b, right.0) right.2))
-
-widen : (rows : List (ℕ × Row)) (from at to agent : ℕ) → at ≤ to → IsRanked rows from at agent → IsRanked rows from to agent
-widen rows from at to agent le is = record { rank = is.rank; late = is.late; early = omega (arith, is.early); at = is.at }
-
--- whoever has a rank in one of two ranges that follow one another has it in the whole
-ranked_or : (rows : List (ℕ × Row)) (from at to agent : ℕ) → IsRanked rows from to agent → IsRanked rows from at agent ⊎ IsRanked rows at to agent
-ranked_or rows from at to agent is = elim (cases_lt is.rank at) [
-  | inl lower ↦ inl (record { rank = is.rank; late = is.late; early = lower; at = is.at })
-  | inr higher ↦ inr (record { rank = is.rank; late = higher; early = is.early; at = is.at })
-]
-
-later_rank : (rows : List (ℕ × Row)) (from at to agent : ℕ) → from ≤ at → IsRanked rows at to agent → IsRanked rows from to agent
-later_rank rows from at to agent le is = record { rank = is.rank; late = omega (arith, is.late); early = is.early; at = is.at }
+    let first = get_or_from_slice_get rows i (a, left.0) (a, left.0) left.2 in
+    let second = get_or_from_slice_get rows j (b, right.0) (a, left.0) right.2 in
+    grind (arith, by_agent i j (a, left.0) lt, first, second, slice_get_within rows j (b, right.0) right.2)
 
 module _ {X : Type 0} (rows : List (ℕ × Row)) (P : X → Type 0) (of : X → ℕ) (at to : ℕ) (le : at ≤ to) (xs ys : List X)
     (left : (x : X) → Contains xs x ↔ (P x × IsRanked rows 0 at (of x))) (right : (x : X) → Contains ys x ↔ (P x × IsRanked rows at to (of x))) where
@@ -59,32 +46,17 @@ module _ {X : Type 0} (rows : List (ℕ × Row)) (P : X → Type 0) (of : X → 
     ],
   )
 
--- lists whose elements come before one another, joined
-pub AllPairs-append : {X : Type 0} (R : X → X → Type 0) (xs ys : List X) → AllPairs R xs → AllPairs R ys → ((x y : X) → Contains xs x → Contains ys y → R x y) → AllPairs R (xs ++ ys)
-AllPairs-append R xs ys up vp across i j d lt within =
-    let long : length (xs ++ ys) ≡ length xs + length ys = length-append xs ys in
-    elim (cases_lt j (length xs)) [
-      | inl both ↦ rw (get_or_append_left xs ys d i (omega arith), get_or_append_left xs ys d j both) (up i j d lt both)
-      | inr j_right ↦
-          let second : get_or (xs ++ ys) j d ≡ get_or ys (j - length xs) d = get_or-append_right xs ys (length xs) j d refl j_right in
-          elim (cases_lt i (length xs)) [
-            | inl i_left ↦
-                rw (get_or_append_left xs ys d i i_left, second) (across _ _ (Contains-get_or xs i d i_left) (Contains-get_or ys (j - length xs) d (omega arith)))
-            | inr i_right ↦
-                let first : get_or (xs ++ ys) i d ≡ get_or ys (i - length xs) d = get_or-append_right xs ys (length xs) i d refl i_right in
-                rw (first, second) (vp (i - length xs) (j - length xs) d (omega arith) (omega arith))
-          ]
-    ]
-
 visit_before : (a b : Visit) → a.agent < b.agent → ComesBefore (visit_key a) (visit_key b)
 visit_before a b lt = grind (arith, nat_tests)
 
 pub visits_joined : (grid : Chart) (rows : List (ℕ × Row)) → IsByAgent rows → (at to : ℕ) → at ≤ to → (xs ys : List Visit) → ListsAll visit_key (IsVisitOf grid rows 0 at) xs → ListsAll visit_key (IsVisitOf grid rows at to) ys → ListsAll visit_key (IsVisitOf grid rows 0 to) (xs ++ ys)
 visits_joined grid rows by_agent at to le xs ys left right = record {
   ascending = AllPairs-append (λ (a b : Visit). ComesBefore (visit_key a) (visit_key b)) xs ys left.ascending right.ascending
-      (λ x y in_xs in_ys.
-      let lower = ((left.exact x).0 in_xs).1 in
-      let higher = ((right.exact y).0 in_ys).1 in
+      (λ i d in_xs j e in_ys.
+      let x = get_or xs i d in
+      let y = get_or ys j e in
+      let lower = ((left.exact x).0 (Contains-get_or xs i d in_xs)).1 in
+      let higher = ((right.exact y).0 (Contains-get_or ys j e in_ys)).1 in
       visit_before x y (ranks_rise rows by_agent lower.rank higher.rank x.agent y.agent lower.at higher.at (omega (arith, lower.early, higher.late))));
   exact = joined rows (IsVisit grid rows) (λ (v : Visit). v.agent) at to le xs ys left.exact right.exact;
 }
@@ -108,23 +80,15 @@ module _ (grid : Chart) (rows : List (ℕ × Row)) (by_agent : IsByAgent rows) (
         | inl in_old ↦ let is = (lists.exact visit).0 in_old in (is.0, widen rows from rank (rank + 1) visit.agent (omega arith) is.1)
         | inr is ↦ (record { row = row; live = rw is.same_agent here.0; blocked = is.blocked }, record { rank = rank; late = le; early = omega arith; at = rw is.same_agent here.1 })
       ],
-      λ h. elim (cases_lt h.1.rank rank) [
-        | inl lower ↦ adds.keeps visit ((lists.exact visit).1 (h.0, record { rank = h.1.rank; late = h.1.late; early = lower; at = h.1.at }))
-        | inr higher ↦
-            let same : h.1.rank ≡ rank = omega (arith, h.1.early) in
-            let whose : visit.agent ≡ agent = same_Some visit.agent agent (sym h.1.at ∙ ap (slice_get (agents_of rows)) same ∙ here.1) in
-            let rows_same : h.0.row ≡ row = same_Some h.0.row row (sym h.0.live ∙ ap (row_of rows) whose ∙ here.0) in
-            let blocked : IsBlocked grid row.plan visit.time visit.cell = subst (λ (r : Row). IsBlocked grid r.plan visit.time visit.cell) rows_same h.0.blocked in
-            adds.has visit (record { same_agent = whose; late = omega arith; early = omega (arith, blocked.on_path); blocked = blocked })
+      λ h. elim (ranked_or rows from rank (rank + 1) visit.agent h.1) [
+        | inl lower ↦ adds.keeps visit ((lists.exact visit).1 (h.0, lower))
+        | inr is ↦ adds.has visit (grind (arith, here, is, h.0))
       ],
     );
   }
 
 pub visits_none : (grid : Chart) (rows : List (ℕ × Row)) (from : ℕ) → ListsAll visit_key (IsVisitOf grid rows from from) []
-visits_none grid rows from = record {
-  ascending = λ i j d lt within. absurd (omega arith);
-  exact = λ visit. (λ h. absurd (Contains-nil visit h), λ h. absurd (omega (arith, h.1.late, h.1.early)));
-}
+visits_none grid rows from = grind (arith, Contains-nil)
 
 -- all ranks are every agent's
 pub rank_in_all : (rows : List (ℕ × Row)) (agent : ℕ) → Rattle.std.specs.Prelude.IsSome (row_of rows agent) → IsRanked rows 0 (length rows) agent
@@ -143,11 +107,7 @@ EachOf-append R (x ∷ xs) us [] vs each more = absurd each
 EachOf-append R (x ∷ xs) us (y ∷ ys) vs each more = (each.0, EachOf-append R xs us ys vs each.1 more)
 
 pub range_step : {X : Type 0} (xs : List X) (from at to : ℕ) → from ≤ at → at ≤ to → slice_range xs from at ++ slice_range xs at to ≡ slice_range xs from to
-range_step xs from at to le le' =
-    let whole : (at - from) + (to - at) ≡ to - from = omega arith in
-    let start : from + (at - from) ≡ at = omega arith in
-    let rest : drop (at - from) (drop from xs) ≡ drop at xs = drop-drop (at - from) from xs ∙ ap (λ n. drop n xs) start in
-    ap (λ l. take (at - from) (drop from xs) ++ take (to - at) l) (sym rest) ∙ sym (take-add (at - from) (to - at) (drop from xs)) ∙ ap (λ n. take n (drop from xs)) whole
+range_step xs from at to le le' = grind (arith, drop-drop (at - from) from xs, take-add (at - from) (to - at) (drop from xs))
 
 pub edge-grows : (n w k : ℕ) → 0 < w → edge n w k ≤ edge n w (k + 1)
 edge-grows n w k some = le-div (k * n / w) ((k + 1) * n) w some (omega (arith, div-mul-le_self (k * n) w))

@@ -1,12 +1,10 @@
 -- Whom an entry names beside the agent that it names first, and where that one is.
-use Rattle.std.proofs.Common.{◌≡◌, ◌≢◌, ℕ, ◌+◌, ◌<◌, ◌≤◌, List, length, Option, Some, refl, sym, ap, subst, ◌∙◌, ◌⊎◌, inl, inr, arith}
+use Rattle.std.proofs.Common.{◌≡◌, ◌≢◌, ℕ, ◌+◌, ◌<◌, ◌≤◌, List, length, Option, Some, refl, sym, ◌∙◌, ◌⊎◌, inl, inr, arith}
 use Rattle.std.specs.List.{Contains}
-use Rattle.std.proofs.lemmas.Bool.{cases_lt}
 use Rattle.std.proofs.lemmas.Option.{same_Some}
 use Rattle.grid_cells.specs.Cell.{Point}
 use Rattle.plan_table.specs.Route.{Fleet, position_of, last_of, Leaves}
 use Rattle.plan_table.proofs.Fleets.{changes_early, leaver_early, position_rests}
-use Rattle.mapf_rules.specs.Entries.{both_end_by}
 use Rattle.mapf_rules.specs.ConflictList.{Stands}
 use Rattle.mapf_rules.specs.Naming.{IsOfPair}
 use Rattle.mapf_rules.specs.declared.entries.Conflict.{Conflict}
@@ -50,87 +48,44 @@ pub moves_early : (fleet : Fleet) (time agent : ℕ) (entry : Conflict) → Move
 moves_early fleet time agent entry on = changes_early fleet agent time (λ same. on.moves (same ∙ on.to))
 
 changed : (fleet : Fleet) (time agent : ℕ) (cell next : Point) → position_of fleet agent time ≡ Some cell → position_of fleet agent (time + 1) ≡ Some next → cell ≢ next → time ≤ last_of fleet agent
-changed fleet time agent cell next from to differs = changes_early fleet agent time (λ same. differs (same_Some cell next (sym from ∙ same ∙ to)))
+changed fleet time agent cell next from to differs = changes_early fleet agent time (λ same. grind arith)
 
 -- two that meet are not both past the ends of their paths
 pub meets_early : (fleet : Fleet) (entry : Conflict) (time first second : ℕ) → Stands fleet entry → IsOfPair entry time first second → last_of fleet first < time → last_of fleet second < time → ⊥
-meets_early fleet (Vertex x a b c) time first second is of late_a late_b = by_passing is.passes
-  where
-    by_passing : (x < both_end_by fleet a b) ⊎ (Leaves fleet a ⊎ Leaves fleet b) → ⊥
-    by_passing (inl moving) =
-        let la : last_of fleet a < x = rw (of.0, of.1) late_a in
-        let lb : last_of fleet b < x = rw (of.0, of.2) late_b in
-        omega (arith, moving, la, lb)
-    by_passing (inr (inl leaves)) =
-        let early = leaver_early fleet a x c leaves is.first_there in
-        let la : last_of fleet a < x = rw (of.0, of.1) late_a in
-        omega arith
-    by_passing (inr (inr leaves)) =
-        let early = leaver_early fleet b x c leaves is.second_there in
-        let lb : last_of fleet b < x = rw (of.0, of.2) late_b in
-        omega arith
-meets_early fleet (Parked x a b c) time first second is of late_a late_b =
-    let la : last_of fleet a < x = rw (of.0, of.1) late_a in
-    let lb : last_of fleet b < x = rw (of.0, of.2) late_b in
-    omega (arith, is.rests, la, lb)
-meets_early fleet (Edge x a b c n) time first second is of late_a late_b =
-    let la : last_of fleet a < x = rw (of.0, of.1) late_a in
-    let early = changed fleet x a c n is.first_from is.first_to is.moves in
-    omega arith
-meets_early fleet (Following x a b c) time first second is of late_a late_b =
-    let la : last_of fleet a < x = rw (of.0, of.1) late_a in
-    let early = changes_early fleet a x (λ same. is.moves (same ∙ is.follower_to)) in
-    omega arith
-meets_early fleet (Swapping x a b c n) time first second is of late_a late_b =
-    let la : last_of fleet a < x = rw (of.0, of.1) late_a in
-    let early = changed fleet x a c n is.first_from is.first_to is.moves in
-    omega arith
+meets_early fleet (Vertex x a b c) time first second is of late_a late_b = grind (arith, leaver_early fleet a x c, leaver_early fleet b x c)
+meets_early fleet (Parked x a b c) time first second is of late_a late_b = grind arith
+meets_early fleet (Edge x a b c n) time first second is of late_a late_b = grind (arith, changed fleet x a c n is.first_from is.first_to is.moves)
+meets_early fleet (Following x a b c) time first second is of late_a late_b = grind (arith, changes_early fleet a x (λ same. is.moves (same ∙ is.follower_to)))
+meets_early fleet (Swapping x a b c n) time first second is of late_a late_b = grind (arith, changed fleet x a c n is.first_from is.first_to is.moves)
 meets_early fleet (Cycle x r) time first second is of late_a late_b = absurd of
 
 -- an entry of the step is of one that is met where the agent is, or of one that is in the cell ahead
 pub step_splits : (fleet : Fleet) (time agent : ℕ) (here : Point) (ahead : Option Point) (met : List Pass) → position_of fleet agent time ≡ Some here → IsAhead fleet agent time here ahead → HasMet fleet time here agent met
     → (entry : Conflict) → Stands fleet entry → (time_of entry ≡ time) × (first_agent entry ≡ agent) → IsOfMet time agent met entry ⊎ ((cell : Point) × (ahead ≡ Some cell) × Leads fleet time agent cell entry)
-step_splits fleet time agent here ahead met at goes has entry stands named =
-    by_case (subst (λ a. Meets fleet time a entry ⊎ MovesOn fleet time a entry) named.1 (subst (λ t. Meets fleet t (first_agent entry) entry ⊎ MovesOn fleet t (first_agent entry) entry) named.0 (meets_or_moves fleet entry stands)))
-  where
-    by_case : Meets fleet time agent entry ⊎ MovesOn fleet time agent entry → IsOfMet time agent met entry ⊎ ((cell : Point) × (ahead ≡ Some cell) × Leads fleet time agent cell entry)
-    by_case (inl meets) =
-        let cells : meets.cell ≡ here = same_Some meets.cell here (sym meets.here ∙ at) in
-        let found = has meets.other meets.apart (rw (← cells) meets.there) in
-        inl (record { other = found.0; listed = found.3; early = found.2; of = rw found.1 meets.of })
-    by_case (inr on) = inr (on.cell, goes on.cell on.to (λ same. on.moves (at ∙ ap Some (sym same))), on.leads)
+step_splits fleet time agent here ahead met at goes has entry stands named = elim (rw (named.0, named.1) at (meets_or_moves fleet entry stands)) [
+  | inl meets ↦
+      let found = has meets.other meets.apart (grind arith) in
+      inl (record { other = found.0; listed = found.3; early = found.2; of = rw found.1 meets.of })
+  | inr on ↦ inr (on.cell, goes on.cell on.to (grind arith), on.leads)
+]
 
 pub leads_splits : (fleet : Fleet) (time agent : ℕ) (cell : Point) (met : List Pass) → HasMet fleet time cell agent met → (entry : Conflict) → Leads fleet time agent cell entry → IsOfMet time agent met entry ⊎ IsRingFrom time agent entry
-leads_splits fleet time agent cell met has entry leads =
-    let found = has leads.other leads.apart leads.there in
-    elim leads.of [
-      | inl pair ↦ inl (record { other = found.0; listed = found.3; early = found.2; of = rw found.1 pair })
-      | inr ring ↦ inr ring
-    ]
+leads_splits fleet time agent cell met has entry leads = let found = has leads.other leads.apart leads.there in grind (arith, found, leads.of)
 
 pub leads_some : (fleet : Fleet) (time agent : ℕ) (cell : Point) (met : List Pass) → HasMet fleet time cell agent met → (entry : Conflict) → Leads fleet time agent cell entry → 0 < length met
-leads_some fleet time agent cell met has entry leads =
-    let found = has leads.other leads.apart leads.there in
-    omega (arith, found.3.1)
+leads_some fleet time agent cell met has entry leads = omega (arith, (has leads.other leads.apart leads.there).3.1)
 
 -- an entry of a time after the agent's path has ended is of one that passes by
 pub late_splits : (fleet : Fleet) (index : Sightings) (end agent : ℕ) (cell : Point) (passes : List Pass) → IsIndexOf fleet index → end ≡ last_of fleet agent → position_of fleet agent end ≡ Some cell
     → ((pass : Pass) → Files index.passes cell 0 pass → pass.agent ≢ agent → Contains passes pass)
     → (entry : Conflict) → Stands fleet entry → (end < time_of entry) × (first_agent entry ≡ agent) → IsOfPassed fleet end agent passes entry
-late_splits fleet index end agent cell passes is end_is at has entry stands named =
-    by_case (subst (λ a. Meets fleet (time_of entry) a entry ⊎ MovesOn fleet (time_of entry) a entry) named.1 (meets_or_moves fleet entry stands))
-  where
-    by_case : Meets fleet (time_of entry) agent entry ⊎ MovesOn fleet (time_of entry) agent entry → IsOfPassed fleet end agent passes entry
-    by_case (inr on) = let early = moves_early fleet (time_of entry) agent entry on in absurd (omega (arith, named.0))
-    by_case (inl meets) =
-        let late : last_of fleet agent < time_of entry = omega (arith, named.0) in
-        let stays : Leaves fleet agent → ⊥ = λ leaves. let early = leaver_early fleet agent (time_of entry) meets.cell leaves meets.here in omega arith in
-        let cells : meets.cell ≡ cell = same_Some meets.cell cell (sym meets.here ∙ position_rests fleet agent end (time_of entry) stays (omega (arith, end_is)) (omega (arith, named.0)) ∙ at) in
-        let there : position_of fleet meets.other (time_of entry) ≡ Some cell = rw (← cells) meets.there in
-        let resting : position_of fleet agent (time_of entry) ≡ Some cell = rw (← cells) meets.here in
-        let early : time_of entry ≤ last_of fleet meets.other = elim (cases_lt (last_of fleet meets.other) (time_of entry)) [
-          | inl both ↦ absurd (meets_early fleet entry (time_of entry) agent meets.other stands meets.of late both)
-          | inr on ↦ on
-        ] in
-        let filed = is.passes meets.other agent (time_of entry) cell (early, there) (late, resting) in
-        record { other = pass (time_of entry) meets.other; listed = has (pass (time_of entry) meets.other) filed meets.apart; later = named.0; on_path = early; of = meets.of }
+late_splits fleet index end agent cell passes is end_is at has entry stands named = elim (rw named.1 at (meets_or_moves fleet entry stands)) [
+  | inr on ↦ absurd (omega (arith, named.0, moves_early fleet (time_of entry) agent entry on))
+  | inl meets ↦
+      let late : last_of fleet agent < time_of entry = omega (arith, named.0) in
+      let stays : Leaves fleet agent → ⊥ = λ leaves. omega (arith, leaver_early fleet agent (time_of entry) meets.cell leaves meets.here) in
+      let rests = position_rests fleet agent end (time_of entry) stays (omega (arith, end_is)) (omega (arith, named.0)) in
+      let early : time_of entry ≤ last_of fleet meets.other = grind (arith, meets_early fleet entry (time_of entry) agent meets.other stands meets.of) in
+      let filed = is.passes meets.other agent (time_of entry) cell (early, grind arith) (late, rests ∙ at) in
+      record { other = pass (time_of entry) meets.other; listed = has _ filed meets.apart; later = named.0; on_path = early; of = meets.of }
+]

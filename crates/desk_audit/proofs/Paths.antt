@@ -1,7 +1,6 @@
 -- Paths, filed place by place and agent by agent.
-use Rattle.std.proofs.Common.{◌≡◌, ℕ, ◌+◌, ◌<◌, List, Some, sym, ap, subst, ◌∙◌, inl, inr, arith}
+use Rattle.std.proofs.Common.{◌≡◌, ℕ, ◌+◌, ◌<◌, List, Some, sym, ◌∙◌, inl, inr, arith}
 use Rattle.std.proofs.lemmas.Bool.{cases_lt}
-use Rattle.std.proofs.lemmas.Option.{same_Some}
 use Rattle.grid_cells.specs.Cell.{Point}
 use Rattle.plan_table.specs.Path.{last_index, place}
 use Rattle.plan_table.specs.Plans.{row_of}
@@ -24,8 +23,8 @@ seen_more table new agent time path cell number Due keeps at before here t c lt 
       | inl lower ↦ keeps c (number t) (pass t agent) (before t c lower there due)
       | inr higher ↦
           let same : t ≡ time = omega arith in
-          let cells : cell ≡ c = same_Some cell c (sym at ∙ ap (place path) (sym same) ∙ there) in
-          rw (same, ← cells) (here (subst Due same due))
+          let cells : cell ≡ c = grind arith in
+          rw (same, ← cells) (here (rw same at due))
     ]
 
 pub keeps_path : (moments moments' passes passes' : Table) (agent : ℕ) (path : List Point) (first_rest : ℕ) → KeepsFiled moments moments' → KeepsFiled passes passes' → HasPath moments passes agent path first_rest → HasPath moments' passes' agent path first_rest
@@ -59,6 +58,5 @@ pub rest_filed : (mode : Mode) (rows : List (ℕ × Row)) (agent last : ℕ) (ro
     → (time : ℕ) (cell : Point) → IsAtRest (tracks_of mode rows) agent time cell → Files table cell 0 (pass (last_of (tracks_of mode rows) agent) agent)
 rest_filed mode rows agent last row table here live is_last at filed time cell is =
     let end : last_of (tracks_of mode rows) agent ≡ last = last_of_row mode rows agent row live ∙ sym is_last in
-    let there : place row.plan last ≡ Some cell = ap (place row.plan) is_last ∙ rests_at_last mode rows agent time cell row live is in
-    let cells : here ≡ cell = same_Some here cell (sym at ∙ there) in
+    let cells : here ≡ cell = grind (arith, rests_at_last mode rows agent time cell row live is) in
     rw (end, ← cells) filed

@@ -1,7 +1,6 @@
 -- The one agent that moves out of a cell, found along a chain.
-use Rattle.std.proofs.Common.{◌≡◌, ◌≢◌, ℕ, get_or, Some, None, Option, refl, sym, subst, ◌∙◌}
+use Rattle.std.proofs.Common.{◌≡◌, ◌≢◌, ℕ, Some, None, Option, refl, sym, ◌∙◌, arith}
 use Rattle.std.specs.Prelude.{IfSome}
-use Rattle.std.proofs.lemmas.Option.{same_Some}
 use Rattle.grid_cells.specs.Cell.{Point}
 use Rattle.plan_table.specs.Route.{Fleet}
 use Rattle.plan_table.proofs.Fleets.{changes_early}
@@ -26,15 +25,14 @@ module _ (fleet : Fleet) (index : Sightings) (time : ℕ) (cell : Point) (found 
   -- whoever moves out of the cell is the agent that was found
   pub all_found : (agent : ℕ) → MovesOut fleet time agent cell → found ≡ Some agent
   all_found agent out =
-      let early = changes_early fleet agent time (λ same. out.moves (sym same ∙ out.from)) in
-      let filed = is.moments agent time cell (early, out.from) in
+      let filed = is.moments agent time cell (changes_early fleet agent time (λ same. out.moves (sym same ∙ out.from)), out.from) in
       let slot : Slot = record { cell = cell; number = time; pass = pass time agent; before = filed.0 } in
-      let tells : Tells fleet time cell found (get_or index.moments.slots.items filed.1.0 slot) = walk_over index.moments _ (Tells fleet time cell found) walk (tells_others fleet index.moments time cell found) filed.1.0 slot filed.1.1 in
-      subst (Tells fleet time cell found) filed.1.2 tells refl refl out
+      (rw filed.1.2 at (walk_over index.moments _ (Tells fleet time cell found) walk
+      (tells_others fleet index.moments time cell found) filed.1.0 slot filed.1.1)) refl refl out
 
   pub sole_found : IfSome found (λ a. MovesOut fleet time a cell) → IfSome found (IsSoleMover fleet time cell)
   sole_found moves = by_found found refl moves
     where
       by_found : (o : Option ℕ) → found ≡ o → IfSome o (λ a. MovesOut fleet time a cell) → IfSome o (IsSoleMover fleet time cell)
       by_found None e moves = tt
-      by_found (Some agent) e moves = record { moves = moves; only = λ other out. sym (same_Some agent other (sym e ∙ all_found other out)) }
+      by_found (Some agent) e moves = record { moves = moves; only = λ other out. grind (arith, all_found other out) }

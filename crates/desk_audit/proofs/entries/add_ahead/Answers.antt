@@ -1,7 +1,7 @@
-use Rattle.std.proofs.Common.{◌<◌, length, sym, subst, arith}
+use Rattle.std.proofs.Common.{sym, arith}
 use Rattle.std.proofs.lemmas.Bool.{eqb-true}
 use Rattle.plan_table.specs.Route.{tracks_of}
-use Rattle.desk_audit.specs.Seeking.{IsOfMet, IsRingFrom, Leads, HasMet}
+use Rattle.desk_audit.specs.Seeking.{Leads}
 use Rattle.desk_audit.proofs.Finding.{finds_then, finds_none}
 use Rattle.desk_audit.proofs.Near.{leads_splits, leads_some}
 use Rattle.desk_audit.proofs.entries.add_ahead.Goals as goal
@@ -12,11 +12,13 @@ returns c =
     let fleet = tracks_of c.args.mode c.args.plans.now.rows in
     elim c.if-not-is_empty.branch [
       | then-not-is_empty+in_ok-add_met+in_ok-add_ring w ↦
-          let has : HasMet fleet c.args.time c.args.cell c.args.agent w.deref.result.now = subst (HasMet fleet c.args.time c.args.cell c.args.agent) (sym w.deref.ensures.value) c.in_ok-leaders.ensures in
-          rw w.entries-is (finds_then fleet c.args.agent _ _ _ (IsOfMet c.args.time c.args.agent w.deref.result.now) (IsRingFrom c.args.time c.args.agent) (Leads fleet c.args.time c.args.agent c.args.cell)
-          w.in_ok-add_met.ensures w.in_ok-add_ring.ensures (λ e stands leads. leads_splits fleet c.args.time c.args.agent c.args.cell w.deref.result.now has e leads))
+          rw w.entries-is (finds_then fleet c.args.agent _ _ _ _ _
+          (Leads fleet c.args.time c.args.agent c.args.cell) w.in_ok-add_met.ensures w.in_ok-add_ring.ensures
+          (λ e stands leads. leads_splits fleet c.args.time c.args.agent c.args.cell w.deref.result.now
+          (rw w.deref.ensures.value c.in_ok-leaders.ensures) e leads))
       | else-not-is_empty w ↦
           rw w.entries-is (finds_none fleet c.args.agent c.args.entries.now.items (Leads fleet c.args.time c.args.agent c.args.cell)
-          (λ e stands leads. let some : 0 < length c.in_ok-leaders.leaders.items = leads_some fleet c.args.time c.args.agent c.args.cell c.in_ok-leaders.leaders.items c.in_ok-leaders.ensures e leads in
-          let wrong = eqb-true _ _ (sym (w.if-not-is_empty.ensures)) in omega (arith, c.in_ok-leaders.leaders.ok)))
+          (λ e stands leads.
+          let some = leads_some fleet c.args.time c.args.agent c.args.cell c.in_ok-leaders.leaders.items c.in_ok-leaders.ensures e leads in
+          omega (arith, eqb-true _ _ (sym (w.if-not-is_empty.ensures)), c.in_ok-leaders.leaders.ok)))
     ]

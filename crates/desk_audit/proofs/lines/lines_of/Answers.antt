@@ -1,16 +1,9 @@
-use Rattle.std.proofs.Common.{◌≡◌, ℕ, ◌∙◌, arith}
+use Rattle.std.proofs.Common.{ℕ, ◌∙◌, arith}
 use Rattle.plan_table.specs.declared.plans.Row.{Row}
 use Rattle.plan_table.proofs.Order.{EachOf-push}
 use Rattle.desk_report.specs.Report.{IsLine}
-use Rattle.desk_audit.proofs.Bounding.{bounds_none, range_push, range_none}
+use Rattle.desk_audit.proofs.Bounding.{range_push}
 use Rattle.desk_audit.proofs.lines.lines_of.Goals as goal
-
-pub loop-rank-init : goal.loop-rank-init
-loop-rank-init c = record {
-  long = c.in_ok-bounds.ensures.len;
-  bounds = bounds_none c.args.grid.now c.args.plans.now.rows c.args.from c.in_ok-bounds.bounds.items c.in_ok-bounds.ensures.none;
-  lines = rw (c.new-lines.ensures.items, range_none c.args.plans.now.rows c.args.from) tt;
-}
 
 pub loop-rank-preserved : goal.loop-rank-preserved
 loop-rank-preserved c =
@@ -21,8 +14,3 @@ loop-rank-preserved c =
       lines = rw (c.in_ok-push.ensures.items, range_push c.args.plans.now.rows c.args.from c.loop-rank.rank entry (omega arith) c.entry_at-entry.ensures)
           (EachOf-push (IsLine c.args.grid.now) _ _ entry c.line.result c.loop-rank.invariant.lines (c.line.ensures (c.in_ok-bound.ensures.bound entry c.entry_at-entry.ensures)));
     }
-
-pub returns : goal.returns
-returns c =
-    let end : c.loop-rank.rank ≡ c.args.to = omega arith in
-    rw (← end) c.loop-rank.invariant.lines

@@ -1,10 +1,7 @@
 use Rattle.std.proofs.Common.{◌≡◌, arith}
 use Rattle.plan_table.proofs.Fleets.{row_here}
-use Rattle.desk_audit.proofs.Merging.{visits_none, visits_below, visits_added}
+use Rattle.desk_audit.proofs.Merging.{visits_below, visits_added}
 use Rattle.desk_audit.proofs.visits.visits_of.Goals as goal
-
-pub loop-rank-init : goal.loop-rank-init
-loop-rank-init c = rw c.new-visits.ensures.items (visits_none c.args.grid.now c.args.plans.now.rows c.args.from)
 
 pub add_visits-requires-clause-below : goal.add_visits-requires-clause-below
 add_visits-requires-clause-below c =
