@@ -1,5 +1,5 @@
 -- The order of aims.
-use Rattle.std.proofs.Common.{◌≡◌, ◌≤◌, ◌<◌, ◌⊎◌, ℕ, List, [], ◌∷◌, Option, Some, None, Bool, true, false, IsTrue, Bor, Contains, refl, sym, ap, ◌∙◌, subst, arith, inl, inr}
+use Rattle.std.proofs.Common.{◌≡◌, ◌≤◌, ◌<◌, ◌⊎◌, ℕ, List, [], ◌∷◌, Option, Some, None, Bool, true, false, IsTrue, Bor, Contains, refl, sym, ap, ◌∙◌, subst, arith}
 use mathlib.Core.Logic.{◌↔◌}
 use Rattle.std.specs.BTreeSet as sorted
 use Rattle.std.specs.BTreeSet.{BTreeSet}
@@ -9,13 +9,13 @@ use Rattle.std.specs.Cmp.{IsTotalOrder}
 use Rattle.std.specs.BTreeMap.Range.{IsLeBy, IsInRange}
 use Rattle.std.specs.Ordering.{nat_cmp, ordering_then, is_gt}
 use Rattle.std.specs.declared.cmp.Ordering.{Ordering}
-use Rattle.std.specs.declared.cmp.Ordering.TheVariants.{Less, Equal, Greater}
 use Rattle.std.specs.declared.ops.Bound.TheVariants.{Included}
-use Rattle.std.proofs.lemmas.Map.Lookups.{CmpEqualImpliesEq, exact_unsigned}
+use Rattle.std.proofs.lemmas.Map.Lookups.{CmpEqualImpliesEq}
 use Rattle.std.proofs.lemmas.Map.Views.{btree_set_contains_iff}
 use Rattle.std.proofs.lemmas.Bool.Decides.{nat_tests}
-use Rattle.std.proofs.lemmas.Cmp.{nat_cmp_total, on_total, then_total, tied_itself}
-use Rattle.where_index.proofs.SpotOrder.{then_equal, from_lt, from_eq, cases3}
+use Rattle.std.proofs.lemmas.Cmp.{nat_cmp_total, on_total, then_total}
+use Rattle.std.proofs.lemmas.Grind.{common_steps}
+use Rattle.std.proofs.lemmas.Option.{gets}
 use Rattle.grid_cells.specs.Cell.{Point}
 use Rattle.grid_cells.specs.declared.numbers.TheConstants.{MOST_AGENT}
 use Rattle.desk_books.specs.Aims.{aim, aim_cmp, HaveAgents, IsAimedAt, HasBetween}
@@ -25,61 +25,23 @@ pub aim_total : IsTotalOrder aim_cmp
 aim_total = then_total (then_total (on_total (λ (a : Aim). a.goal.y) nat_cmp_total) (on_total (λ (a : Aim). a.goal.x) nat_cmp_total)) (on_total (λ (a : Aim). a.agent) nat_cmp_total)
 
 pub aim_exact : CmpEqualImpliesEq aim_cmp
-aim_exact a b e =
-    let halves = then_equal _ _ e in
-    let cells = then_equal _ _ halves.0 in
-    let ys : a.goal.y ≡ b.goal.y = exact_unsigned _ _ cells.0 in
-    let xs : a.goal.x ≡ b.goal.x = exact_unsigned _ _ cells.1 in
-    let agents : a.agent ≡ b.agent = exact_unsigned _ _ halves.1 in
-    λ i. record { goal = record { x = xs i; y = ys i }; agent = agents i }
+aim_exact a b e = grind (arith, nat_tests, common_steps, gets)
 
 -- ---- aims between two bounds
 -- one place of a comparison
 place_le : (a b : ℕ) (o : Ordering) → is_gt (ordering_then (nat_cmp a b) o) ≡ false → (a < b) ⊎ ((a ≡ b) × (is_gt o ≡ false))
-place_le a b o e = elim (cases3 (nat_cmp a b)) [
-  | inl lt ↦ inl (from_lt a b lt)
-  | inr more ↦ elim more [
-    | inl same ↦ inr (from_eq a b same, subst (λ v. is_gt (ordering_then v o) ≡ false) same e)
-    | inr gt ↦ let wrong : true ≡ false = subst (λ v. is_gt (ordering_then v o) ≡ false) gt e in absurd (cc)
-  ]
-]
-
--- three places of a comparison
-le_places : (y v x u n m : ℕ) → is_gt (ordering_then (ordering_then (nat_cmp y v) (nat_cmp x u)) (nat_cmp n m)) ≡ false → (y < v) ⊎ ((y ≡ v) × (x ≤ u))
-le_places y v x u n m e =
-    elim (place_le y v (ordering_then (nat_cmp x u) (nat_cmp n m)) (subst (λ o. is_gt o ≡ false) (assoc (nat_cmp y v) (nat_cmp x u) (nat_cmp n m)) e)) [
-      | inl lt ↦ inl lt
-      | inr more ↦ elim (place_le x u (nat_cmp n m) more.1) [
-        | inl lt ↦ inr (more.0, omega arith)
-        | inr same ↦ inr (more.0, omega arith)
-      ]
-    ]
-  where
-    assoc : (a b c : Ordering) → ordering_then (ordering_then a b) c ≡ ordering_then a (ordering_then b c)
-    assoc Less b c = refl
-    assoc Equal b c = refl
-    assoc Greater b c = refl
+place_le a b o e = grind (arith, nat_tests, common_steps, gets)
 
 same_goal : (y v x u : ℕ) → ((y < v) ⊎ ((y ≡ v) × (x ≤ u))) → ((v < y) ⊎ ((v ≡ y) × (u ≤ x))) → (v ≡ y) × (u ≡ x)
-same_goal y v x u low high = elim low [
-  | inl a ↦ elim high [ inl b ↦ absurd (omega arith) | inr b ↦ absurd (omega arith) ]
-  | inr a ↦ elim high [ inl b ↦ absurd (omega arith) | inr b ↦ (b.0, omega arith) ]
-]
+same_goal y v x u low high = grind (arith, nat_tests, common_steps, gets)
 
 -- what stands between two aims at a goal is an aim at it
 between_goal : (goal : Point) (least most : ℕ) (a : Aim) → IsInRange aim_cmp (Included (aim goal least)) (Included (aim goal most)) a → a.goal ≡ goal
-between_goal goal least most a inside =
-    let same = same_goal goal.y a.goal.y goal.x a.goal.x (le_places goal.y a.goal.y goal.x a.goal.x least a.agent inside.0) (le_places a.goal.y goal.y a.goal.x goal.x a.agent most inside.1) in
-    let ys : a.goal.y ≡ goal.y = same.0 in
-    let xs : a.goal.x ≡ goal.x = same.1 in
-    λ i. record { x = xs i; y = ys i }
+between_goal goal least most a inside = grind (arith, nat_tests, common_steps, gets)
 
 -- aims at one goal compare by their agents
 same_goal_cmp : (goal : Point) (n m : ℕ) → aim_cmp (aim goal n) (aim goal m) ≡ nat_cmp n m
-same_goal_cmp goal n m =
-    let ys : nat_cmp goal.y goal.y ≡ Equal = tied_itself nat_cmp_total goal.y in
-    let xs : nat_cmp goal.x goal.x ≡ Equal = tied_itself nat_cmp_total goal.x in
-    ap (λ o. ordering_then (ordering_then o (nat_cmp goal.x goal.x)) (nat_cmp n m)) ys ∙ ap (λ o. ordering_then o (nat_cmp n m)) xs
+same_goal_cmp goal n m = grind (arith, nat_tests, common_steps, gets)
 
 not_greater : (n m : ℕ) → n ≤ m → is_gt (nat_cmp n m) ≡ false
 not_greater n m h = grind (arith, nat_tests)

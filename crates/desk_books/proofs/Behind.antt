@@ -1,5 +1,8 @@
 -- From a scene to the one that edits make of it.
-use Rattle.std.proofs.Common.{◌≡◌, ℕ, List, sym, ap, subst, ◌∙◌}
+use Rattle.std.proofs.Common.{◌≡◌, ℕ, List, sym, ap, subst, ◌∙◌, arith}
+use Rattle.std.proofs.lemmas.Bool.Decides.{nat_tests}
+use Rattle.std.proofs.lemmas.Grind.{common_steps}
+use Rattle.std.proofs.lemmas.Option.{gets}
 use Rattle.grid_cells.specs.Cell.{Point}
 use Rattle.goal_fields.specs.Target.{Covers}
 use Rattle.plan_table.specs.Plans.{row_of}
@@ -30,10 +33,4 @@ module _ (before scene : SceneState) (changes : List Change) (changed : ChangedB
   flips_cover cells flips = subst (λ (s : SceneState). Covers cells before.grid s.grid) (sym changed.made) flips.differ
 
   pub formers_left : (rows : List (ℕ × Row)) (formers : List Former) → rows ≡ scene.rows → AreFormers before.rows rows formers → AreLeft (row_of before.rows) (row_of scene.rows) formers
-  formers_left rows formers same are =
-      record {
-        rising = are.rising;
-        was = are.was;
-        alike = λ former there. rw same at (are.alike former there);
-        others = λ agent none. are.others agent none ∙ ap (λ (r : List (ℕ × Row)). row_of r agent) same;
-      }
+  formers_left rows formers same are = grind (arith, nat_tests, common_steps, gets)

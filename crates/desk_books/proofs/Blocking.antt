@@ -4,7 +4,8 @@ use Rattle.std.specs.Prelude.{◌↔◌, IsTrue, not}
 use Rattle.std.specs.List.{slice_get, Contains}
 use Rattle.std.proofs.lemmas.Bool.{cases_lt, false≢true}
 use Rattle.std.proofs.lemmas.Bool.Decides.{nat_tests}
-use Rattle.std.proofs.lemmas.Option.{same_Some, slice_get_within, slice_get-get_or, get_or_from_slice_get}
+use Rattle.std.proofs.lemmas.Option.{same_Some, slice_get_within, slice_get-get_or, get_or_from_slice_get, gets}
+use Rattle.std.proofs.lemmas.Grind.{common_steps}
 use Rattle.grid_cells.specs.Grid.{Chart}
 use Rattle.plan_table.specs.Plans.{row_of, IsByAgent}
 use Rattle.plan_table.specs.Order.{ComesBefore}
@@ -14,11 +15,7 @@ use Rattle.mapf_rules.specs.declared.visits.Visit.{Visit}
 
 -- the first numbers of keys in order are in order
 key_order : (a b : Visit) → ComesBefore (visit_key a) (visit_key b) → a.agent ≤ b.agent
-key_order a b before =
-    elim (cases_lt b.agent a.agent) [
-      | inl less ↦ grind (arith, nat_tests)
-      | inr done ↦ done
-    ]
+key_order a b before = grind (arith, nat_tests, common_steps, gets)
 
 -- the visit at the place is the agent's
 abbrev pub IsOf : List Visit → ℕ → ℕ → Type 0
@@ -79,11 +76,7 @@ module _ (rows : List (ℕ × Row)) (visits : List Visit) (by_agent : IsByAgent 
   read e = ap (λ (entry : ℕ × Row). entry.0) (get_or_from_slice_get rows rank (agent, row) e at)
 
   pub before_agent : (k : ℕ) (d : Visit) → k < new → (get_or visits k d).agent < agent
-  before_agent k d early =
-      elim (cases_lt k old) [
-        | inl earlier ↦ omega (arith, passed k rank d (agent, row) earlier (omega arith) within, read (agent, row))
-        | inr later ↦ skipped k d later early
-      ]
+  before_agent k d early = grind (arith, nat_tests, common_steps, gets)
 
   pub passed_more : Passed rows visits new (rank + 1)
   passed_more k j d e early later inside = omega (arith, before_agent k d early, read e, by_agent rank j e (omega arith) inside)

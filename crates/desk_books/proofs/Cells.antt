@@ -1,28 +1,18 @@
 -- Whether two cells are the same, by a test of their coordinates.
-use Rattle.std.proofs.Common.{◌≡◌, ◌≢◌, ◌⊎◌, inl, inr, Bool, true, false, ◌&&◌, eqb, ap, ◌∙◌}
-use Rattle.std.proofs.lemmas.Bool.Decides.{eqb_tells}
+use Rattle.std.proofs.Common.{◌≡◌, ◌≢◌, ◌⊎◌, Bool, true, false, ◌&&◌, eqb, arith}
+use Rattle.std.proofs.lemmas.Bool.Decides.{nat_tests}
+use Rattle.std.proofs.lemmas.Grind.{common_steps}
+use Rattle.std.proofs.lemmas.Option.{gets}
 use Rattle.grid_cells.specs.Cell.{Point}
 
 abbrev pub same_test : Point → Point → Bool
 same_test a b = eqb a.y b.y && eqb a.x b.x
 
 pub same_tells : (a b : Point) → ((same_test a b ≡ true) × (a ≡ b)) ⊎ ((same_test a b ≡ false) × (a ≢ b))
-same_tells a b = elim (eqb_tells a.y b.y) [
-  | inl ys ↦ elim (eqb_tells a.x b.x) [
-    | inl xs ↦ inl (ap (λ v. v && eqb a.x b.x) ys.0 ∙ xs.0, λ i. record { x = xs.1 i; y = ys.1 i })
-    | inr apart ↦ inr (ap (λ v. v && eqb a.x b.x) ys.0 ∙ apart.0, λ e. apart.1 (ap (λ (p : Point). p.x) e))
-  ]
-  | inr apart ↦ inr (ap (λ v. v && eqb a.x b.x) apart.0, λ e. apart.1 (ap (λ (p : Point). p.y) e))
-]
+same_tells a b = grind (arith, nat_tests, common_steps, gets)
 
 pub same_if : (a b : Point) → true ≡ same_test a b → a ≡ b
-same_if a b e = elim (same_tells a b) [
-  | inl is ↦ is.1
-  | inr apart ↦ let wrong : true ≡ false = e ∙ apart.0 in absurd (cc)
-]
+same_if a b e = grind (arith, nat_tests, common_steps, gets)
 
 pub apart_if : (a b : Point) → false ≡ same_test a b → a ≢ b
-apart_if a b e = elim (same_tells a b) [
-  | inl is ↦ let wrong : false ≡ true = e ∙ is.0 in absurd (cc)
-  | inr apart ↦ apart.1
-]
+apart_if a b e = grind (arith, nat_tests, common_steps, gets)

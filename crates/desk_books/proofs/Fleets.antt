@@ -1,12 +1,12 @@
 -- Books of the rows of a fleet: the same rows, and one row changed.
-use Rattle.std.proofs.Common.{◌≡◌, ◌≢◌, ℕ, inl, inr, List, [], Contains, Option, Some, None, sym, ap, ◌∙◌, subst, arith}
-use Rattle.std.proofs.lemmas.Bool.Decides.{eqb_tells}
-use Rattle.std.proofs.lemmas.Option.{none-some, MatchOption-at_some}
+use Rattle.std.proofs.Common.{◌≡◌, ◌≢◌, ℕ, inl, inr, List, [], Option, Some, None, sym, ap, ◌∙◌, subst, arith}
+use Rattle.std.proofs.lemmas.Bool.Decides.{eqb_tells, nat_tests}
+use Rattle.std.proofs.lemmas.Option.{MatchOption-at_some, gets}
 use Rattle.std.specs.Prelude.{IfSome, ⊤}
+use Rattle.std.proofs.lemmas.Grind.{common_steps}
 use Rattle.grid_cells.specs.Cell.{Point}
 use Rattle.grid_cells.specs.Grid.{Chart}
 use Rattle.plan_table.specs.Plans.{row_of, ChangesRow, IsByAgent}
-use Rattle.plan_table.proofs.Order.{Contains-nil}
 use Rattle.plan_table.specs.declared.plans.Row.{Row}
 use Rattle.cost_ledger.specs.Ledger.{Ledger, StandsFor}
 use Rattle.where_index.specs.Spots.{Gains, Loses}
@@ -37,20 +37,7 @@ same_books grid rows other books same are = record {
 
 -- books with nothing in them
 pub no_books : (grid : Chart) (books : Prices) → books.costs.rows ≡ [] → StandsFor books.costs grid → books.aims ≡ [] → books.fields ≡ [] → AreOf grid (λ _. None) books
-no_books grid books rows stands aims fields = record {
-  by_agent = subst IsByAgent (sym rows) (λ i j d lt within. absurd (omega arith));
-  rows = λ agent. ap (λ (r : List (ℕ × Row)). row_of r agent) rows;
-  costs = stands;
-  aims = λ a. (
-    (λ h. absurd (Contains-nil a (subst (λ (l : List Aim). Contains l a) aims h))),
-    (λ at. absurd (none-some at.row at.live)),
-  );
-  fields = subst (StandFor grid) (sym fields) (λ k d within. absurd (omega arith));
-  goals = λ goal. (
-    (λ h. absurd (Contains-nil h.0 (subst (λ (l : List Standing). Contains l h.0) fields h.1))),
-    (λ one. absurd (none-some one.1.row one.1.live)),
-  );
-}
+no_books grid books rows stands aims fields = grind (arith, nat_tests, common_steps, gets)
 
 -- the goals that are held are those that agents aim at
 held_of : (grid : Chart) (fleet : Rows) (books : Prices) → AreOf grid fleet books → HoldAimed books.aims books.fields

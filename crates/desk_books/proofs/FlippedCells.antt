@@ -66,9 +66,6 @@ undone_all_keeps_size : (scene : SceneState) (changes : List Change) → (undone
 undone_all_keeps_size scene [] = refl
 undone_all_keeps_size scene (change ∷ later) = undone_keeps_size (undone_all scene later) change ∙ undone_all_keeps_size scene later
 
-Differs : Chart → Chart → Point → Type 0
-Differs old new cell = flag_at old cell ≢ flag_at new cell
-
 pub flips_differ : (scene : SceneState) (changes : List Change) → AreUndoable scene changes → (cell : Point) → Holds scene.grid.size cell → flag_at (undone_all scene changes).grid cell ≢ flag_at scene.grid cell → Contains (flips_of changes) cell
 flips_differ scene [] ready cell held differ = absurd (differ refl)
 flips_differ scene (Added agent ∷ later) ready cell held differ = flips_differ scene later ready.0 cell held differ

@@ -1,7 +1,8 @@
 -- Agents that are left to be caught up with, one fewer each time.
-use Rattle.std.proofs.Common.{◌≡◌, ℕ, suc, ◌+◌, ◌<◌, List, [], ◌∷◌, length, drop, get_or, sym, ap, ◌∙◌, inl, inr, arith}
-use Rattle.std.proofs.Math.Seq.{drop-cons}
-use Rattle.std.proofs.lemmas.Bool.Decides.{eqb_tells}
+use Rattle.std.proofs.Common.{◌≡◌, ℕ, ◌+◌, ◌<◌, List, [], ◌∷◌, length, drop, get_or, sym, ap, ◌∙◌, inl, inr, arith}
+use Rattle.std.proofs.lemmas.Bool.Decides.{eqb_tells, nat_tests}
+use Rattle.std.proofs.lemmas.Grind.{common_steps}
+use Rattle.std.proofs.lemmas.Option.{gets}
 use Rattle.plan_table.proofs.Order.{AllPairs-head, AllPairs-tail, Contains-nil, Contains-cons_tail, Contains-cons_cases}
 use Rattle.desk_books.specs.Prices.{Rows, with_row}
 use Rattle.desk_books.specs.declared.named_agents.Former.{Former}
@@ -9,9 +10,7 @@ use Rattle.desk_books.specs.Following.{AreLeft}
 
 -- what is left of a list from a place on
 pub left_from : {X : Type 0} (xs : List X) (k : ℕ) (x : X) → k < length xs → x ≡ get_or xs k x → drop k xs ≡ x ∷ drop (k + 1) xs
-left_from xs k x within is =
-    let next : suc k ≡ k + 1 = omega arith in
-    drop-cons xs k x within ∙ ap (λ y. y ∷ drop (suc k) xs) (sym is) ∙ ap (λ n. x ∷ drop n xs) next
+left_from xs k x within is = grind (arith, nat_tests, common_steps, gets)
 
 -- the first one is caught up with
 pub left_fewer : (rows new : Rows) (former : Former) (later : List Former) → AreLeft rows new (former ∷ later) → AreLeft (with_row rows former.agent (new former.agent)) new later

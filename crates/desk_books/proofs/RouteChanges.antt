@@ -1,6 +1,9 @@
 -- Fleets of which one route is given and taken back, and their books.
-use Rattle.std.proofs.Common.{◌≡◌, ℕ, List, Bool, true, false, eqb, cond, Option, refl, sym, ap, subst, ◌∙◌}
-use Rattle.std.proofs.lemmas.Bool.{eqb-true, eq-eqb}
+use Rattle.std.proofs.Common.{◌≡◌, ℕ, List, Bool, cond, Option, refl, sym, ap, subst, arith}
+use Rattle.std.proofs.lemmas.Bool.{eq-eqb}
+use Rattle.std.proofs.lemmas.Bool.Decides.{nat_tests}
+use Rattle.std.proofs.lemmas.Grind.{common_steps}
+use Rattle.std.proofs.lemmas.Option.{gets}
 use Rattle.plan_table.specs.Route.{Route, Fleet}
 use Rattle.where_index.specs.Index.{with_route}
 use Rattle.conflict_ledger.specs.Kept.{HasEntries}
@@ -21,19 +24,11 @@ with_own fleet agent route = ap (λ (b : Bool). cond b route (fleet agent)) (eq-
 
 -- a route that is taken back leaves the fleet as it was
 pub with_back : (fleet : Fleet) (agent : ℕ) (route was : Option Route) → fleet agent ≡ was → with_route (with_route fleet agent route) agent was ≡ fleet
-with_back fleet agent route was is = same_fleet _ fleet (λ a. at a (eqb a agent) refl)
-  where
-    at : (a : ℕ) (b : Bool) → eqb a agent ≡ b → cond b was (cond b route (fleet a)) ≡ fleet a
-    at a true e = sym (ap fleet (eqb-true a agent e) ∙ is)
-    at a false e = refl
+with_back fleet agent route was is = grind (arith, nat_tests, common_steps, gets)
 
 -- a fleet with the route that an agent has is that fleet
 pub with_same : (fleet : Fleet) (agent : ℕ) (route : Option Route) → fleet agent ≡ route → with_route fleet agent route ≡ fleet
-with_same fleet agent route is = same_fleet _ fleet (λ a. at a (eqb a agent) refl)
-  where
-    at : (a : ℕ) (b : Bool) → eqb a agent ≡ b → cond b route (fleet a) ≡ fleet a
-    at a true e = sym (ap fleet (eqb-true a agent e) ∙ is)
-    at a false e = refl
+with_same fleet agent route is = grind (arith, nat_tests, common_steps, gets)
 
 -- the entries of a fleet are those of the same fleet after a route was given and taken back
 pub entries_back : (kept : List Conflict) (fleet : Fleet) (agent : ℕ) (route was : Option Route) → fleet agent ≡ was → HasEntries kept fleet → HasEntries kept (with_route (with_route fleet agent route) agent was)

@@ -1,8 +1,9 @@
 -- Who aims at which goal, after one row of a fleet has changed.
-use Rattle.std.proofs.Common.{◌≡◌, ◌≢◌, ℕ, cond, eqb, true, false, inl, inr, List, Contains, Option, Some, None, sym, ap, ◌∙◌, subst}
+use Rattle.std.proofs.Common.{◌≡◌, ◌≢◌, ℕ, cond, eqb, true, false, inl, inr, List, Contains, Option, Some, None, sym, ap, ◌∙◌, subst, arith}
 use mathlib.Core.Logic.{◌↔◌}
-use Rattle.std.proofs.lemmas.Bool.Decides.{eqb_tells}
-use Rattle.std.proofs.lemmas.Option.{none-some, same_Some}
+use Rattle.std.proofs.lemmas.Bool.Decides.{eqb_tells, nat_tests}
+use Rattle.std.proofs.lemmas.Option.{none-some, same_Some, gets}
+use Rattle.std.proofs.lemmas.Grind.{common_steps}
 use Rattle.grid_cells.specs.Cell.{Point}
 use Rattle.plan_table.specs.Plans.{row_of, ChangesRow}
 use Rattle.plan_table.specs.declared.plans.Row.{Row}
@@ -38,10 +39,7 @@ module _ (fleet : Rows) (agent : ℕ) (changed : Option Row) (other : ℕ) where
 
 -- the rows of a table, one agent's row changed
 pub rows_changed : (rows : Rows) (old new : List (ℕ × Row)) (agent : ℕ) (changed : Option Row) → ((other : ℕ) → row_of old other ≡ rows other) → ChangesRow old new agent changed → (other : ℕ) → row_of new other ≡ with_row rows agent changed other
-rows_changed rows old new agent changed same change other = elim (eqb_tells other agent) [
-  | inl is ↦ ap (row_of new) is.1 ∙ change.this_agent ∙ sym (row_here rows agent changed other is.0)
-  | inr apart ↦ change.other_agents other apart.1 ∙ same other ∙ sym (row_elsewhere rows agent changed other apart.0)
-]
+rows_changed rows old new agent changed same change other = grind (arith, nat_tests, common_steps, gets)
 
 module _ (fleet : Rows) (agent : ℕ) (row : Row) (other : ℕ) (goal : Point) (is : eqb other agent ≡ true) where
   goal_here : AimsAt (with_row fleet agent (Some row)) other goal → row.goal ≡ goal

@@ -1,9 +1,10 @@
 -- The rows of a table before changes, agent by agent.
-use Rattle.std.proofs.Common.{◌≡◌, ℕ, suc, ◌+◌, ◌<◌, eqb, if◌then◌else◌, List, [], ◌∷◌, drop, get_or, length, Option, Some, None, inl, inr, refl, sym, ap, subst, ◌∙◌, arith}
+use Rattle.std.proofs.Common.{◌≡◌, ℕ, ◌+◌, ◌<◌, eqb, if◌then◌else◌, List, [], ◌∷◌, drop, get_or, length, Option, Some, None, inl, inr, refl, sym, ap, subst, ◌∙◌, arith}
 use Rattle.std.specs.Prelude.{IfSome, unwrap_or}
 use Rattle.std.specs.Option.{option_map}
-use Rattle.std.proofs.Math.Seq.{drop-cons}
-use Rattle.std.proofs.lemmas.Bool.Decides.{eqb_tells}
+use Rattle.std.proofs.lemmas.Bool.Decides.{eqb_tells, nat_tests}
+use Rattle.std.proofs.lemmas.Grind.{common_steps}
+use Rattle.std.proofs.lemmas.Option.{gets}
 use Rattle.grid_cells.specs.Cell.{Point}
 use Rattle.plan_table.specs.Path.{SamePlaces}
 use Rattle.plan_table.specs.Plans.{row_of}
@@ -135,6 +136,4 @@ all_back scene (edit ∷ later) (change ∷ changes) is allowed are agent =
 
 -- one change more at the front
 pub drop_one : {X : Type 0} (xs : List X) (at left : ℕ) (x : X) → at < length xs → at + 1 ≡ left → x ≡ get_or xs at x → drop at xs ≡ x ∷ drop left xs
-drop_one {X = X} xs at left x within next is =
-    let more : suc at ≡ left = omega arith in
-    drop-cons xs at x within ∙ ap (λ (y : X). y ∷ drop (suc at) xs) (sym is) ∙ ap (λ n. x ∷ drop n xs) more
+drop_one {X = X} xs at left x within next is = grind (arith, nat_tests, common_steps, gets)

@@ -1,21 +1,19 @@
 -- Two routes with the same position at each time are one route.
-use Rattle.std.proofs.Common.{◌≡◌, ◌≢◌, ◌⊎◌, ℕ, ◌+◌, ◌<◌, ◌≤◌, min, Bool, true, false, Option, Some, None, List, length, inl, inr, refl, sym, ap, ◌∙◌, arith}
+use Rattle.std.proofs.Common.{◌≡◌, ◌≢◌, ◌⊎◌, ℕ, ◌+◌, ◌<◌, ◌≤◌, Bool, true, false, Option, Some, None, List, length, inl, inr, refl, sym, ap, ◌∙◌, arith}
 use Rattle.std.specs.Prelude.{IfNone, unwrap_or}
-use Rattle.std.proofs.lemmas.Bool.{cases_order, cases_lt}
-use Rattle.std.proofs.lemmas.Option.{slice_get-get_or}
-use Rattle.grid_cells.specs.Cell.{Point, point}
+use Rattle.std.proofs.lemmas.Option.{gets}
+use Rattle.std.proofs.lemmas.Bool.Decides.{nat_tests}
+use Rattle.std.proofs.lemmas.Grind.{common_steps}
+use Rattle.grid_cells.specs.Cell.{Point}
 use Rattle.plan_table.specs.Path.{last_index, place, SamePlaces, IsPath}
 use Rattle.plan_table.specs.Route.{Route, position}
-use Rattle.plan_table.proofs.Fleets.{true_or_not, position_staying, position_gone, position_on_path}
+use Rattle.plan_table.proofs.Fleets.{position_staying, position_gone}
 use Rattle.scene_edits.specs.Since.{IsSince}
 use Rattle.scene_edits.proofs.PathsOf.{paths-equal}
 
 -- a path is somewhere at each time
 place_some : (path : List Point) (time : ℕ) → 0 < length path → place path time ≢ None
-place_some path time some none =
-    let within : min time (last_index path) < length path = omega arith in
-    let there = slice_get-get_or path (min time (last_index path)) (point 0 0) within in
-    cc
+place_some path time some none = grind (arith, nat_tests, common_steps, gets)
 
 -- the one leaves only where the other does
 leaves_too : (one two : Route) → 0 < length two.path → ((time : ℕ) → position one time ≡ position two time) → one.leaves ≡ true → two.leaves ≡ false → ⊥
@@ -23,24 +21,9 @@ leaves_too one two some same leaves stays =
     let late : ℕ = last_index one.path + 1 in
     place_some two.path late some (sym (position_staying two (λ l. cc) late) ∙ (sym (same late) ∙ position_gone one leaves late (omega arith)))
 
--- one that leaves is no shorter than the other
-no_shorter : (one two : Route) → 0 < length two.path → ((time : ℕ) → position one time ≡ position two time) → one.leaves ≡ true → last_index one.path < last_index two.path → ⊥
-no_shorter one two some same leaves less =
-    let end : ℕ = last_index two.path in
-    place_some two.path end some (sym (position_on_path two end (omega arith)) ∙ (sym (same end) ∙ position_gone one leaves end less))
-
 -- the same places, where both leave
 same_leaving : (one two : Route) → 0 < length one.path → 0 < length two.path → ((time : ℕ) → position one time ≡ position two time) → one.leaves ≡ true → two.leaves ≡ true → (time : ℕ) → place one.path time ≡ place two.path time
-same_leaving one two some_one some_two same leaves_one leaves_two time =
-    elim (cases_order (last_index one.path) (last_index two.path)) [
-      | inl equal ↦
-          let now : ℕ = min time (last_index one.path) in
-          let here : min time (last_index one.path) ≡ min now (last_index one.path) = omega arith in
-          let there : min time (last_index two.path) ≡ min now (last_index two.path) = omega arith in
-          rw (here, there) (sym (position_on_path one now (omega arith)) ∙ (same now ∙ position_on_path two now (omega arith)))
-      | inr (inl less) ↦ absurd (no_shorter one two some_two same leaves_one less)
-      | inr (inr more) ↦ absurd (no_shorter two one some_one (λ t. sym (same t)) leaves_two more)
-    ]
+same_leaving one two some_one some_two same leaves_one leaves_two time = grind (arith, nat_tests, common_steps, gets)
 
 -- the same places, where both stay
 same_staying : (one two : Route) → ((time : ℕ) → position one time ≡ position two time) → one.leaves ≡ false → two.leaves ≡ false → (time : ℕ) → place one.path time ≡ place two.path time
@@ -74,14 +57,7 @@ never_apart one two path_one path_two (Some time) differ = tt
 
 -- an agent on a route is gone for ever, or it is at its path's place
 where_at : (route : Route) (time : ℕ) → ((position route time ≡ None) × ((later : ℕ) → time ≤ later → position route later ≡ None)) ⊎ (position route time ≡ place route.path time)
-where_at route time =
-    elim (true_or_not route.leaves) [
-      | inr stays ↦ inr (position_staying route stays time)
-      | inl leaves ↦ elim (cases_lt (last_index route.path) time) [
-        | inl late ↦ inl (position_gone route leaves time late, λ later le. position_gone route leaves later (omega arith))
-        | inr early ↦ inr (position_on_path route time (omega arith))
-      ]
-    ]
+where_at route time = grind (arith, nat_tests, common_steps, gets)
 
 -- below the time from which on routes on paths differ, or at every time where they never do, the paths are in the same cells
 pub same_until : (one two : Route) → IsPath one.path → IsPath two.path → (since : Option ℕ) → IsSince one two since → (n : ℕ) → SamePlaces one.path two.path (unwrap_or since n)

@@ -1,5 +1,8 @@
 -- Ledgers of costs that stand for maps which are closed in the same cells.
-use Rattle.std.proofs.Common.{ℕ, List}
+use Rattle.std.proofs.Common.{ℕ, List, arith}
+use Rattle.std.proofs.lemmas.Bool.Decides.{nat_tests}
+use Rattle.std.proofs.lemmas.Grind.{common_steps}
+use Rattle.std.proofs.lemmas.Option.{gets}
 use mathlib.Core.Logic.{◌↔◌}
 use Rattle.grid_cells.specs.Cell.{Point}
 use Rattle.grid_cells.specs.Grid.{Chart, IsClosed}
@@ -9,8 +12,7 @@ use Rattle.mapf_rules.specs.Visits.{IsVisit}
 use Rattle.mapf_rules.specs.declared.visits.Visit.{Visit}
 
 visit_there : (one other : Chart) (rows : List (ℕ × Row)) (visit : Visit) → ((cell : Point) → IsClosed one cell → IsClosed other cell) → IsVisit one rows visit → IsVisit other rows visit
-visit_there one other rows visit same is =
-    record { row = is.row; live = is.live; blocked = record { on_path = is.blocked.on_path; there = is.blocked.there; closed = same visit.cell is.blocked.closed } }
+visit_there one other rows visit same is = grind (arith, nat_tests, common_steps, gets)
 
 pub stands_there : (ledger : Ledger) (one other : Chart) → ((cell : Point) → IsClosed one cell ↔ IsClosed other cell) → StandsFor ledger one → StandsFor ledger other
 stands_there ledger one other same stands = record {

@@ -1,15 +1,15 @@
 -- The lines of a report, of the lines that are kept.
-use Rattle.std.proofs.Common.{◌≡◌, ℕ, suc, zero, ◌-◌, List, [], ◌∷◌, get_or, Option, None, Some, refl, subst}
-use Rattle.std.specs.Prelude.{All, slice_get, unwrap_or}
-use Rattle.std.specs.Option.{SomeIff}
-use Rattle.std.proofs.lemmas.Option.{same_Some, slice_get-get_or}
+use Rattle.std.proofs.Common.{◌≡◌, ℕ, suc, zero, ◌-◌, List, [], ◌∷◌, get_or, Some, refl, subst, arith}
+use Rattle.std.specs.Prelude.{All, slice_get}
+use Rattle.std.proofs.lemmas.Option.{same_Some, slice_get-get_or, gets}
+use Rattle.std.proofs.lemmas.Bool.Decides.{nat_tests}
+use Rattle.std.proofs.lemmas.Grind.{common_steps}
 use Rattle.grid_cells.specs.Grid.{Chart}
 use Rattle.plan_table.specs.Order.{EachOf}
 use Rattle.plan_table.specs.Plans.{row_of}
 use Rattle.plan_table.specs.declared.plans.Row.{Row}
 use Rattle.plan_table.proofs.Fleets.{row_here}
 use Rattle.plan_table.proofs.Order.{EachOf-with, Contains-nil}
-use Rattle.mapf_rules.specs.Costs.{IsFinished}
 use Rattle.mapf_rules.specs.Visits.{IsUnblocked}
 use Rattle.desk_report.specs.Laws.{IsPathOn}
 use Rattle.desk_report.specs.Report.{IsLine, AreLines}
@@ -28,13 +28,8 @@ EachOf-before R (a ∷ xs) (b ∷ ys) each (suc k) y at = EachOf-before R xs ys 
 abbrev pub IsOpen : Chart → ℕ × Row → Type 0
 IsOpen grid entry = IsPathOn grid entry.1.plan × IsUnblocked grid entry.1.plan
 
-given_too : (P Q : Type 0) (given : Option ℕ) (value : ℕ) → Q → SomeIff given P value → SomeIff given (P × Q) value
-given_too P Q None value too is = λ both. is both.0
-given_too P Q (Some x) value too is = ((is.0, too), is.1)
-
 pub line_told : (grid : Chart) (entry : ℕ × Row) (line : AgentLine) → IsOpen grid entry → IsOpenLine grid entry line → IsLine grid entry line
-line_told grid entry line (on, unblocked) is =
-    record { agent = is.agent; settle = is.settle; finished = is.finished; bound = is.bound on.held; gap = given_too (IsFinished entry.1) (IsUnblocked grid entry.1.plan) line.gap (line.settle - unwrap_or line.bound 0) unblocked is.gap }
+line_told grid entry line (on, unblocked) is = grind (arith, nat_tests, common_steps, gets)
 
 -- where no visit is blocked the lines are told as they are
 pub lines_told : (grid : Chart) (rows : List (ℕ × Row)) (lines : List AgentLine) → AreBlockedIn grid rows [] → AreOpenLines grid rows lines → AreLines grid rows lines

@@ -7,7 +7,9 @@ use Rattle.std.proofs.lemmas.Bool.{cases_Bool}
 use Rattle.std.proofs.lemmas.Nat.{same_from_place, row_fits}
 use Rattle.std.proofs.lemmas.List.Folds.{list_any_more, list_any_at}
 use Rattle.std.proofs.lemmas.List.FromFn.{length-map-range_with_len, get_or-map-range_with_len}
-use Rattle.std.proofs.lemmas.Option.{slice_get-get_or}
+use Rattle.std.proofs.lemmas.Option.{slice_get-get_or, gets}
+use Rattle.std.proofs.lemmas.Bool.Decides.{nat_tests}
+use Rattle.std.proofs.lemmas.Grind.{common_steps}
 use Rattle.grid_cells.specs.Cell.{Point}
 use Rattle.grid_cells.specs.Size.{Extent, Holds}
 use Rattle.grid_cells.specs.Grid.{Chart, IsClosed, flag_index}
@@ -19,10 +21,6 @@ use Rattle.desk_books.proofs.Cells.{same_test, same_tells}
 abbrev pub open_at : Chart → Point → Bool
 open_at grid cell = unwrap_or (flag_at grid cell) false
 
-some_true : (o : Option Bool) → unwrap_or o false ≡ true → o ≡ Some true
-some_true None e = absurd (cc)
-some_true (Some b) e = ap Some e
-
 -- flags are the same or differ
 same_flags : (a b : Option Bool) → (a ≡ b) ⊎ (a ≢ b)
 same_flags None None = inl refl
@@ -33,16 +31,8 @@ same_flags (Some true) (Some false) = inr (λ e. cc)
 same_flags (Some false) (Some true) = inr (λ e. cc)
 same_flags (Some false) (Some false) = inl refl
 
--- maps of one size whose flags say the same are closed in the same cells
-closed_there : (one other : Chart) (cell : Point) → one.size ≡ other.size → (Holds one.size cell → open_at one cell ≡ open_at other cell) → IsClosed one cell → IsClosed other cell
-closed_there one other cell size same closed = (
-  subst (λ (s : Extent). Holds s cell) size closed.0,
-  λ opened. closed.1 (closed.0, some_true (flag_at one cell) (same closed.0 ∙ ap (λ o. unwrap_or o false) opened.1)),
-)
-
 pub same_closed : (one other : Chart) (cell : Point) → one.size ≡ other.size → (Holds one.size cell → open_at one cell ≡ open_at other cell) → IsClosed one cell ↔ IsClosed other cell
-same_closed one other cell size same =
-    (closed_there one other cell size same, closed_there other one cell (sym size) (λ h. sym (same (subst (λ (s : Extent). Holds s cell) (sym size) h))))
+same_closed one other cell size same = grind (arith, nat_tests, common_steps, gets)
 
 -- whether the cell is among the cells
 abbrev pub among : List Point → Point → Bool

@@ -1,7 +1,6 @@
 use Rattle.std.proofs.Common.{Some, refl, subst}
 use Rattle.std.proofs.lemmas.Result.{IfOk-weaker}
 use Rattle.plan_table.specs.declared.plans.Row.{Row}
-use Rattle.desk_books.specs.Formers.{as_row}
 use Rattle.desk_books.specs.Prices as priced
 use Rattle.desk_books.proofs.Rows.{renewed, in_place}
 use Rattle.desk_books.proofs.changing.reprice.Goals as goal

@@ -1,9 +1,11 @@
-use Rattle.std.proofs.Common.{◌≡◌, Some, None, List, ℕ, Option, sym, ap, subst, ◌∙◌}
-use Rattle.std.proofs.lemmas.Result.{IfOk-weaker}
+use Rattle.std.proofs.Common.{◌≡◌, None, List, ℕ, sym, ap, subst, ◌∙◌, arith}
 use Rattle.std.specs.Option.{option_map}
+use Rattle.std.proofs.lemmas.Bool.Decides.{nat_tests}
+use Rattle.std.proofs.lemmas.Grind.{common_steps}
+use Rattle.std.proofs.lemmas.Option.{gets}
 use Rattle.plan_table.specs.Plans.{row_of}
 use Rattle.plan_table.specs.declared.plans.Row.{Row}
-use Rattle.desk_books.specs.Prices.{Rows, with_row}
+use Rattle.desk_books.specs.Prices.{Rows}
 use Rattle.desk_books.specs.Books.{Keep}
 use Rattle.desk_books.specs.Kept.{Past}
 use Rattle.desk_books.proofs.Rows.{unchanged}
@@ -17,9 +19,7 @@ pub revise-requires-clause-inside : goal.revise-requires-clause-inside
 revise-requires-clause-inside c = goal_inside c.args.scene.now c.plans.ensures.scene c.plans.result.now.rows c.plans.ensures.rows c.args.former.now.agent c.in-Some-Some.row.now (sym c.in-Some-Some.ensures')
 
 pub revise-requires-clause-alike : goal.revise-requires-clause-alike
-revise-requires-clause-alike c =
-    let now : row_of c.args.scene.now.rows c.args.former.now.agent ≡ Some c.in-Some-Some.row.now = ap (λ (r : List (ℕ × Row)). row_of r c.args.former.now.agent) (sym c.plans.ensures.rows) ∙ sym c.in-Some-Some.ensures' in
-    rw (sym c.in-Some-Some.ensures, now) at c.requires.alike
+revise-requires-clause-alike c = grind (arith, nat_tests, common_steps, gets)
 
 pub returns-in-None-None : goal.returns-in-None-None
 returns-in-None-None c = λ rows keep has.
@@ -29,22 +29,10 @@ returns-in-None-None c = λ rows keep has.
     subst (λ (r : Rows). Keep c.args.scene.now.mode c.args.scene.now.grid r c.args.self) (sym (unchanged rows agent (row_of c.args.scene.now.rows agent) same)) keep
 
 pub returns-in-None-Some : goal.returns-in-None-Some
-returns-in-None-Some c =
-    let agent = c.args.former.now.agent in
-    let now : row_of c.args.scene.now.rows agent ≡ Some c.in-None-Some.row.now = ap (λ (r : List (ℕ × Row)). row_of r agent) (sym c.plans.ensures.rows) ∙ sym c.in-None-Some.ensures' in
-    IfOk-weaker c.enter.result _ _ (λ books kept rows keep has.
-    subst (λ (o : Option Row). Keep c.args.scene.now.mode c.args.scene.now.grid (with_row rows agent o) books) (sym now) (kept rows keep (has ∙ sym (ap (option_map (λ (p : Past). p.row)) c.in-None-Some.ensures)))) c.enter.ensures
+returns-in-None-Some c = grind (arith, nat_tests, common_steps, gets)
 
 pub returns-in-Some-None : goal.returns-in-Some-None
-returns-in-Some-None c =
-    let agent = c.args.former.now.agent in
-    let now : row_of c.args.scene.now.rows agent ≡ None = ap (λ (r : List (ℕ × Row)). row_of r agent) (sym c.plans.ensures.rows) ∙ sym c.in-Some-None.ensures' in
-    IfOk-weaker c.leave.result _ _ (λ books kept rows keep has.
-    subst (λ (o : Option Row). Keep c.args.scene.now.mode c.args.scene.now.grid (with_row rows agent o) books) (sym now) (kept rows keep (has ∙ sym (ap (option_map (λ (p : Past). p.row)) c.in-Some-None.ensures)))) c.leave.ensures
+returns-in-Some-None c = grind (arith, nat_tests, common_steps, gets)
 
 pub returns-in-Some-Some : goal.returns-in-Some-Some
-returns-in-Some-Some c =
-    let agent = c.args.former.now.agent in
-    let now : row_of c.args.scene.now.rows agent ≡ Some c.in-Some-Some.row.now = ap (λ (r : List (ℕ × Row)). row_of r agent) (sym c.plans.ensures.rows) ∙ sym c.in-Some-Some.ensures' in
-    IfOk-weaker c.revise.result _ _ (λ books kept rows keep has.
-    subst (λ (o : Option Row). Keep c.args.scene.now.mode c.args.scene.now.grid (with_row rows agent o) books) (sym now) (kept rows keep (has ∙ sym (ap (option_map (λ (p : Past). p.row)) c.in-Some-Some.ensures)))) c.revise.ensures
+returns-in-Some-Some c = grind (arith, nat_tests, common_steps, gets)

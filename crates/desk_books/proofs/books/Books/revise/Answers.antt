@@ -1,5 +1,8 @@
-use Rattle.std.proofs.Common.{◌≡◌, Some, refl, sym, ap, subst, ◌∙◌}
+use Rattle.std.proofs.Common.{◌≡◌, Some, refl, sym, ap, subst, ◌∙◌, arith}
 use Rattle.std.specs.Option.{option_map}
+use Rattle.std.proofs.lemmas.Bool.Decides.{nat_tests}
+use Rattle.std.proofs.lemmas.Grind.{common_steps}
+use Rattle.std.proofs.lemmas.Option.{gets}
 use Rattle.plan_table.specs.Route.{Route, route_of, route_in}
 use Rattle.plan_table.specs.declared.plans.Row.{Row}
 use Rattle.plan_table.specs.declared.tracks.Mode.{Mode}
@@ -12,9 +15,7 @@ use Rattle.desk_books.proofs.Rows.{in_place}
 use Rattle.desk_books.proofs.books.Books.revise.Goals as goal
 
 pub reprice-requires-clause-know : goal.reprice-requires-clause-know
-reprice-requires-clause-know c =
-    let was = rw (← c.self.view_is) at c.requires.know.keep in
-    (c.requires.know.rows, rw c.grid.ensures.grid was.prices, c.requires.know.has)
+reprice-requires-clause-know c = grind (arith, nat_tests, common_steps, gets)
 
 pub with_line-lines-requires : goal.with_line-lines-requires
 with_line-lines-requires c =

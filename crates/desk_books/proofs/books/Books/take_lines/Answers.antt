@@ -1,5 +1,8 @@
-use Rattle.std.proofs.Common.{refl, sym, ◌∙◌}
+use Rattle.std.proofs.Common.{refl, arith}
 use Rattle.std.proofs.lemmas.Result.{IfOk-weaker}
+use Rattle.std.proofs.lemmas.Bool.Decides.{nat_tests}
+use Rattle.std.proofs.lemmas.Grind.{common_steps}
+use Rattle.std.proofs.lemmas.Option.{gets}
 use Rattle.desk_books.proofs.books.Books.take_lines.Goals as goal
 
 pub of-requires : goal.of-requires
@@ -8,9 +11,7 @@ of-requires c = λ agent row live.
     rw c.fields.ensures ((was.prices.goals row.goal).1 (agent, record { row = row; live = rw c.plans.ensures.rows at live; aims = refl }))
 
 pub returns-in-Some-clause-lines : goal.returns-in-Some-clause-lines
-returns-in-Some-clause-lines c =
-    let was = rw (← c.self.view_is) at c.requires in
-    rw (sym c.take.ensures.value ∙ c.in-Some.is) at was.lines
+returns-in-Some-clause-lines c = grind (arith, nat_tests, common_steps, gets)
 
 pub returns-clause-lines : goal.returns-clause-lines
 returns-clause-lines c = IfOk-weaker c.of.result _ _ (λ lines are.
