@@ -1,5 +1,5 @@
 -- What holds of some element of a list that grows.
-use Rattle.std.proofs.Common.{zero, suc, ◌⊎◌, inl, inr, List, [], ◌∷◌, ◌++◌, refl, sym, subst, ◌∙◌, arith}
+use Rattle.std.proofs.Common.{zero, suc, ◌⊎◌, inl, inr, List, [], ◌∷◌, ◌++◌, refl, ◌∙◌, arith}
 use Rattle.std.specs.List.{Any}
 use Rattle.std.proofs.lemmas.List.{get_or_append_left, length-append}
 
@@ -14,7 +14,7 @@ Any-there P x xs any = (suc any.0, any.1, omega (arith, any.2), any.3, any.4)
 
 -- it is the first, or a later one
 pub Any-cons : {X : Type 0} (P : X → Type 0) (x : X) (xs : List X) → Any P (x ∷ xs) → P x ⊎ Any P xs
-Any-cons P x xs (zero, y, within, is, p) = inl (subst P (sym is) p)
+Any-cons P x xs (zero, y, within, is, p) = inl (rw is p)
 Any-cons P x xs (suc k, y, within, is, p) = inr (k, y, omega (arith, within), is, p)
 
 -- it is the last, or an earlier one

@@ -1,8 +1,8 @@
 -- Going over a journal from its end: which things no later entry names.
-use Rattle.std.proofs.Common.{◌≡◌, ℕ, ◌-◌, ◌<◌, inl, inr, List, length, Some, sym, subst, ◌∙◌, arith}
+use Rattle.std.proofs.Common.{◌≡◌, ℕ, ◌-◌, ◌<◌, inl, inr, List, length, Some, arith}
 use Rattle.std.specs.List.{slice_get}
 use Rattle.std.proofs.lemmas.Bool.{cases_order}
-use Rattle.std.proofs.lemmas.Option.{same_Some, slice_get_within}
+use Rattle.std.proofs.lemmas.Option.{slice_get_within}
 use Rattle.scene_edits.specs.declared.changes.Thing.{Thing}
 use Rattle.desk_core.specs.Entries.{Entry, Names}
 use Rattle.desk_core.specs.Stale.{IsFreshSince}
@@ -15,10 +15,7 @@ fresh_at_end journal thing number newer named = omega (arith, named.counted, sli
 pub fresh_before : (journal : List Entry) (thing : Thing) (number : ℕ) (entry : Entry) → 0 < number → slice_get journal (number - 1) ≡ Some entry → (Names entry thing → ⊥) → IsFreshSince journal number thing → IsFreshSince journal (number - 1) thing
 fresh_before journal thing number entry counted there apart fresh other newer named =
     elim (cases_order number other) [
-      | inl same ↦
-          let here : slice_get journal (number - 1) ≡ Some named.entry = subst (λ n. slice_get journal (n - 1) ≡ Some named.entry) (sym same) named.there in
-          let is : named.entry ≡ entry = same_Some named.entry entry (sym here ∙ there) in
-          apart (subst (λ e. Names e thing) is named.names)
+      | inl same ↦ let is : named.entry ≡ entry = grind arith in apart (rw is at named.names)
       | inr (inl later) ↦ fresh other later named
       | inr (inr sooner) ↦ absurd (omega (arith, newer))
     ]

@@ -16,14 +16,7 @@ abbrev under : ℕ → DeskState → DeskState
 under limit desk = record desk { limit = limit }
 
 accepts_under : (desk : DeskState) (larger : ℕ) (entry : Entry) → desk.limit ≤ larger → Accepts desk entry → Accepts (under larger desk) entry
-accepts_under desk larger entry more accepts =
-    record {
-      current = record {
-        in_order = record { room = omega (arith, more, accepts.current.in_order.room); base = accepts.current.in_order.base; edits = accepts.current.in_order.edits };
-        fresh = accepts.current.fresh;
-      };
-      allowed = accepts.allowed;
-    }
+accepts_under desk larger entry more accepts = grind (arith, accepts.current, accepts.allowed)
 
 legal_under : (desk : DeskState) (larger : ℕ) (entries : List Entry) → desk.limit ≤ larger → IsLegal desk entries → IsLegal (under larger desk) entries
 legal_under desk larger [] more legal = tt

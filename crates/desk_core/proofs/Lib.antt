@@ -6,5 +6,4 @@ pub mod RunsOn
 pub mod Replaying
 pub mod OneAnswer
 pub mod LegalJournals
-pub mod Refusing
 pub mod Headline

@@ -22,12 +22,7 @@ stale_not_fresh : (journal : List Entry) (commit : Entry) (thing : Thing) (numbe
 stale_not_fresh journal commit thing number stale fresh = not_fresh journal commit.base thing number stale.last (fresh stale.rank thing stale.told)
 
 one_last : (journal : List Entry) (base : ℕ) (thing : Thing) (m n : ℕ) → IsLastNaming journal base thing m → IsLastNaming journal base thing n → m ≡ n
-one_last journal base thing m n first second =
-    elim (cases_order m n) [
-      | inl is ↦ is
-      | inr (inl less) ↦ absurd (first.last n less second.named)
-      | inr (inr more) ↦ absurd (second.last m more first.named)
-    ]
+one_last journal base thing m n first second = grind (arith, first.last n, second.last m, first.named, second.named)
 
 one_stale : (journal : List Entry) (commit : Entry) (s t : Thing) (m n now : ℕ) → IsStaleBy journal commit s m → IsStaleBy journal commit t n → Stale now s m ≡ Stale now t n
 one_stale journal commit s t m n now first second =

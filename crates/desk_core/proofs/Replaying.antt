@@ -1,6 +1,8 @@
 -- Entries committed one after the other.
 use Rattle.std.proofs.Common.{◌≡◌, ◌+◌, ◌-◌, List, [], ◌∷◌, ◌++◌, length, take, Some, Err, refl, sym, ap, subst, ◌∙◌, arith}
 use Rattle.std.specs.List.{slice_get}
+use Rattle.std.proofs.lemmas.Option.{gets}
+use Rattle.std.proofs.lemmas.Grind.{common_steps}
 use Rattle.desk_core.specs.Entries.{Entry}
 use Rattle.desk_core.specs.State.{DeskState, grown, after}
 use Rattle.desk_core.specs.Commits.{Accepts, Refuses}
@@ -17,12 +19,10 @@ after-push desk [] entry = refl
 after-push desk (first ∷ later) entry = after-push (grown desk first) later entry
 
 slice_get-middle : (done : List Entry) (entry : Entry) (rest : List Entry) → slice_get (done ++ entry ∷ rest) (length done) ≡ Some entry
-slice_get-middle [] entry rest = refl
-slice_get-middle (first ∷ done) entry rest = slice_get-middle done entry rest
+slice_get-middle done entry rest = grind (arith, common_steps, gets)
 
 take-front : (done rest : List Entry) → take (length done) (done ++ rest) ≡ done
-take-front [] rest = refl
-take-front (first ∷ done) rest = ap (λ later. first ∷ later) (take-front done rest)
+take-front done rest = grind (arith, common_steps)
 
 first_refused : (desk : DeskState) (done rest entries : List Entry) (entry : Entry) (why : Refusal) → done ++ entry ∷ rest ≡ entries → IsLegal desk done → Refuses (after desk done) entry why → IsFirstRefused desk entries (length done + 1) why
 first_refused desk done rest entries entry why all legal refuses =

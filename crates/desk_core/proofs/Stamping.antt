@@ -1,14 +1,14 @@
 -- Stamps after one more entry.
-use Rattle.std.proofs.Common.{◌≡◌, ◌≢◌, ℕ, zero, suc, Bool, true, false, ◌+◌, ◌-◌, ◌<◌, ◌≤◌, ◌⊎◌, inl, inr, List, [], ◌∷◌, ◌++◌, length, Option, Some, Bor, refl, sym, ap, subst, ◌∙◌, arith, slice_index, replicate, nat_lt, if◌then◌else◌, get_or-set_same, get_or-set_other}
+use Rattle.std.proofs.Common.{◌≡◌, ◌≢◌, ℕ, Bool, ◌+◌, ◌-◌, ◌<◌, ◌⊎◌, inl, inr, List, [], ◌∷◌, ◌++◌, length, Some, refl, sym, ap, subst, ◌∙◌, arith, slice_index, replicate, nat_lt, if◌then◌else◌, get_or-set_same, get_or-set_other}
 use Rattle.std.specs.Prelude.{◌&&◌}
 use Rattle.std.specs.List.{Any, slice_get}
-use Rattle.std.specs.Option.{ForSome, option_copied}
 use Rattle.std.proofs.Math.ListN.{set, length-set}
-use Rattle.std.proofs.lemmas.Bool.{cases_eq, cases_lt}
+use Rattle.std.proofs.lemmas.Bool.{cases_lt}
 use Rattle.std.proofs.lemmas.Bool.Decides.{nat_tests}
 use Rattle.std.proofs.lemmas.List.{length_push}
 use Rattle.std.proofs.lemmas.List.Quantifiers.{Any-push}
-use Rattle.std.proofs.lemmas.Option.{none-some, same_Some, slice_get_within}
+use Rattle.std.proofs.lemmas.Option.{slice_get_within, gets}
+use Rattle.std.proofs.lemmas.Grind.{common_steps}
 use Rattle.grid_cells.specs.Cell.{Point}
 use Rattle.grid_cells.specs.Size.{Extent, Holds}
 use Rattle.grid_cells.specs.Grid.{flag_index}
@@ -27,52 +27,22 @@ use Rattle.scene_edits.specs.declared.changes.Thing.TheVariants as things
 use Rattle.scene_edits.specs.declared.edits.Edit.{Edit}
 use Rattle.scene_edits.specs.declared.edits.Edit.TheVariants.{Add, Drop, Goal, Path, Tail, Open, Close}
 use Rattle.desk_core.specs.Entries.{Entry, thing_of, NamesThing, Names}
-use Rattle.desk_core.specs.Stale.{IsNamedAt, IsFreshSince, IsLastNaming}
-use Rattle.desk_core.specs.Stamps.{IsStamp, stamp_of, HasPlaces, AreStamps, IsOn, NameOnMap, AreOnMap, AreMarked, WhereTheyStand}
+use Rattle.desk_core.specs.Stale.{IsNamedAt, IsFreshSince}
+use Rattle.desk_core.specs.Stamps.{IsStamp, stamp_of, HasPlaces, AreStamps, IsOn, NameOnMap, AreOnMap, AreMarked}
 use Rattle.desk_core.specs.declared.stamps.Stamps.{Stamps}
 use Rattle.desk_core.proofs.Freshness.{fresh_at_end}
 use Rattle.desk_core.proofs.Anywhere.{Any-nil, Any-here, Any-cons, Any-last, Any-append}
 
 -- no two cells of a map have one index
 one_index : (size : Extent) (a b : Point) → Holds size a → Holds size b → flag_index size a ≡ flag_index size b → a ≡ b
-one_index size a b held held_too same =
-    let s : (a.y ≡ b.y) × (a.x ≡ b.x) = same_from_place a.y a.x b.y b.x size.width held.0 held_too.0 same in
-    λ i. record { x = s.1 i; y = s.0 i }
-
--- an edit about an agent names that agent alone
-named_agent : (edit : Edit) (agent : ℕ) (thing : Thing) → thing_of edit ≡ things.Agent agent → NamesThing thing edit → thing ≡ things.Agent agent
-named_agent edit agent thing is (inl e) = sym e ∙ is
-named_agent (Add a start goal) agent thing is (inr m) = absurd m.1
-named_agent (Drop a) agent thing is (inr m) = absurd m.1
-named_agent (Goal a goal) agent thing is (inr m) = absurd m.1
-named_agent (Path a cells) agent thing is (inr m) = absurd m.1
-named_agent (Tail a from cells) agent thing is (inr m) = absurd m.1
-named_agent (Open cell) agent thing is (inr m) = cc
-named_agent (Close cell) agent thing is (inr m) = cc
+one_index size a b held held_too same = let s = same_from_place a.y a.x b.y b.x size.width held.0 held_too.0 same in grind (arith, s)
 
 -- an edit about a cell names that cell and the map
 named_cell : (edit : Edit) (cell : Point) (thing : Thing) → thing_of edit ≡ things.Cell cell → NamesThing thing edit → (thing ≡ things.Cell cell) ⊎ (thing ≡ things.Map)
-named_cell edit cell thing is (inl e) = inl (sym e ∙ is)
-named_cell edit cell thing is (inr m) = inr m.0
+named_cell edit cell thing is names = grind arith
 
 names_map : (edit : Edit) (cell : Point) → thing_of edit ≡ things.Cell cell → NamesThing things.Map edit
-names_map (Add a start goal) cell is = cc
-names_map (Drop a) cell is = cc
-names_map (Goal a goal) cell is = cc
-names_map (Path a cells) cell is = cc
-names_map (Tail a from cells) cell is = cc
-names_map (Open c) cell is = inr (refl, tt)
-names_map (Close c) cell is = inr (refl, tt)
-
--- no edit is about the map
-pub never_map : (edit : Edit) → thing_of edit ≡ things.Map → ⊥
-never_map (Add a start goal) is = cc
-never_map (Drop a) is = cc
-never_map (Goal a goal) is = cc
-never_map (Path a cells) is = cc
-never_map (Tail a from cells) is = cc
-never_map (Open c) is = cc
-never_map (Close c) is = cc
+names_map edit cell is = grind arith
 
 -- the thing has the number where the edits name it, and else what it had
 abbrev Marks : Stamps → List Edit → ℕ → Stamps → Thing → Type 0
@@ -85,29 +55,6 @@ marks old new edit number thing names is = inl (Any-here (NamesThing thing) edit
 spares : (old new : Stamps) (edit : Edit) (number : ℕ) (thing : Thing) → (NamesThing thing edit → ⊥) → stamp_of new thing ≡ stamp_of old thing → Marks old (edit ∷ []) number new thing
 spares old new edit number thing apart is =
     inr (λ any. elim (Any-last (NamesThing thing) [] edit any) [ inl none ↦ Any-nil (NamesThing thing) none | inr names ↦ apart names ], is)
-
--- a look at a cell reads the size and the list of cells alone
-same_at_cell : (old new : Stamps) (cell : Point) → new.size ≡ old.size → new.cells.items ≡ old.cells.items → stamp_of new (things.Cell cell) ≡ stamp_of old (things.Cell cell)
-same_at_cell old new cell size cells = rw (size, cells) refl
-
--- an agent's stamp is written
-pub marked_agent : (old new : Stamps) (edit : Edit) (agent number : ℕ) → HasPlaces old → agent < length old.agents.items → thing_of edit ≡ things.Agent agent →
-    new.size ≡ old.size → new.agents.items ≡ set old.agents.items agent number → new.cells.items ≡ old.cells.items → new.map ≡ old.map → AreMarked old (edit ∷ []) number new
-marked_agent old new edit agent number places within is size agents cells map =
-    record {
-      size = size;
-      places = record { agents = ap length agents ∙ length-set old.agents.items agent number ∙ places.agents; cells = ap length cells ∙ rw size places.cells };
-      things = each;
-    }
-  where
-    each : (thing : Thing) → Marks old (edit ∷ []) number new thing
-    each (things.Agent a) =
-        elim (cases_eq a agent) [
-          | inl same ↦ marks old new edit number (things.Agent a) (inl (is ∙ ap things.Agent (sym same))) (rw (agents, same) (get_or-set_same old.agents.items agent number 0 within))
-          | inr other ↦ spares old new edit number (things.Agent a) (λ names. let e = named_agent edit agent (things.Agent a) is names in other cc) (rw agents (get_or-set_other old.agents.items agent a number 0 other))
-        ]
-    each (things.Cell cell) = spares old new edit number (things.Cell cell) (λ names. let e = named_agent edit agent (things.Cell cell) is names in cc) (same_at_cell old new cell size cells)
-    each things.Map = spares old new edit number things.Map (λ names. let e = named_agent edit agent things.Map is names in cc) map
 
 -- the stamps of a cell of the map, and of the map, are written
 pub marked_cell : (old new : Stamps) (edit : Edit) (cell : Point) (number : ℕ) → HasPlaces old → Holds old.size cell → thing_of edit ≡ things.Cell cell →
@@ -150,10 +97,6 @@ marked_cell old new edit cell number places held is size agents cells map =
         ]
     each things.Map = marks old new edit number things.Map (names_map edit cell is) map
 
--- nothing is marked by no edit
-pub marked_none : (stamps : Stamps) (number : ℕ) → HasPlaces stamps → AreMarked stamps [] number stamps
-marked_none stamps number places = record { size = refl; places = places; things = λ thing. inr (Any-nil (NamesThing thing), refl) }
-
 -- one more edit
 pub marked_push : (old now new : Stamps) (edits : List Edit) (edit : Edit) (number : ℕ) → AreMarked old edits number now → AreMarked now (edit ∷ []) number new → AreMarked old (edits ++ edit ∷ []) number new
 marked_push old now new edits edit number first last = record { size = last.size ∙ first.size; places = last.places; things = each }
@@ -172,19 +115,13 @@ marked_push old now new edits edit number first last = record { size = last.size
         ]
 
 slice_get-front : (xs ys : List Entry) (i : ℕ) (x : Entry) → slice_get xs i ≡ Some x → slice_get (xs ++ ys) i ≡ Some x
-slice_get-front [] ys i x there = absurd (none-some x there)
-slice_get-front (first ∷ xs) ys zero x there = there
-slice_get-front (first ∷ xs) ys (suc i) x there = slice_get-front xs ys i x there
+slice_get-front xs ys i x there = grind (arith, common_steps, gets, slice_get_within xs i x there)
 
 slice_get-last : (xs : List Entry) (y : Entry) → slice_get (xs ++ y ∷ []) (length xs) ≡ Some y
-slice_get-last [] y = refl
-slice_get-last (first ∷ xs) y = slice_get-last xs y
+slice_get-last xs y = grind (arith, common_steps, gets)
 
 slice_get-either : (xs : List Entry) (y : Entry) (i : ℕ) (x : Entry) → slice_get (xs ++ y ∷ []) i ≡ Some x → (slice_get xs i ≡ Some x) ⊎ ((i ≡ length xs) × (x ≡ y))
-slice_get-either [] y zero x there = inr (refl, sym (same_Some y x there))
-slice_get-either [] y (suc i) x there = absurd (none-some x there)
-slice_get-either (first ∷ xs) y zero x there = inl there
-slice_get-either (first ∷ xs) y (suc i) x there = elim (slice_get-either xs y i x there) [ inl before ↦ inl before | inr (at, is) ↦ inr (ap suc at, is) ]
+slice_get-either xs y i x there = grind (arith, common_steps, gets, slice_get_within (xs ++ y ∷ []) i x there)
 
 -- an entry that names a thing is an earlier one or the last
 named_push : (journal : List Entry) (entry : Entry) (thing : Thing) (number : ℕ) → IsNamedAt (journal ++ entry ∷ []) thing number → IsNamedAt journal thing number ⊎ ((number ≡ length journal + 1) × Names entry thing)
@@ -201,13 +138,10 @@ stamps_of_none stamps places none =
     record { sized = refl; places = places; each = λ thing. record { named = λ some. absurd (omega (arith, some, none thing)); last = λ number newer named. absurd (omega (arith, slice_get_within [] (number - 1) named.entry named.there)) } }
 
 zero_at : (n i : ℕ) → slice_index (replicate n 0) i ≡ 0
-zero_at zero i = refl
-zero_at (suc n) zero = refl
-zero_at (suc n) (suc i) = zero_at n i
+zero_at n i = grind (arith, common_steps)
 
 either : (b : Bool) (x : ℕ) → x ≡ 0 → (if b then x else 0) ≡ 0
-either true x is = is
-either false x is = refl
+either b x is = grind arith
 
 -- stamps that are all 0
 pub stamps_blank : (stamps : Stamps) (agents cells : ℕ) → HasPlaces stamps → stamps.agents.items ≡ replicate agents 0 → stamps.cells.items ≡ replicate cells 0 → stamps.map ≡ 0 → AreStamps stamps.size [] stamps
@@ -245,14 +179,6 @@ stamps_push size journal entry old new are marked = record { sized = marked.size
           | inr (apart, same) ↦ subst (IsStamp (journal ++ entry ∷ []) thing) (sym same) (before thing (stamp_of old thing) apart (are.each thing))
         ]
 
--- a stamp after the version tells the last entry that names the thing
-pub last_by_stamp : (journal : List Entry) (base : ℕ) (thing : Thing) (stamp : ℕ) → IsStamp journal thing stamp → base < stamp → IsLastNaming journal base thing stamp
-last_by_stamp journal base thing stamp is newer = record { newer = newer; named = is.named (omega arith); last = is.last }
-
--- and none after the version, that no later entry names it
-pub fresh_by_stamp : (journal : List Entry) (base : ℕ) (thing : Thing) (stamp : ℕ) → IsStamp journal thing stamp → stamp ≤ base → IsFreshSince journal base thing
-fresh_by_stamp journal base thing stamp is older number newer named = is.last number (omega (arith, newer)) named
-
 -- an edit that is allowed names cells of the map alone
 allowed_on : (scene : SceneState) (edit : Edit) → IsAllowed scene edit → IsOn scene.grid.size (thing_of edit)
 allowed_on scene (Add a start goal) allowed = tt
@@ -264,17 +190,10 @@ allowed_on scene (Open cell) allowed = elim (in_or_not scene.grid.size (cell ∷
 allowed_on scene (Close cell) allowed = elim (in_or_not scene.grid.size (cell ∷ [])) [ inl all ↦ All-head (Holds scene.grid.size) cell [] all | inr out ↦ absurd (allowed OutOfMap (refl, out)) ]
 
 named_on : (size : Extent) (edit : Edit) (thing : Thing) → IsOn size (thing_of edit) → NamesThing thing edit → IsOn size thing
-named_on size edit thing on (inl is) = subst (IsOn size) is on
-named_on size edit thing on (inr (is, changes)) = subst (IsOn size) (sym is) tt
+named_on size edit thing on names = grind arith
 
 same_size : (scene : SceneState) (edit : Edit) → (edited scene edit).grid.size ≡ scene.grid.size
-same_size scene (Add a start goal) = refl
-same_size scene (Drop a) = refl
-same_size scene (Goal a goal) = refl
-same_size scene (Path a cells) = refl
-same_size scene (Tail a from cells) = refl
-same_size scene (Open cell) = refl
-same_size scene (Close cell) = refl
+same_size scene edit = grind arith
 
 -- edits that are allowed name cells of the map alone
 pub all_on : (scene : SceneState) (edits : List Edit) → AreAllowed scene edits → NameOnMap scene.grid.size edits
@@ -295,15 +214,6 @@ pub entry_on : (size : Extent) (journal : List Entry) (index : ℕ) (entry : Ent
 entry_on size journal index entry on there thing any =
     on thing (index + 1) (record { entry = entry; counted = omega arith; there = subst (λ k. slice_get journal k ≡ Some entry) (omega arith) there; names = any })
 
-pub on_map_none : (size : Extent) → AreOnMap size []
-on_map_none size thing number named = absurd (omega (arith, slice_get_within [] (number - 1) named.entry named.there))
-
 pub on_map_push : (size : Extent) (journal : List Entry) (entry : Entry) → AreOnMap size journal → NameOnMap size entry.edits → AreOnMap size (journal ++ entry ∷ [])
 on_map_push size journal entry on more thing number named =
     elim (named_push journal entry thing number named) [ inl earlier ↦ on thing number earlier | inr last ↦ more thing last.1 ]
-
--- the stamps behind a reference
-pub stand_behind : (size : Extent) (journal : List Entry) (behind : Option (Bor Stamps)) (stamps : Option Stamps) → option_copied behind ≡ stamps → WhereTheyStand size journal stamps → ForSome behind (λ s. AreStamps s.now.size journal s.now)
-stand_behind size journal behind stamps is stand s there =
-    let are : AreStamps size journal s.now = stand s.now (sym is ∙ ap option_copied there) in
-    record { sized = refl; places = are.places; each = are.each }
