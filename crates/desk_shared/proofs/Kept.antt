@@ -2,6 +2,9 @@
 use Rattle.std.specs.Prelude.{slice_index_or, All}
 use Rattle.std.proofs.lemmas.List.Elements.{All-nil, All-push, All-weaker}
 use Rattle.std.proofs.Common.{◌≡◌, ◌≢◌, ℕ, zero, suc, ◌+◌, ◌%◌, ◌^◌, ◌<◌, ◌≤◌, eqb, Bool, true, false, List, [], ◌∷◌, ◌++◌, length, get_or, set, refl, sym, ap, ◌∙◌, subst, ⊎_elim, arith, Option, Some, None, length-set, length-append, get_or-set_other, get_or-set_same}
+use Rattle.std.proofs.lemmas.Bool.Decides.{nat_tests}
+use Rattle.std.proofs.lemmas.Grind.{common_steps}
+use Rattle.std.proofs.lemmas.Option.{gets}
 use mathlib.Core.Logic.{dite}
 use mathlib.Core.Option.{none, some, some-ne-none, some-injective}
 use native.Mathlib.Decide.{ℕ_discrete}
@@ -49,16 +52,7 @@ rests start log turn homes holder seat log' turn' homes' holder' made (Joined a 
 
 -- the pass at another stage, which has seen the whole journal
 live_posed : (start : DeskState) (planners : ℕ) (log : List Entry) (owner : ℕ → ℕ) (seat : ℕ) (k : Known) (stage : Stage) → Live start planners log owner seat k → Live start planners log owner seat (posed k stage log)
-live_posed start planners log owner seat k stage l = record {
-  same = l.same;
-  shared = l.shared;
-  seen = prefix_self log;
-  floor = l.floor;
-  number = l.number;
-  own = refl;
-  unused = l.unused;
-  past = All-weaker (IsPast start planners log owner seat k) (IsPast start planners log owner seat (posed k stage log)) (λ n p. record { beside = p.beside; kept = p.kept; whole = p.whole; seen = p.whole }) k.past l.past;
-}
+live_posed start planners log owner seat k stage l = grind (arith, nat_tests, common_steps, gets)
 
 pub set_at : {A : Type 0} (l : List A) (i : ℕ) (a b : A) → get_elem? l i ≡ some a → get_elem? (set l i b) i ≡ some b
 set_at [] i a b e = absurd (some-ne-none a (sym e))

@@ -2,6 +2,9 @@
 use Rattle.std.specs.Prelude.{◌⊎◌, slice_index_or, All}
 use mathlib.Core.List.{IsPrefix}
 use Rattle.std.proofs.Common.{◌≡◌, ◌≢◌, ℕ, ◌+◌, ◌<◌, Bool, false, List, [], ◌∷◌, ◌++◌, length-append, arith, get_or, true, refl, sym, ap, ◌∙◌, subst, Option, Some, Ok}
+use Rattle.std.proofs.lemmas.Bool.Decides.{nat_tests}
+use Rattle.std.proofs.lemmas.Grind.{common_steps}
+use Rattle.std.proofs.lemmas.Option.{gets}
 use mathlib.Core.Option.{some, some-injective}
 use lib.ListN.{get_elem?}
 use Rattle.atomic_table.specs.Table.{Final, Seen}
@@ -72,10 +75,7 @@ splitted k l n is is' unspent least = subst (λ (z : Known × Known). IsSplit (s
 
 -- the facts of a list of numbers, and of its least
 pub least_of : (k : Known) (unused : List Bool) (i : ℕ) → k.unused ≡ unused → i ≡ first_true unused → slice_index_or unused i false ≡ true → ((u : ℕ) → u < i → slice_index_or unused u false ≡ false) → IsLeast (shown k) (first_true k.unused)
-least_of k unused i same is may below =
-    let at = subst (λ (z : List Bool). (slice_index_or z (first_true z) false ≡ true) × ((u : ℕ) → u < first_true z → slice_index_or z u false ≡ false)) (sym same)
-    (subst (λ (n : ℕ). (slice_index_or unused n false ≡ true) × ((u : ℕ) → u < n → slice_index_or unused u false ≡ false)) is (may, below)) in
-    record { kept = at.0; least = at.1 }
+least_of k unused i same is may below = grind (arith, nat_tests, common_steps, gets)
 
 pub joined_so : (k o m w : Known) → m ≡ both k o
     → (IsPrefix k.made m.made × IsPrefix o.made m.made × (own_of k.planner m.made ≡ own_of k.planner k.made) × (own_of o.planner m.made ≡ own_of o.planner o.made) × (o.start ≡ m.start)) × AreOfPlanners m.planners m.made × All (HasJust m.made) m.past × All (λ (n : ℕ × List Entry). n.0 ≢ m.planner) m.past × (w ≡ posed m Idle m.made)

@@ -1,8 +1,6 @@
 -- The numbers that a pass may give away.
-use Rattle.std.proofs.Common.{◌≡◌, ◌⊎◌, inl, inr, ◌||◌, ℕ, zero, suc, ◌<◌, ◌≤◌, Bool, true, false, true≢false, List, [], ◌∷◌, length, replicate, get_or, set, refl, sym, ap, ◌∙◌, arith, get_or-set_other, get_or-set_same}
-use mathlib.Core.Logic.{dite}
+use Rattle.std.proofs.Common.{◌≡◌, ◌⊎◌, inl, inr, ◌||◌, ℕ, zero, suc, ◌<◌, Bool, true, false, true≢false, List, [], ◌∷◌, length, replicate, get_or, refl, sym, ap, ◌∙◌, arith}
 use mathlib.Core.Option.{some, some-injective, some-ne-none}
-use native.Mathlib.Decide.{ℕ_discrete}
 use lib.ListN.{get_elem?}
 use Rattle.desk_shared.specs.Numbers.{first_true}
 use Rattle.desk_shared.specs.Calls.{HasNumbers, either_of}
@@ -19,10 +17,6 @@ blank (suc n) (suc u) = blank n u
 
 pub numbers_none : (n : ℕ) → HasNumbers 1 (replicate n false)
 numbers_none n u = ((λ e. absurd (true≢false (sym e ∙ blank n u))), λ a b. absurd (omega arith))
-
-pub numbers_more : (i : ℕ) (xs : List Bool) → 1 ≤ i → i < length xs → HasNumbers i xs → HasNumbers (suc i) (set xs i true)
-numbers_more i xs one inside h u = dite (ℕ_discrete u i) (λ is. ((λ _. (omega arith, omega arith)), λ _ _. ap (λ (z : ℕ). get_or (set xs i true) z false) is ∙ get_or-set_same xs i true false inside))
-    (λ other. let same = get_or-set_other xs i u true false other in let k = h u in ((λ e. let b = k.0 (sym same ∙ e) in (b.0, (let c = b.1 in omega arith))), λ a b. same ∙ k.1 a (omega arith)))
 
 pub either_at : (xs ys : List Bool) (u : ℕ) → get_or (either_of xs ys) u false ≡ true → (get_or xs u false ≡ true) ⊎ (get_or ys u false ≡ true)
 either_at [] ys u e = inr e

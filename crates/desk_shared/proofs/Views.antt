@@ -2,6 +2,9 @@
 use Rattle.std.specs.Prelude.{All}
 use Rattle.std.proofs.lemmas.List.Elements.{All-nil, All-cons, All-append, All-weaker}
 use Rattle.std.proofs.Common.{◌≡◌, ◌≢◌, ◌⊎◌, inl, inr, ℕ, zero, suc, ◌<◌, eqb, Bool, true, false, true≢false, List, [], ◌∷◌, ◌++◌, length, get_or, set, refl, sym, ap, ◌∙◌, subst, ⊎_elim, arith, Option, length-set, get_or-set_other, eq-eqb, ne_eqb}
+use Rattle.std.proofs.lemmas.Bool.Decides.{nat_tests}
+use Rattle.std.proofs.lemmas.Grind.{common_steps}
+use Rattle.std.proofs.lemmas.Option.{gets}
 use mathlib.Core.Logic.{dite}
 use mathlib.Core.Option.{none, some, some-injective, some-ne-none}
 use native.Mathlib.Decide.{ℕ_discrete}
@@ -48,17 +51,7 @@ at_end (x ∷ xs) a b (suc j) e = ⊎_elim (λ t. inl t) (λ t. inr (t.0, ap suc
 
 -- the same pass, where its numbers stay its own
 live_owned : (start : DeskState) (planners : ℕ) (log : List Entry) (owner owner' : ℕ → ℕ) (seat : ℕ) (k : Known) → ((u : ℕ) → owner u ≡ seat → owner' u ≡ seat) → Live start planners log owner seat k → Live start planners log owner' seat k
-live_owned start planners log owner owner' seat k stays l = record {
-  same = l.same;
-  shared = l.shared;
-  seen = l.seen;
-  floor = l.floor;
-  number = (l.number.0, stays k.planner l.number.1);
-  own = l.own;
-  unused = λ u give. let m = l.unused u give in ((m.0.0, m.0.1, stays u m.0.2), m.1);
-  past = All-weaker (IsPast start planners log owner seat k) (IsPast start planners log owner' seat k)
-      (λ n p. record { beside = (p.beside.0, p.beside.1, stays n.0 p.beside.2); kept = p.kept; whole = p.whole; seen = p.seen }) k.past l.past;
-}
+live_owned start planners log owner owner' seat k stays l = grind (arith, nat_tests, common_steps, gets)
 
 -- a step on no word and no slot, after which the passes are these
 viewed : (s : State (Option DeskState) Known) (r : Ruled s) (owner : ℕ → ℕ) (views : List Known) → ((j : ℕ) (k : Known) → get_elem? views j ≡ some k → Stays r.start r.planners r.log (turn_of s) s.homes r.holder owner j k)

@@ -1,8 +1,8 @@
-use Rattle.std.proofs.Common.{sym, ap, ◌∙◌, subst, Option, Ok}
-use Rattle.atomic_table.specs.Table.{Me}
-use Rattle.desk_core.specs.State.{DeskState, grown}
-use Rattle.desk_core.specs.Commits.{Accepts}
-use Rattle.desk_shared.specs.declared.board.Known.{Known}
+use Rattle.std.proofs.Common.{sym, ap, ◌∙◌, subst, Ok, arith}
+use Rattle.std.proofs.lemmas.Bool.Decides.{nat_tests}
+use Rattle.std.proofs.lemmas.Grind.{common_steps}
+use Rattle.std.proofs.lemmas.Option.{gets}
+use Rattle.desk_core.specs.State.{grown}
 use Rattle.desk_shared.specs.Passes.{PassState}
 use Rattle.desk_shared.specs.Calls.{CommitsBy}
 use Rattle.desk_shared.specs.Turns.{shown}
@@ -10,15 +10,7 @@ use Rattle.desk_shared.proofs.Told.{commits, ends_with}
 use Rattle.desk_shared.proofs.sharing.SharedDesk.commit.Goals as goal
 
 pub grow-requires-clause-ready : goal.grow-requires-clause-ready
-grow-requires-clause-ready g c = let won = c.win-desk.ensures.won in let at = c.win-desk.ensures.desk in let did = c.in-Ok.ensures in (
-  (ap (λ (m : Me (Option DeskState) Known). m.0.live) won ∙ c.pass.invariant.2, ap (λ (m : Me (Option DeskState) Known). m.0.stage) won, ap (λ (m : Me (Option DeskState) Known). m.1) won),
-  (
-    c.args.commit,
-    subst (λ (z : DeskState). Accepts z c.args.commit) at did.0,
-    c.requires.planner ∙ (sym (ap (λ h. h.known.planner) c.pass.view_is) ∙ sym (ap (λ (m : Me (Option DeskState) Known). m.0.planner) won)),
-    did.2 ∙ ap (λ (z : DeskState). grown z c.args.commit) at,
-  ),
-)
+grow-requires-clause-ready g c = grind (arith, nat_tests, common_steps, gets)
 
 pub returns-in-Ok-clause-answer : goal.returns-in-Ok-clause-answer
 returns-in-Ok-clause-answer g c = let k = c.pass.inside.place.me.0 in let is = ap (λ h. h.known) c.pass.view_is in
