@@ -1,5 +1,6 @@
 -- How a list of kinds is read word by word.
-use Rattle.std.proofs.Common.{◌≡◌, ℕ, Bool, true, false, ◌||◌, if◌then◌else◌, List, [], ◌∷◌, refl, Option, Some, None}
+use Rattle.std.proofs.Common.{◌≡◌, ℕ, true, if◌then◌else◌, List, [], ◌∷◌, Option, Some, None}
+use Rattle.std.proofs.Math.Bool.{or_assoc, or-false}
 use Rattle.std.specs.List.{list_all}
 use Rattle.desk_report.specs.declared.kinds.Kinds.{Kinds}
 use Rattle.desk_lines.specs.Kinds.{is_kind, named_kinds, joined}
@@ -8,14 +9,6 @@ use Rattle.desk_lines.specs.Kinds.{is_kind, named_kinds, joined}
 abbrev pub kinds_after : Kinds → List (List ℕ) → Option Kinds
 kinds_after kinds words = if list_all is_kind words then Some (joined kinds (named_kinds words)) else None
 
-or-assoc : (a b c : Bool) → ((a || b) || c) ≡ (a || (b || c))
-or-assoc true b c = refl
-or-assoc false b c = refl
-
-or-false : (a : Bool) → (a || false) ≡ a
-or-false true = refl
-or-false false = refl
-
 -- one more word is read
 pub kinds_after-kind : (kinds : Kinds) (word : List ℕ) (words : List (List ℕ)) → is_kind word ≡ true → kinds_after kinds (word ∷ words) ≡ kinds_after (joined kinds (named_kinds (word ∷ []))) words
-kinds_after-kind kinds word words kind = rw kind (simp (or-assoc, or-false))
+kinds_after-kind kinds word words kind = rw kind (simp (or_assoc, or-false))

@@ -30,11 +30,9 @@ part_read notation line front cells rest part below split =
 -- a part without a cell
 pub part_bad : (notation : Notation) (line : ℕ) (front : List ℕ) (cells : List Point) (rest part below : List ℕ) → parts_of rest ≡ part ∷ parts_of below → cell_in notation front part ≡ None → cells_from notation line front cells (parts_of rest) ≡ Err (BadCell line (length cells))
 part_bad notation line front cells rest part below split none =
-    part_read notation line front cells rest part below split
-    ∙ ap (λ (found : Option Point). option_map_or (λ cell. cells_from notation line (join_of notation) (cells ++ cell ∷ []) (parts_of below)) found (Err (BadCell line (length cells)))) none
+    part_read notation line front cells rest part below split ∙ rw none refl
 
 -- a part with a cell
 pub part_good : (notation : Notation) (line : ℕ) (front : List ℕ) (cells : List Point) (rest part below : List ℕ) (cell : Point) → parts_of rest ≡ part ∷ parts_of below → cell_in notation front part ≡ Some cell → cells_from notation line front cells (parts_of rest) ≡ cells_from notation line (join_of notation) (cells ++ cell ∷ []) (parts_of below)
 part_good notation line front cells rest part below cell split some =
-    part_read notation line front cells rest part below split
-    ∙ ap (λ (found : Option Point). option_map_or (λ cell. cells_from notation line (join_of notation) (cells ++ cell ∷ []) (parts_of below)) found (Err (BadCell line (length cells)))) some
+    part_read notation line front cells rest part below split ∙ rw some refl

@@ -1,48 +1,30 @@
 -- How a prefix is told by a comparison, and how a cut parts a text.
-use Rattle.std.proofs.Common.{◌≡◌, ℕ, ◌+◌, ◌≤◌, Bool, true, false, ◌&&◌, cond, nat_eq, nat_lt, Option, Some, None, List, [], ◌∷◌, length, take, drop, refl, ap, sym, ◌∙◌, arith, MatchOption, Bor}
+use Rattle.std.proofs.Common.{◌≡◌, ℕ, ◌+◌, Bool, true, false, cond, nat_eq, nat_lt, Option, Some, None, List, [], ◌∷◌, length, take, drop, refl, ap, sym, ◌∙◌, arith, MatchOption, Bor}
 use Rattle.std.proofs.lemmas.Bool.{ltb-true, ltb-false}
-use Rattle.std.proofs.lemmas.List.Splits.{slice_split_first}
+use Rattle.std.proofs.lemmas.Bool.Decides.{nat_tests}
+use Rattle.std.proofs.lemmas.List.Splits.{slice_split_first, slice_split_none}
+use Rattle.std.proofs.lemmas.List.Sums.{fails_before_first}
 use Rattle.std.specs.Cmp.Lexicographic.{pointwise}
 use Rattle.std.specs.Option.{option_copied, option_map}
-use Rattle.std.specs.List.{slice_split, onto_first, position_or_len}
+use Rattle.std.specs.List.{slice_split, position_or_len}
 use Rattle.desk_lines.specs.SolverPaths.Lines.{behind, cut}
-
-both : (a b : Bool) → (a && b) ≡ true → (a ≡ true) × (b ≡ true)
-both true b h = (refl, h)
-both false b h = absurd (cc)
 
 -- the text begins with the prefix
 behind-some : (prefix text : List ℕ) → pointwise nat_eq (take (length prefix) text) prefix ≡ true → behind prefix text ≡ Some (drop (length prefix) text)
 behind-some [] text same = refl
 behind-some (first ∷ prefix) [] same = absurd (cc)
-behind-some (first ∷ prefix) (byte ∷ text) same =
-    let parts = both (nat_eq byte first) (pointwise nat_eq (take (length prefix) text) prefix) same in
-    rw parts.0 (behind-some prefix text parts.1)
-
-either_fails : (a b : Bool) (rest : Option (List ℕ)) → (a && b) ≡ false → (b ≡ false → rest ≡ None) → cond a rest None ≡ None
-either_fails true b rest h none = none h
-either_fails false b rest h none = refl
+behind-some (first ∷ prefix) (byte ∷ text) same = grind (arith, nat_tests, behind-some prefix text)
 
 -- the text begins otherwise
 behind-none : (prefix text : List ℕ) → pointwise nat_eq (take (length prefix) text) prefix ≡ false → behind prefix text ≡ None
 behind-none [] text other = absurd (cc)
 behind-none (first ∷ prefix) [] other = refl
-behind-none (first ∷ prefix) (byte ∷ text) other =
-    either_fails (nat_eq byte first) (pointwise nat_eq (take (length prefix) text) prefix) (behind prefix text) other (behind-none prefix text)
+behind-none (first ∷ prefix) (byte ∷ text) other = grind (arith, nat_tests, behind-none prefix text)
 
 -- what `strip_prefix` answers
 pub behind_is : (prefix text : List ℕ) (found : Option (Bor (List ℕ))) → MatchOption found (pointwise nat_eq (take (length prefix) text) prefix ≡ false) (λ rest. (pointwise nat_eq (take (length prefix) text) prefix ≡ true) × (rest.now ≡ drop (length prefix) text) × (length rest.now + length prefix ≡ length text)) → option_copied found ≡ behind prefix text
 behind_is prefix text None found = sym (behind-none prefix text found)
 behind_is prefix text (Some rest) found = ap (λ rest. Some rest) found.1 ∙ sym (behind-some prefix text found.0)
-
-split_none-step : (p : ℕ → Bool) (x : ℕ) (xs : List ℕ) (b : Bool) → p x ≡ b → length (x ∷ xs) ≤ position_or_len p (x ∷ xs) → (length xs ≤ position_or_len p xs → slice_split p xs ≡ xs ∷ []) → slice_split p (x ∷ xs) ≡ (x ∷ xs) ∷ []
-split_none-step p x xs true is none rest = let over = rw is at none in absurd (omega (arith, over))
-split_none-step p x xs false is none rest = let over = rw is at none in rw is (ap (onto_first x) (rest (omega (arith, over))))
-
--- where no element passes, the list is the one part
-split_none : (p : ℕ → Bool) (xs : List ℕ) → length xs ≤ position_or_len p xs → slice_split p xs ≡ xs ∷ []
-split_none p [] none = refl
-split_none p (x ∷ xs) none = split_none-step p x xs (p x) refl none (split_none p xs)
 
 nowhere : {A : Type 0} (f : ℕ → A) (b : Bool) (place : ℕ) → option_map f (cond b (Some place) None) ≡ None → b ≡ false
 nowhere f true place none = absurd (cc)
@@ -52,16 +34,13 @@ somewhere : {A : Type 0} (f : ℕ → A) (b : Bool) (place : ℕ) (a : A) → op
 somewhere f true place a some = (refl, cc)
 somewhere f false place a some = absurd (cc)
 
-parted : ℕ → List ℕ → ℕ → List ℕ × List ℕ
-parted mark text place = (take place text, drop (place + 1) text)
-
 -- a text that can't be cut is one part
 pub cut-none : (mark : ℕ) (text : List ℕ) → cut mark text ≡ None → slice_split (λ byte. nat_eq byte mark) text ≡ text ∷ []
 cut-none mark text none =
     let p : ℕ → Bool = λ byte. nat_eq byte mark in
     let place : ℕ = position_or_len p text in
     let low : nat_lt place (length text) ≡ false = nowhere (λ place. (take place text, drop (place + 1) text)) (nat_lt place (length text)) place none in
-    split_none p text (ltb-false place (length text) low)
+    slice_split_none p text (λ k d h. fails_before_first p text k d (omega (arith, ltb-false place (length text) low)))
 
 -- the first part of a text ends where it is cut
 pub cut-some : (mark : ℕ) (text front rest : List ℕ) → cut mark text ≡ Some (front, rest) → slice_split (λ byte. nat_eq byte mark) text ≡ front ∷ slice_split (λ byte. nat_eq byte mark) rest
