@@ -15,7 +15,7 @@ use Rattle.desk_session.specs.JournalText.Ranges.{IsJournal}
 use Rattle.desk_session.specs.JournalText.Reading.{ReadsAs}
 use Rattle.desk_session.specs.declared.journals.faults.JournalFault.{JournalFault}
 use Rattle.desk_session.proofs.JournalText.BadLines.{one-journal}
-use Rattle.desk_session.proofs.JournalText.OneAnswer.{reads-back}
+use Rattle.desk_session.proofs.JournalText.OneAnswer.{reads_back}
 use Rattle.desk_runs.specs.Faults.{of_journal, of_replay}
 use Rattle.desk_runs.specs.Opened.{ReplaysAs}
 use Rattle.desk_runs.specs.Saved.{SavedDesksComeBack, log_of, saved_text, under}
@@ -66,7 +66,7 @@ module _ (scene : SceneState) (limit larger : ℕ) (desk : DeskState) (on : Goes
   pub comes_back : (result : Result DeskState RunFault) → ReplaysAs (Some (saved_text desk)) scene larger result → ComesBack larger desk result
   comes_back (Ok back) (log, reads, replay) = replayed log (Ok back) reads replay
   comes_back (Err fault) (inl is) =
-      inr (ap failed is.told ∙ elim (reads-back (log_of desk) (saved_text desk) (Err is.why) lawful (inl refl) is.first) [
+      inr (ap failed is.told ∙ elim (reads_back (log_of desk) (saved_text desk) (Err is.why) lawful (inl refl) is.first) [
         | inl e ↦ ap (λ (r : Result Log JournalFault). failed (text_fault r)) e
         | inr e ↦ ap (λ (r : Result Log JournalFault). failed (text_fault r)) e
       ])

@@ -2,7 +2,7 @@
 use Rattle.std.proofs.Common.{◌≡◌, ℕ, ◌+◌, List, [], ◌∷◌, ◌++◌, length, nat_eq, false, refl, ap, sym, ◌∙◌, append_assoc, append-nil, arith, subst, length-append, add-zero}
 use Rattle.std.specs.Prelude.{Option}
 use Rattle.std.specs.Io.KnownBytes.{Consumes, Appends}
-use Rattle.std.proofs.KnownBytes.{Appends-trans, Appends-nil, Consumes-trans, Consumes-nil}
+use Rattle.std.proofs.KnownBytes.{Appends-trans, Consumes-trans}
 use Rattle.desk_session.specs.LinesOf.{complete_lines, last_piece}
 use Rattle.desk_session.specs.Replies.{reply_text, session_text}
 use Rattle.desk_session.specs.Session.{Answering, Run}
@@ -35,18 +35,6 @@ pub record Progress {S : Type 0} (answers : Answering S) (left0 left1 held0 held
   pub piece : last_piece heard ≡ line
   pub lines : length (complete_lines heard) ≡ line_count
   pub bytes : length heard ≡ byte_count
-
-pub progress-start : {S : Type 0} (answers : Answering S) (left held : Option (List ℕ)) (s : S) → Progress answers left left held held s s [] 0 0
-progress-start answers left held s = record {
-  heard = [];
-  replies = [];
-  taken = Consumes-nil left;
-  run = refl;
-  written = Appends-nil held;
-  piece = refl;
-  lines = refl;
-  bytes = refl;
-}
 
 module _ {S : Type 0} (answers : Answering S) (left0 left1 left2 held0 held1 : Option (List ℕ)) (s t : S) (line : List ℕ) (lines bytes byte : ℕ) where
   pub progress-byte : Progress answers left0 left1 held0 held1 s t line lines bytes → Consumes left1 left2 (byte ∷ []) → nat_eq byte 10 ≡ false

@@ -1,6 +1,6 @@
 ghost use Rattle.std.specs.Prelude.{◌≡◌, ◌+◌, [], IfErr, ◌||◌};
 ghost use Rattle.desk_session.specs.Answer.{answering};
-ghost use Rattle.desk_session.specs.Reads.{ReadsUntil, TakesAtMost};
+ghost use Rattle.desk_session.specs.Reads.{ReadsUntil, TakesAtMost, ReadsWithin};
 ghost use Rattle.desk_session.specs.Session.{IsAnswered, IsNext, Serves, is_read_failed, is_write_failed};
 
 use crate::answers::answer;
@@ -45,8 +45,7 @@ fn next_within<R: Source>(
     bytes: u64,
 ) -> Result<Option<u8>, ServeFault>
     ensures next { IsNext (R.left reader.old) (R.left reader.new) bounds lines bytes result }
-    ensures reads { ReadsUntil R.gives reader.old reader.new (is_read_failed result) }
-    ensures bounded { TakesAtMost R.gives 1 reader.old reader.new }
+    ensures read { ReadsWithin R.gives 1 reader.old reader.new (is_read_failed result) }
     ensures failed { R.failed reader.new ≡ (R.failed reader.old || is_read_failed result) }
 {
     let next = match reader.next_byte() {
@@ -77,8 +76,7 @@ fn serve_lines<C: Counter, R: Source, W: Sink>(
     requires { line.old.items ≡ [] }
     ensures session { Serves (answering C.counting) bounds (R.left reader.old) (R.left reader.new)
         (W.held writer.old) (W.held writer.new) (session.old, counter.old) (session.new, counter.new) result }
-    ensures reads { ReadsUntil R.gives reader.old reader.new (is_read_failed result) }
-    ensures bounded { TakesAtMost R.gives (bounds.bytes + 1) reader.old reader.new }
+    ensures read { ReadsWithin R.gives (bounds.bytes + 1) reader.old reader.new (is_read_failed result) }
     ensures failed { R.failed reader.new ≡ (R.failed reader.old || is_read_failed result) }
     ensures broken { W.broken writer.new ≡ (W.broken writer.old || is_write_failed result) }
 {

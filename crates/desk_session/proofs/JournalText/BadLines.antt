@@ -1,6 +1,6 @@
 -- What a reader knows of a text, from the place where it is.
-use Rattle.std.proofs.Common.{◌≡◌, ◌<◌, ◌≤◌, ℕ, ◌+◌, true, List, [], ◌∷◌, ◌++◌, length, codes, refl, ap, sym, ◌∙◌, subst, inl, inr, arith, append_assoc, append-nil, length-append, Ok}
-use Rattle.std.proofs.lemmas.Bool.{cases_lt}
+use Rattle.std.proofs.Common.{◌≡◌, ◌<◌, ◌≤◌, ℕ, ◌+◌, true, List, [], ◌∷◌, ◌++◌, length, codes, refl, ap, sym, ◌∙◌, subst, inl, inr, arith, append_assoc, append-nil, length-append}
+use Rattle.std.proofs.lemmas.Bool.{cases_lt, and_parts}
 use Rattle.std.proofs.lemmas.List.Folds.{list_all-append}
 use Rattle.std.specs.List.{join_with_byte}
 use Rattle.desk_report.specs.LineText.{line_text}
@@ -9,13 +9,13 @@ use Rattle.desk_core.specs.Entries.{Entry}
 use Rattle.desk_core.specs.Replays.{Log}
 use Rattle.desk_session.specs.JournalText.Ranges.{IsJournal}
 use Rattle.desk_session.specs.JournalText.Lines.{journal_lines, text_of}
-use Rattle.desk_session.specs.JournalText.Reading.{IsTextOf, mode_of, Begins, IsBadLine, ReadsAs}
+use Rattle.desk_session.specs.JournalText.Reading.{IsTextOf, mode_of, Begins, IsBadLine}
 use Rattle.desk_session.specs.JournalText.Places.{Steps, IsPlace}
 use Rattle.desk_session.specs.declared.journals.places.Heading.{Heading}
 use Rattle.desk_session.specs.declared.journals.places.Heading.TheVariants.{First, Second}
 use Rattle.desk_session.specs.declared.journals.places.Place.{Place}
 use Rattle.desk_session.specs.declared.journals.places.Place.TheVariants.{Start, Over}
-use Rattle.desk_session.proofs.JournalText.PlainWords.{are_plain, both}
+use Rattle.desk_session.proofs.JournalText.PlainWords.{are_plain}
 use Rattle.desk_session.proofs.JournalText.PlainLines.{are_lines, text-split}
 use Rattle.desk_session.proofs.JournalText.Walks.{Walks, walk-split, walk-same, place_lines}
 use Rattle.desk_session.proofs.JournalText.WholeWalks.{walk-journal, walk-reached, walk-plain, can-end}
@@ -71,7 +71,7 @@ most text rest place stands stuck n front =
       | inl less ↦
           let whole = walk-journal front.heading front.entries front.lawful.few front.lawful.entries in
           let plain : are_lines (front.lines ++ front.others) ≡ true = subst (λ (l : List (List (List ℕ))). are_lines l ≡ true) front.split (plain-lines front.heading front.entries front.lawful) in
-          let parts = both (are_lines front.lines) (are_lines front.others) (sym (list_all-append are_plain front.lines front.others) ∙ plain) in
+          let parts = and_parts (are_lines front.lines) (are_lines front.others) (sym (list_all-append are_plain front.lines front.others) ∙ plain) in
           let count : length front.lines ≡ n = front.count in
           let split = text-split (place_lines place) front.lines rest front.rest (walk-plain Start place (place_lines place) tt stands.walk) parts.0 (omega arith) (sym stands.split ∙ front.begins) in
           let walk : Walks Start ((place_lines place ++ split.more) ++ front.others) (Over front.heading front.entries) =
@@ -106,17 +106,6 @@ bad-line text rest place stands stuck unfinished = record {
         | inr first ↦ let found = whole text rest place stands stuck First log.entries (record { few = lawful.few; entries = lawful.entries }) first.1 in unfinished First log.entries found.0 found.1
       ];
 }
-
-is-text : (heading : Heading) (entries : List Entry) (text : List ℕ) → text ≡ text_of (journal_lines heading entries) → IsTextOf (record { mode = mode_of heading; entries = entries }) text
-is-text First entries text same = inr (refl, same)
-is-text (Second mode) entries text same = inl same
-
--- at the end of a text and of a journal, the text is that journal's
-pub whole-journal : (text rest : List ℕ) (heading : Heading) (entries : List Entry) → Stands text (Over heading entries) rest → rest ≡ [] → ReadsAs text (Ok (record { mode = mode_of heading; entries = entries }))
-whole-journal text rest heading entries stands none = (
-  record { few = stands.lawful.0; entries = stands.lawful.1 },
-  is-text heading entries text (stands.split ∙ ap (λ (t : List ℕ). text_of (journal_lines heading entries) ++ t) none ∙ append-nil (text_of (journal_lines heading entries))),
-)
 
 the-heading : (log : Log) (text : List ℕ) → IsTextOf log text → (heading : Heading) × (mode_of heading ≡ log.mode) × (text ≡ text_of (journal_lines heading log.entries))
 the-heading log text is = elim is [ inl second ↦ (Second log.mode, refl, second) | inr first ↦ (First, sym first.0, first.1) ]

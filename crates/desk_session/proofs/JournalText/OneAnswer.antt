@@ -13,16 +13,16 @@ one-line text a b one other =
     let most : other.fit ≤ one.fit = one.most other.fit other.begins in
     omega (arith, one.number, other.number)
 
-pub one-answer : OneAnswer
-one-answer text (Ok a) (Ok b) some more one other = ap (λ (log : Log). let r : Result Log JournalFault = Ok log in r) (one-journal text a b one.0 other.0 one.1 other.1)
-one-answer text (Ok a) (Err (BadLine line)) some more one other = absurd (other.other a one.0 one.1)
-one-answer text (Ok a) (Err OutOfMemory) some more one other = absurd (more refl)
-one-answer text (Err (BadLine line)) (Ok b) some more one other = absurd (one.other b other.0 other.1)
-one-answer text (Err (BadLine line)) (Err (BadLine number)) some more one other = ap (λ (n : ℕ). let r : Result Log JournalFault = Err (BadLine n) in r) (one-line text line number one other)
-one-answer text (Err (BadLine line)) (Err OutOfMemory) some more one other = absurd (more refl)
-one-answer text (Err OutOfMemory) b some more one other = absurd (some refl)
+pub one_answer : OneAnswer
+one_answer text (Ok a) (Ok b) some more one other = ap (λ (log : Log). let r : Result Log JournalFault = Ok log in r) (one-journal text a b one.0 other.0 one.1 other.1)
+one_answer text (Ok a) (Err (BadLine line)) some more one other = absurd (other.other a one.0 one.1)
+one_answer text (Ok a) (Err OutOfMemory) some more one other = absurd (more refl)
+one_answer text (Err (BadLine line)) (Ok b) some more one other = absurd (one.other b other.0 other.1)
+one_answer text (Err (BadLine line)) (Err (BadLine number)) some more one other = ap (λ (n : ℕ). let r : Result Log JournalFault = Err (BadLine n) in r) (one-line text line number one other)
+one_answer text (Err (BadLine line)) (Err OutOfMemory) some more one other = absurd (more refl)
+one_answer text (Err OutOfMemory) b some more one other = absurd (some refl)
 
-pub reads-back : ReadsBack
-reads-back log text (Ok other) lawful is reads = inl (ap (λ (log : Log). let r : Result Log JournalFault = Ok log in r) (one-journal text other log reads.0 lawful reads.1 is))
-reads-back log text (Err (BadLine line)) lawful is reads = absurd (reads.other log lawful is)
-reads-back log text (Err OutOfMemory) lawful is reads = inr refl
+pub reads_back : ReadsBack
+reads_back log text (Ok other) lawful is reads = inl (ap (λ (log : Log). let r : Result Log JournalFault = Ok log in r) (one-journal text other log reads.0 lawful reads.1 is))
+reads_back log text (Err (BadLine line)) lawful is reads = absurd (reads.other log lawful is)
+reads_back log text (Err OutOfMemory) lawful is reads = inr refl

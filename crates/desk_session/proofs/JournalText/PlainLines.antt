@@ -1,7 +1,7 @@
 -- How lines of plain words stand in a text: each ends at the first line feed, and tells its words.
 use Rattle.std.proofs.Common.{◌≡◌, ◌<◌, ◌≤◌, ℕ, suc, zero, Bool, true, not, ◌&&◌, ◌==◌, List, [], ◌∷◌, ◌++◌, length, codes, nat_lt, refl, ap, sym, ◌∙◌, subst, arith, get_or, take, drop, take-append-drop, append_assoc, append-nil, length-append}
 use Rattle.std.proofs.Math.Seq.{drop-cons}
-use Rattle.std.proofs.lemmas.Bool.{ne_eqb, ltb-true}
+use Rattle.std.proofs.lemmas.Bool.{ne_eqb, ltb-true, and_parts}
 use Rattle.std.proofs.lemmas.List.{append_cancel_right}
 use Rattle.std.proofs.lemmas.List.Folds.{list_all-append}
 use Rattle.std.specs.List.{list_all, join_with_byte}
@@ -9,19 +9,19 @@ use Rattle.desk_report.specs.LineText.{line_text}
 use Rattle.bench_reader.specs.Words.{is_in_word, words_of}
 use Rattle.bench_reader.proofs.WordLemmas.{word_ends}
 use Rattle.desk_session.specs.JournalText.Lines.{text_of}
-use Rattle.desk_session.proofs.JournalText.PlainWords.{is_clear, is_plain, are_plain, is_one_line, both}
+use Rattle.desk_session.proofs.JournalText.PlainWords.{is_clear, is_plain, are_plain, is_one_line}
 
 one-line-clear : (word : List ℕ) → list_all is_clear word ≡ true → is_one_line word ≡ true
 one-line-clear [] clear = refl
 one-line-clear (byte ∷ word) clear =
-    let parts = both (is_clear byte) (list_all is_clear word) clear in
+    let parts = and_parts (is_clear byte) (list_all is_clear word) clear in
     let above : 32 < byte = ltb-true 32 byte parts.0 in
     rw (ne_eqb byte 10 (omega arith), one-line-clear word parts.1) refl
 
 in-word-clear : (word : List ℕ) → list_all is_clear word ≡ true → list_all is_in_word word ≡ true
 in-word-clear [] clear = refl
 in-word-clear (byte ∷ word) clear =
-    let parts = both (is_clear byte) (list_all is_clear word) clear in
+    let parts = and_parts (is_clear byte) (list_all is_clear word) clear in
     let above : 32 < byte = ltb-true 32 byte parts.0 in
     rw (ne_eqb byte 32 (omega arith), ne_eqb byte 9 (omega arith), ne_eqb byte 13 (omega arith), in-word-clear word parts.1) refl
 
@@ -29,23 +29,23 @@ in-word-clear (byte ∷ word) clear =
 pub one-line-join : (words : List (List ℕ)) → are_plain words ≡ true → is_one_line (join_with_byte 32 words) ≡ true
 one-line-join [] plain = refl
 one-line-join (word ∷ []) plain =
-    let parts = both (is_plain word) true plain in
-    one-line-clear word (both (nat_lt 0 (length word)) (list_all is_clear word) parts.0).1
+    let parts = and_parts (is_plain word) true plain in
+    one-line-clear word (and_parts (nat_lt 0 (length word)) (list_all is_clear word) parts.0).1
 one-line-join (word ∷ next ∷ words) plain =
-    let parts = both (is_plain word) (are_plain (next ∷ words)) plain in
-    let first : is_one_line word ≡ true = one-line-clear word (both (nat_lt 0 (length word)) (list_all is_clear word) parts.0).1 in
+    let parts = and_parts (is_plain word) (are_plain (next ∷ words)) plain in
+    let first : is_one_line word ≡ true = one-line-clear word (and_parts (nat_lt 0 (length word)) (list_all is_clear word) parts.0).1 in
     list_all-append (λ (byte : ℕ). not (byte == 10)) word (32 ∷ join_with_byte 32 (next ∷ words)) ∙ rw (first, one-line-join (next ∷ words) parts.1) refl
 
 -- plain words between spaces are the words of their line
 pub words_of-join : (words : List (List ℕ)) → are_plain words ≡ true → words_of (join_with_byte 32 words) ≡ words
 words_of-join [] plain = refl
 words_of-join (word ∷ []) plain =
-    let parts = both (is_plain word) true plain in
-    let bytes = both (nat_lt 0 (length word)) (list_all is_clear word) parts.0 in
+    let parts = and_parts (is_plain word) true plain in
+    let bytes = and_parts (nat_lt 0 (length word)) (list_all is_clear word) parts.0 in
     ap words_of (sym (append-nil word)) ∙ word_ends word [] (ltb-true 0 (length word) bytes.0) (in-word-clear word bytes.1) refl
 words_of-join (word ∷ next ∷ words) plain =
-    let parts = both (is_plain word) (are_plain (next ∷ words)) plain in
-    let bytes = both (nat_lt 0 (length word)) (list_all is_clear word) parts.0 in
+    let parts = and_parts (is_plain word) (are_plain (next ∷ words)) plain in
+    let bytes = and_parts (nat_lt 0 (length word)) (list_all is_clear word) parts.0 in
     word_ends word (32 ∷ join_with_byte 32 (next ∷ words)) (ltb-true 0 (length word) bytes.0) (in-word-clear word bytes.1) refl ∙ ap (λ (rest : List (List ℕ)). word ∷ rest) (words_of-join (next ∷ words) parts.1)
 
 -- two texts that are a line and a rest are so in one way
@@ -70,8 +70,8 @@ feed-split (byte ∷ a) [] x y one other same =
     let feed : 10 ≡ byte = sym (ap first_of same) in
     absurd (subst (λ n. (not (n == 10) && is_one_line a) ≡ true → ⊥) feed (λ h. cc) one)
 feed-split (byte ∷ a) (next ∷ b) x y one other same =
-    let parts = both (not (byte == 10)) (is_one_line a) one in
-    let others = both (not (next == 10)) (is_one_line b) other in
+    let parts = and_parts (not (byte == 10)) (is_one_line a) one in
+    let others = and_parts (not (next == 10)) (is_one_line b) other in
     let rest = feed-split a b x y parts.1 others.1 (ap others_of same) in
     let first : byte ≡ next = ap first_of same in
     record { line = ap (λ n. n ∷ a) first ∙ ap (λ (l : List ℕ). next ∷ l) rest.line; rest = rest.rest }
@@ -106,8 +106,8 @@ pub text-split : (few many : List (List (List ℕ))) (x y : List ℕ) → are_li
 text-split [] many x y one other within same = record { more = many; lines = refl; rest = same }
 text-split (a ∷ few) [] x y one other within same = absurd (omega arith)
 text-split (a ∷ few) (b ∷ many) x y one other within same =
-    let parts = both (are_plain a) (are_lines few) one in
-    let others = both (are_plain b) (are_lines many) other in
+    let parts = and_parts (are_plain a) (are_lines few) one in
+    let others = and_parts (are_plain b) (are_lines many) other in
     let first = line-split a b (text_of few ++ x) (text_of many ++ y) parts.0 others.0
     (sym (append_assoc (line_text a) (text_of few) x) ∙ same ∙ append_assoc (line_text b) (text_of many) y) in
     let later = text-split few many x y parts.1 others.1 (omega arith) first.rest in

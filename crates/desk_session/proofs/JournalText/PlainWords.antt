@@ -1,5 +1,6 @@
 -- The words that are written of a journal are plain: not empty, and with no blank and no line feed. Plain words stand between single spaces as they are.
-use Rattle.std.proofs.Common.{◌≡◌, ◌<◌, ◌^◌, ℕ, Bool, true, false, not, ◌&&◌, ◌==◌, List, [], ◌∷◌, ◌++◌, length, map, codes, decimal, nat_lt, refl, ◌∙◌, arith, lt-ltb}
+use Rattle.std.proofs.Common.{◌≡◌, ◌<◌, ◌^◌, ℕ, Bool, true, not, ◌&&◌, ◌==◌, List, [], ◌∷◌, ◌++◌, length, map, codes, decimal, nat_lt, refl, ◌∙◌, arith, lt-ltb}
+use Rattle.std.proofs.lemmas.Bool.{and_parts}
 use Rattle.std.proofs.lemmas.List.Folds.{list_all-append}
 use Rattle.std.proofs.lemmas.List.Elements.{All-head, All-tail}
 use Rattle.std.proofs.lemmas.Fmt.{decimal_is_IsNumeral}
@@ -29,10 +30,6 @@ is_plain word = nat_lt 0 (length word) && list_all is_clear word
 abbrev pub are_plain : List (List ℕ) → Bool
 are_plain words = list_all is_plain words
 
-pub both : (a b : Bool) → (a && b) ≡ true → (a ≡ true) × (b ≡ true)
-both true b h = (refl, h)
-both false b h = absurd (cc)
-
 -- no line feed
 abbrev pub is_one_line : List ℕ → Bool
 is_one_line line = list_all (λ byte. not (byte == 10)) line
@@ -56,7 +53,7 @@ some-front (x ∷ xs) ys some = lt-ltb 0 (length (x ∷ (xs ++ ys))) (omega arit
 pub plain-cell : (cell : Point) → IsCell cell → is_plain (cell_text cell) ≡ true
 plain-cell cell lawful =
     let x : is_plain (decimal cell.x) ≡ true = plain-decimal cell.x (omega (arith, lawful.column)) in
-    let parts = both (nat_lt 0 (length (decimal cell.x))) (list_all is_clear (decimal cell.x)) x in
+    let parts = and_parts (nat_lt 0 (length (decimal cell.x))) (list_all is_clear (decimal cell.x)) x in
     let some : nat_lt 0 (length (cell_text cell)) ≡ true = some-front (decimal cell.x ++ codes ",") (decimal cell.y) (some-front (decimal cell.x) (codes ",") parts.0) in
     let clear : list_all is_clear (cell_text cell) ≡ true =
     list_all-append is_clear (decimal cell.x ++ codes ",") (decimal cell.y)

@@ -1,36 +1,20 @@
 -- How a reader of a journal goes on by one line, and where it sticks.
 use Rattle.std.proofs.Common.{◌≡◌, ◌<◌, ℕ, ◌+◌, true, List, [], ◌∷◌, ◌++◌, length, codes, Some, None, inl, inr, ap, sym, ◌∙◌, subst, arith, append_assoc, append-nil, length-append}
 use Rattle.std.specs.List.{join_with_byte}
-use Rattle.scene_edits.specs.declared.changes.Thing.{Thing}
-use Rattle.scene_edits.specs.declared.changes.Thing.TheVariants as things
-use Rattle.scene_edits.specs.declared.edits.Edit.{Edit}
-use Rattle.scene_edits.specs.declared.edits.Edit.TheVariants.{Add, Drop, Goal, Path, Tail, Open, Close}
 use Rattle.plan_table.specs.declared.tracks.Mode.{Mode}
 use Rattle.plan_table.specs.declared.tracks.Mode.TheVariants.{Stay, Disappear}
 use Rattle.desk_report.specs.LineText.{line_text}
-use Rattle.desk_session.specs.JournalText.Lines.{watch_words, edit_words, mode_words, text_of}
+use Rattle.desk_session.specs.JournalText.Lines.{mode_words, text_of}
+use Rattle.desk_lines.specs.Requests.{request_of_words}
 use Rattle.desk_session.specs.JournalText.Places.{Steps, LeadsTo}
 use Rattle.desk_session.specs.declared.journals.places.Place.{Place}
 use Rattle.desk_session.specs.declared.journals.places.Place.TheVariants.{Start, Versioned, Between, Inside, Over}
 use Rattle.desk_session.proofs.JournalText.PlainWords.{are_plain, is_one_line}
 use Rattle.desk_session.proofs.JournalText.PlainLines.{one-line-join, feed-split, line-words_of}
+use Rattle.desk_session.proofs.JournalText.Grammar.{request-watch, request-edit}
 use Rattle.desk_session.proofs.JournalText.RouteLines.{text-append}
 use Rattle.desk_session.proofs.JournalText.Walks.{Walks, walk-more, place_lines, step-reached, step-plain}
 use Rattle.desk_session.proofs.JournalText.BadLines.{Stands, Sticks}
-
-some-watch : (thing : Thing) → 0 < length (watch_words thing)
-some-watch (things.Agent agent) = omega arith
-some-watch (things.Cell cell) = omega arith
-some-watch things.Map = omega arith
-
-some-edit : (edit : Edit) → 0 < length (edit_words edit)
-some-edit (Add agent start goal) = omega arith
-some-edit (Drop agent) = omega arith
-some-edit (Goal agent goal) = omega arith
-some-edit (Path agent cells) = omega arith
-some-edit (Tail agent from cells) = omega arith
-some-edit (Open cell) = omega arith
-some-edit (Close cell) = omega arith
 
 some-mode : (mode : Mode) → 0 < length (mode_words mode)
 some-mode Stay = omega arith
@@ -41,7 +25,11 @@ some-words : (place next : Place) (words : List (List ℕ)) → Steps place word
 some-words Start next words step = elim step [ inl x ↦ rw x.0 (omega arith) | inr x ↦ rw x.0 (omega arith) ]
 some-words Versioned next words step = rw step.1 (some-mode step.0)
 some-words (Between heading entries) next words step = elim step [ inl x ↦ rw x.line (omega arith) | inr x ↦ rw x.0 (omega arith) ]
-some-words (Inside heading entries entry) next words step = elim step [ inl x ↦ rw x.line (some-watch x.thing) | inr x ↦ rw x.line (some-edit x.edit) ]
+some-words (Inside heading entries entry) next (word ∷ words) step = omega arith
+some-words (Inside heading entries entry) next [] step = elim step [
+  | inl x ↦ let asked = ap request_of_words x.line ∙ request-watch x.thing x.lawful in absurd (cc)
+  | inr x ↦ let asked = ap request_of_words x.line ∙ request-edit x.edit x.lawful in absurd (cc)
+]
 some-words (Over heading entries) next words step = absurd step
 
 some-line : (words : List (List ℕ)) (line : List ℕ) → are_plain words ≡ true → 0 < length words → line_text words ≡ line ++ codes "\n" → 0 < length line

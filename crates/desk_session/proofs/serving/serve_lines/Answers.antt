@@ -1,7 +1,7 @@
 use Rattle.std.proofs.Common.{rules, arith, ◌≡◌, ◌<◌, false, nat_eq, length}
 use Rattle.std.proofs.lemmas.Result.{err_from_is_err_and}
 use Rattle.desk_session.proofs.Progress.{progress-byte, progress-line}
-use Rattle.desk_session.proofs.Reading.{and-then, until-then, takes-more}
+use Rattle.desk_session.proofs.Reading.{reads-on}
 use Rattle.desk_session.proofs.Endings.{ends-next, ends-no_memory, ends-line_unwritten, ends-last_unwritten, ends-last, ends-empty}
 use Rattle.desk_session.proofs.serving.serve_lines.Goals as goal
 
@@ -58,8 +58,7 @@ session-preserved-in-Ok g c =
       lines_within = search rules;
       bytes_within = omega arith;
       room = λ _. omega arith;
-      well = and-then _ _ _ _ c.session.invariant.well c.in_ok-byte.ensures.reads;
-      took = takes-more _ c.session.bytes 1 _ _ _ _ c.session.invariant.took c.in_ok-byte.ensures.bounded (omega arith);
+      read = reads-on _ _ c.session.bytes 1 _ _ _ _ c.session.invariant.read c.in_ok-byte.ensures.read (omega arith);
       read_sound = search rules;
       write_sound = search rules;
     }
@@ -74,61 +73,32 @@ session-preserved g c =
       lines_within = omega arith;
       bytes_within = omega arith;
       room = search rules;
-      well = and-then _ _ _ _ c.session.invariant.well c.in_ok-byte.ensures.reads;
-      took = takes-more _ c.session.bytes 1 _ _ _ _ c.session.invariant.took c.in_ok-byte.ensures.bounded (omega arith);
+      read = reads-on _ _ c.session.bytes 1 _ _ _ _ c.session.invariant.read c.in_ok-byte.ensures.read (omega arith);
       read_sound = search rules;
       write_sound = search rules;
     }
 
--- No read is made after one that failed.
-pub returns-in_err-byte-clause-reads : goal.returns-in_err-byte-clause-reads
-returns-in_err-byte-clause-reads g c =
+-- No read is made after one that failed, and no more bytes are taken than the bound and one.
+pub returns-in_err-byte-clause-read : goal.returns-in_err-byte-clause-read
+returns-in_err-byte-clause-read g c =
     let p = err_from_is_err_and c.from_residual.result c.from_residual.ensures.1 in
-    rw (p.1, p.2) (until-then _ _ _ _ _ c.session.invariant.well c.in_err-byte.ensures.reads)
+    rw (p.1, p.2) (reads-on _ _ c.session.bytes 1 _ _ _ _ c.session.invariant.read c.in_err-byte.ensures.read (omega arith))
 
-pub returns-then-is_empty-clause-reads : goal.returns-then-is_empty-clause-reads
-returns-then-is_empty-clause-reads g c =
-    and-then _ _ _ _ c.session.invariant.well c.in_ok-byte.ensures.reads
+pub returns-then-is_empty-clause-read : goal.returns-then-is_empty-clause-read
+returns-then-is_empty-clause-read g c = reads-on _ _ c.session.bytes 1 _ _ _ _ c.session.invariant.read c.in_ok-byte.ensures.read (omega arith)
 
-pub returns-in_default-clause-reads : goal.returns-in_default-clause-reads
-returns-in_default-clause-reads g c =
-    and-then _ _ _ _ c.session.invariant.well c.in_ok-byte.ensures.reads
+pub returns-in_default-clause-read : goal.returns-in_default-clause-read
+returns-in_default-clause-read g c = reads-on _ _ c.session.bytes 1 _ _ _ _ c.session.invariant.read c.in_ok-byte.ensures.read (omega arith)
 
-pub returns-in-Err-clause-reads : goal.returns-in-Err-clause-reads
-returns-in-Err-clause-reads g c =
-    and-then _ _ _ _ c.session.invariant.well c.in_ok-byte.ensures.reads
+pub returns-in-Err-clause-read : goal.returns-in-Err-clause-read
+returns-in-Err-clause-read g c = reads-on _ _ c.session.bytes 1 _ _ _ _ c.session.invariant.read c.in_ok-byte.ensures.read (omega arith)
 
-pub returns-in_err-answer_line-clause-reads : goal.returns-in_err-answer_line-clause-reads
-returns-in_err-answer_line-clause-reads g c =
+pub returns-in_err-answer_line-clause-read : goal.returns-in_err-answer_line-clause-read
+returns-in_err-answer_line-clause-read g c =
     let p = err_from_is_err_and c.from_residual-in_err-answer_line.result c.from_residual-in_err-answer_line.ensures.1 in
-    rw (p.1, p.2, c.in_err-answer_line.ensures.unwritten) (and-then _ _ _ _ c.session.invariant.well c.in_ok-byte.ensures.reads)
+    rw (p.1, p.2, c.in_err-answer_line.ensures.unwritten) (reads-on _ _ c.session.bytes 1 _ _ _ _ c.session.invariant.read c.in_ok-byte.ensures.read (omega arith))
 
-pub returns-in_err-answer_line-2-clause-reads : goal.returns-in_err-answer_line-2-clause-reads
-returns-in_err-answer_line-2-clause-reads g c =
+pub returns-in_err-answer_line-2-clause-read : goal.returns-in_err-answer_line-2-clause-read
+returns-in_err-answer_line-2-clause-read g c =
     let p = err_from_is_err_and c.from_residual-in_err-answer_line-2.result c.from_residual-in_err-answer_line-2.ensures.1 in
-    rw (p.1, p.2, c.in_err-answer_line-2.ensures.unwritten) (and-then _ _ _ _ c.session.invariant.well c.in_ok-byte.ensures.reads)
-
--- No more bytes are taken than the bound and one.
-pub returns-in_err-byte-clause-bounded : goal.returns-in_err-byte-clause-bounded
-returns-in_err-byte-clause-bounded g c =
-    takes-more _ c.session.bytes 1 _ _ _ _ c.session.invariant.took c.in_err-byte.ensures.bounded (omega arith)
-
-pub returns-then-is_empty-clause-bounded : goal.returns-then-is_empty-clause-bounded
-returns-then-is_empty-clause-bounded g c =
-    takes-more _ c.session.bytes 1 _ _ _ _ c.session.invariant.took c.in_ok-byte.ensures.bounded (omega arith)
-
-pub returns-in_default-clause-bounded : goal.returns-in_default-clause-bounded
-returns-in_default-clause-bounded g c =
-    takes-more _ c.session.bytes 1 _ _ _ _ c.session.invariant.took c.in_ok-byte.ensures.bounded (omega arith)
-
-pub returns-in_err-answer_line-clause-bounded : goal.returns-in_err-answer_line-clause-bounded
-returns-in_err-answer_line-clause-bounded g c =
-    takes-more _ c.session.bytes 1 _ _ _ _ c.session.invariant.took c.in_ok-byte.ensures.bounded (omega arith)
-
-pub returns-in-Err-clause-bounded : goal.returns-in-Err-clause-bounded
-returns-in-Err-clause-bounded g c =
-    takes-more _ c.session.bytes 1 _ _ _ _ c.session.invariant.took c.in_ok-byte.ensures.bounded (omega arith)
-
-pub returns-in_err-answer_line-2-clause-bounded : goal.returns-in_err-answer_line-2-clause-bounded
-returns-in_err-answer_line-2-clause-bounded g c =
-    takes-more _ c.session.bytes 1 _ _ _ _ c.session.invariant.took c.in_ok-byte.ensures.bounded (omega arith)
+    rw (p.1, p.2, c.in_err-answer_line-2.ensures.unwritten) (reads-on _ _ c.session.bytes 1 _ _ _ _ c.session.invariant.read c.in_ok-byte.ensures.read (omega arith))

@@ -1,6 +1,6 @@
-use Rattle.std.proofs.Common.{length, ◌-◌, ◌≡◌, ◌≤◌, ◌<◌}
+use Rattle.std.proofs.Common.{length, ◌-◌, ◌≡◌, ◌≤◌, ◌<◌, false}
 use Rattle.desk_session.specs.Answer.{answering}
-use Rattle.desk_session.specs.Reads.{NoneFailed, TakesAtMost}
+use Rattle.desk_session.specs.Reads.{ReadsWithin}
 use Rattle.desk_session.proofs.Progress.{Progress}
 use Rattle.desk_session.proofs.serving.serve_lines.Given as goal
 
@@ -10,8 +10,7 @@ invariant-session g l = record {
   lines_within : l.lines ≤ l.bounds.lines;
   bytes_within : l.bytes ≤ l.bounds.bytes;
   room : 0 < length l.line.items → l.lines < l.bounds.lines;
-  well : NoneFailed g.R.Source.gives l.fn.reader l.reader;
-  took : TakesAtMost g.R.Source.gives l.bytes l.fn.reader l.reader;
+  read : ReadsWithin g.R.Source.gives l.bytes l.fn.reader l.reader false;
   read_sound : g.R.Source.failed l.reader ≡ g.R.Source.failed l.fn.reader;
   write_sound : g.W.Sink.broken l.writer ≡ g.W.Sink.broken l.fn.writer;
 }

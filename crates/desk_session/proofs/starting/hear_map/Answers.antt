@@ -5,7 +5,7 @@ use Rattle.bench_reader.specs.Lines as text_lines
 use Rattle.desk_session.specs.LinesOf.{complete_lines}
 use Rattle.desk_session.proofs.Pieces.{complete-byte}
 use Rattle.desk_session.proofs.MapLines.{Told, told-fourth, told-other, hears-whole, stops-over}
-use Rattle.desk_session.proofs.Reading.{one-more, then-failed, takes-byte, takes-kept, takes-end, takes-failure, takes-fewer}
+use Rattle.desk_session.proofs.Reading.{one-more, then-failed, takes-kept, takes-end, takes-fewer, takes-more, takes-once}
 use Rattle.desk_session.proofs.starting.hear_map.Goals as goal
 use Rattle.desk_session.proofs.starting.hear_map.Goals.{then-lines-eq4, else-lines-eq4}
 
@@ -104,8 +104,7 @@ returns-then-lines-wanted-clause-reads g c = one-more _ _ _ _ _ c.map.invariant.
 
 -- No more bytes are taken than the bound and one.
 pub returns-in-Err-clause-bounded : goal.returns-in-Err-clause-bounded
-returns-in-Err-clause-bounded g c =
-    takes-fewer _ (length c.map.text.items) _ _ _ (takes-failure _ _ _ _ _ _ c.map.invariant.took c.in-Err.ensures.gives) (omega arith)
+returns-in-Err-clause-bounded g c = takes-more _ _ 1 _ _ _ _ c.map.invariant.took (takes-once _ _ _ _ c.in-Err.ensures.gives) (omega arith)
 
 pub returns-in-Ok-None-clause-took : goal.returns-in-Ok-None-clause-took
 returns-in-Ok-None-clause-took g c =
@@ -113,19 +112,13 @@ returns-in-Ok-None-clause-took g c =
     takes-fewer _ (length c.map.text.items) _ _ _ (takes-end _ _ _ _ _ c.map.invariant.took gave) (omega arith)
 
 pub returns-in-Ok-None-clause-bounded : goal.returns-in-Ok-None-clause-bounded
-returns-in-Ok-None-clause-bounded g c =
-    let gave = rw c.in-Ok-None.field-0-is at c.in-Ok-None.ensures.gives in
-    takes-fewer _ (length c.map.text.items) _ _ _ (takes-end _ _ _ _ _ c.map.invariant.took gave) (omega arith)
+returns-in-Ok-None-clause-bounded g c = takes-more _ _ 1 _ _ _ _ c.map.invariant.took (takes-once _ _ _ _ c.in-Ok-None.ensures.gives) (omega arith)
 
 pub returns-in-Err-push-clause-bounded : goal.returns-in-Err-push-clause-bounded
-returns-in-Err-push-clause-bounded g c =
-    let gave = rw c.in-Ok-Some.field-0-is at c.in-Ok-Some.ensures.gives in
-    takes-fewer _ (length c.map.text.items + 1) _ _ _ (takes-byte _ _ _ _ _ c.in-Ok-Some.byte c.map.invariant.took gave) (omega arith)
+returns-in-Err-push-clause-bounded g c = takes-more _ _ 1 _ _ _ _ c.map.invariant.took (takes-once _ _ _ _ c.in-Ok-Some.ensures.gives) (omega arith)
 
 pub returns-then-len-most-clause-bounded : goal.returns-then-len-most-clause-bounded
-returns-then-len-most-clause-bounded g c =
-    let gave = rw c.in-Ok-Some.field-0-is at c.in-Ok-Some.ensures.gives in
-    takes-fewer _ (length c.map.text.items + 1) _ _ _ (takes-byte _ _ _ _ _ c.in-Ok-Some.byte c.map.invariant.took gave) (omega arith)
+returns-then-len-most-clause-bounded g c = takes-more _ _ 1 _ _ _ _ c.map.invariant.took (takes-once _ _ _ _ c.in-Ok-Some.ensures.gives) (omega arith)
 
 pub returns-then-lines-wanted-clause-took : goal.returns-then-lines-wanted-clause-took
 returns-then-lines-wanted-clause-took g c =
@@ -133,6 +126,4 @@ returns-then-lines-wanted-clause-took g c =
     rw c.in-Ok.ensures.items (takes-kept _ _ _ _ c.map.text.items c.in-Ok-Some.byte c.map.invariant.took gave)
 
 pub returns-then-lines-wanted-clause-bounded : goal.returns-then-lines-wanted-clause-bounded
-returns-then-lines-wanted-clause-bounded g c =
-    let gave = rw c.in-Ok-Some.field-0-is at c.in-Ok-Some.ensures.gives in
-    takes-fewer _ (length c.map.text.items + 1) _ _ _ (takes-byte _ _ _ _ _ c.in-Ok-Some.byte c.map.invariant.took gave) (omega arith)
+returns-then-lines-wanted-clause-bounded g c = takes-more _ _ 1 _ _ _ _ c.map.invariant.took (takes-once _ _ _ _ c.in-Ok-Some.ensures.gives) (omega arith)
