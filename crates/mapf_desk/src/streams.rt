@@ -174,10 +174,13 @@ impl<R: Read + Drop, W: Write + Drop> Source for Lines<'_, R, W> {
     ghost gives = { λ _ _ _. ⊤ };
 
     fn next_byte(&mut self) -> std::result::Result<Option<u8>, ReadFailed> {
+        let failed = self.failed;
         if self.next >= self.end && !self.fill() {
             self.failed = true;
             return Err(ReadFailed);
         }
+        // (what was read says nothing of it)
+        self.failed = failed;
         if self.next >= self.end {
             return Ok(None);
         }
