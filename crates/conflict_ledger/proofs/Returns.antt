@@ -1,23 +1,25 @@
--- A ring comes back: where a member moves one way, a member moves the opposite way.
-use Rattle.std.proofs.Common.{◌≡◌, ◌⊎◌, inl, inr, ℕ, zero, suc, ◌+◌, ◌<◌, ◌%◌, Bool, true, false, List, length, Option, Some, Contains, refl, sym, ap, ◌∙◌, arith}
+-- A ring goes all four ways.
+use Rattle.std.proofs.Common.{◌≡◌, ◌≢◌, ◌⊎◌, inl, inr, ℕ, zero, suc, ◌+◌, ◌<◌, ◌≤◌, ◌%◌, Bool, true, false, List, length, Option, Some, None, refl, sym, ap, subst, ◌∙◌, arith}
 use mathlib.Core.Bool.{false≢true}
-use Rattle.std.specs.Prelude.{slice_index}
-use Rattle.std.specs.Option.{unwrap_or}
+use Rattle.std.specs.Prelude.{slice_index, slice_get, min, IfSome}
+use Rattle.std.specs.Option.{unwrap_or, option_map, option_and_then}
+use Rattle.std.proofs.lemmas.Option.{get_or_from_slice_get, same_Some}
 use Rattle.std.proofs.lemmas.Bool.Decides.{nat_tests}
-use Rattle.std.proofs.lemmas.Option.{same_Some}
-use Rattle.std.proofs.lemmas.List.{get_or_default}
 use Rattle.std.proofs.lemmas.List.Elements.{Contains-get_or}
-use Rattle.grid_cells.specs.Cell.{Point, point}
-use Rattle.plan_table.specs.Route.{Route, Fleet, position_of}
+use Rattle.grid_cells.specs.Cell.{Point, point, IsStep}
+use Rattle.plan_table.specs.Path.{IsPath, last_index, place}
+use Rattle.plan_table.specs.declared.tracks.Track.{Track}
+use Rattle.plan_table.specs.Route.{Route, Fleet, position, position_of, route_of}
 use Rattle.where_index.specs.declared.ways.Way.{Way}
 use Rattle.where_index.specs.declared.ways.Way.TheVariants.{Up, Left, Right, Down}
-use Rattle.where_index.specs.Flows.{leads, opposite}
+use Rattle.where_index.specs.Flows.{leads}
+use Rattle.where_index.specs.declared.ends.End.{End}
+use Rattle.where_index.specs.Ends.{IsEndOf}
 use Rattle.where_index.specs.Asked.{Goes}
 use Rattle.where_index.specs.Index.{Contents}
-use Rattle.mapf_rules.specs.Cycles.{IsRing, IsRingAt}
-use Rattle.mapf_rules.specs.RingWalk.{IsSoleMover}
+use Rattle.mapf_rules.specs.Cycles.{IsRing}
 use Rattle.conflict_ledger.specs.Sight.{Shows, own_place}
-use Rattle.mapf_rules.proofs.RoundTrips.{after_within, all_round, one_to}
+use Rattle.mapf_rules.proofs.RoundTrips.{after_within, after_inside, after_end, all_round, one_to}
 use Rattle.mapf_rules.proofs.Walks.{same_or_not}
 
 -- ---- round a ring, what holds of each step holds of the steps back
@@ -27,6 +29,12 @@ steps_back R n itself joined step k h =
     all_round n (R ((k + 1) % n)) (λ m lt on. joined _ m _ on (step m lt)) ((k + 1) % n) k (after_within k n h) h (itself ((k + 1) % n))
 
 -- ---- ways
+abbrev opposite : Way → Way
+opposite Up = Down
+opposite Left = Right
+opposite Right = Left
+opposite Down = Up
+
 stays : (way : Way) (p : Point) → leads way p p ≡ false
 stays Up p = grind (arith, nat_tests)
 stays Left p = grind (arith, nat_tests)
@@ -44,6 +52,53 @@ turned Up p q = refl
 turned Left p q = refl
 turned Right p q = refl
 turned Down p q = refl
+
+-- ---- the ways across a way
+abbrev across : Way → Way
+across Up = Right
+across Left = Down
+across Right = Up
+across Down = Left
+
+back_again : (way : Way) → opposite (opposite way) ≡ way
+back_again Up = refl
+back_again Left = refl
+back_again Right = refl
+back_again Down = refl
+
+twice_across : (way : Way) → across (across way) ≡ way
+twice_across Up = refl
+twice_across Left = refl
+twice_across Right = refl
+twice_across Down = refl
+
+back_across : (way : Way) → across (opposite (across way)) ≡ opposite way
+back_across Up = refl
+back_across Left = refl
+back_across Right = refl
+back_across Down = refl
+
+one_way : (way : Way) (p q : Point) → leads way p q ≡ true → leads (opposite way) p q ≡ false
+one_way Up p q h = grind (arith, nat_tests)
+one_way Left p q h = grind (arith, nat_tests)
+one_way Right p q h = grind (arith, nat_tests)
+one_way Down p q h = grind (arith, nat_tests)
+
+-- a step to another cell that goes neither way across goes this way or back
+along : (way : Way) (p q : Point) → IsStep p q → p ≢ q → leads (across way) p q ≡ false → leads (opposite (across way)) p q ≡ false → (leads way p q ≡ true) ⊎ (leads (opposite way) p q ≡ true)
+along Up p q step apart a b = grind (arith, nat_tests)
+along Left p q step apart a b = grind (arith, nat_tests)
+along Right p q step apart a b = grind (arith, nat_tests)
+along Down p q step apart a b = grind (arith, nat_tests)
+
+there_and_back : (way : Way) (p q r : Point) → IsStep p q → IsStep q r → leads way p q ≡ true → leads (opposite way) q r ≡ true → p ≡ r
+there_and_back Up p q r a b on back = grind (arith, nat_tests)
+there_and_back Left p q r a b on back = grind (arith, nat_tests)
+there_and_back Right p q r a b on back = grind (arith, nat_tests)
+there_and_back Down p q r a b on back = grind (arith, nat_tests)
+
+two_on : (k n : ℕ) → k < n → 3 ≤ n → ((k + 1) % n + 1) % n ≢ k
+two_on k n h three = grind (arith, after_inside k n, after_end k n, after_inside (k + 1) n, after_end (k + 1) n, after_inside 0 n)
 
 true_or_not : (b : Bool) → (b ≡ true) ⊎ (b ≡ false)
 true_or_not true = inl refl
@@ -84,33 +139,110 @@ module _ (fleet : Fleet) (time : ℕ) (ring : List ℕ) (is : IsRing fleet time 
       let step = is.round k within in
       step.1.follower_to ∙ ap Some (sym (given _ _ step.1.leader_there))
 
-  pub comes_back : (way : Way) (member : ℕ) (from to : Point) → Contains ring member → position_of fleet member time ≡ Some from → position_of fleet member (time + 1) ≡ Some to → leads way from to ≡ true → Goes fleet time (opposite way)
+  -- where no member goes one way, none goes the opposite way
+  none_back : (way : Way) → ((k : ℕ) → k < length ring → leads way (cell_at k) (cell_at (next k)) ≡ false) → (k : ℕ) → k < length ring → leads (opposite way) (cell_at k) (cell_at (next k)) ≡ false
   unfolding next
-  comes_back way member from to (at, within, here) starts arrives on =
-      let back = opposite way in
-      elim (nowhere_or (λ k. leads back (cell_at k) (cell_at (next k))) (length ring)) [
-        | inr found ↦ record {
-          agent = slice_index ring found.0;
-          from = cell_at found.0;
-          to = cell_at (next found.0);
-          starts = starts_at found.0 found.1;
-          arrives = arrives_at found.0 found.1;
-          turns = found.2;
-        }
-        | inl none ↦
-            let same : slice_index ring at ≡ member = get_or_default ring at 0 member within ∙ here in
-            let a : cell_at at ≡ from = same_Some _ _ (sym (starts_at at within) ∙ (ap (λ m. position_of fleet m time) same ∙ starts)) in
-            let b : cell_at (next at) ≡ to = same_Some _ _ (sym (arrives_at at within) ∙ (ap (λ m. position_of fleet m (time + 1)) same ∙ arrives)) in
-            let off : leads back (cell_at (next at)) (cell_at at) ≡ false = steps_back (λ i j. leads back (cell_at i) (cell_at j) ≡ false) (length ring) (λ k. stays back (cell_at k)) (λ i j k. never back (cell_at i) (cell_at j) (cell_at k)) none at within in
-            let wrong : true ≡ false = sym on ∙ (turned way from to ∙ (ap (λ p. leads back to p) (sym a) ∙ (ap (λ p. leads back p (cell_at at)) (sym b) ∙ off))) in
-            absurd (false≢true (sym wrong))
-      ]
+  none_back way none k within =
+      sym (turned way (cell_at (next k)) (cell_at k)) ∙ steps_back (λ i j. leads way (cell_at i) (cell_at j) ≡ false) (length ring) (λ k. stays way (cell_at k)) (λ i j k. never way (cell_at i) (cell_at j) (cell_at k)) none k within
+
+  one_place : (k m : ℕ) → k < length ring → m < length ring → slice_index ring k ≡ slice_index ring m → k ≡ m
+  one_place k m k_in m_in at = grind (arith, is.distinct k m 0, is.distinct m k 0)
+
+  -- members are in cells of their own, and the second next of one is another one
+  moves_on : (k : ℕ) → k < length ring → cell_at k ≢ cell_at (next k)
+  moves_on k within same =
+      let before = one_to fleet time ring is (slice_index ring k) (Contains-get_or ring k 0 within) in
+      before.1.sole.moves.moves (arrives_at k within ∙ ap Some (sym same) ∙ sym (starts_at k within) ∙ before.1.sole.moves.from)
+
+  not_back : (k : ℕ) → k < length ring → cell_at k ≢ cell_at (next (next k))
+  unfolding next
+  not_back k within same =
+      let near = after_within k (length ring) within in
+      let far = after_within (next k) (length ring) near in
+      let there = one_to fleet time ring is (slice_index ring (next (next k))) (Contains-get_or ring (next (next k)) 0 far) in
+      let here : position_of fleet (slice_index ring k) time ≡ Some there.1.cell = starts_at k within ∙ ap Some same ∙ sym (starts_at (next (next k)) far) ∙ there.1.sole.moves.from in
+      let one = is.alone (slice_index ring k) (slice_index ring (next (next k))) there.1.cell (Contains-get_or ring k 0 within) here there.1.sole.moves in
+      two_on k (length ring) within is.three (one_place (next (next k)) k far within one)
+
+  module _ (walks : (agent : ℕ) (p q : Point) → position_of fleet agent time ≡ Some p → position_of fleet agent (time + 1) ≡ Some q → IsStep p q) where
+    steps : (k : ℕ) → k < length ring → IsStep (cell_at k) (cell_at (next k))
+    steps k within = walks _ _ _ (starts_at k within) (arrives_at k within)
+
+    -- where no member goes one way nor back, those that go across all go on
+    goes_on : (way : Way) → ((k : ℕ) → k < length ring → leads (across way) (cell_at k) (cell_at (next k)) ≡ false) → (k : ℕ) → k < length ring → leads way (cell_at k) (cell_at (next k)) ≡ true → leads way (cell_at (next k)) (cell_at (next (next k))) ≡ true
+    unfolding next
+    goes_on way none k within on =
+        let near = after_within k (length ring) within in
+        elim (along way (cell_at (next k)) (cell_at (next (next k))) (steps (next k) near) (moves_on (next k) near) (none (next k) near) (none_back (across way) none (next k) near)) [
+          | inl same ↦ same
+          | inr back ↦ absurd (not_back k within (there_and_back way (cell_at k) (cell_at (next k)) (cell_at (next (next k))) (steps k within) (steps (next k) near) on back))
+        ]
+
+    -- so no member goes so
+    none_on : (way : Way) → ((k : ℕ) → k < length ring → leads (across way) (cell_at k) (cell_at (next k)) ≡ false) → (k : ℕ) → k < length ring → leads way (cell_at k) (cell_at (next k)) ≡ true → ⊥
+    unfolding next
+    none_on way none k within on =
+        let all = λ (j : ℕ) (inside : j < length ring). all_round (length ring) (λ i. leads way (cell_at i) (cell_at (next i)) ≡ true) (goes_on way none) k j within inside on in
+        let off = none_back (opposite way) (λ j inside. one_way way (cell_at j) (cell_at (next j)) (all j inside)) k within in
+        false≢true (sym off ∙ (ap (λ w. leads w (cell_at k) (cell_at (next k))) (back_again way) ∙ on))
+
+    -- a ring goes all four ways
+    pub goes_round : (way : Way) → Goes fleet time way
+    unfolding next
+    goes_round way = elim (nowhere_or (λ k. leads way (cell_at k) (cell_at (next k))) (length ring)) [
+      | inr found ↦ record {
+        agent = slice_index ring found.0;
+        from = cell_at found.0;
+        to = cell_at (next found.0);
+        starts = starts_at found.0 found.1;
+        arrives = arrives_at found.0 found.1;
+        turns = found.2;
+      }
+      | inl none ↦
+          let first : 0 < length ring = omega (arith, is.three) in
+          let here = λ (k : ℕ) (within : k < length ring). ap (λ w. leads w (cell_at k) (cell_at (next k))) (twice_across way) ∙ none k within in
+          elim (along (across way) (cell_at 0) (cell_at (next 0)) (steps 0 first) (moves_on 0 first) (here 0 first) (none_back (across (across way)) here 0 first)) [
+            | inl on ↦ absurd (none_on (across way) here 0 first on)
+            | inr back ↦ absurd (none_on (opposite (across way)) (λ k within. ap (λ w. leads w (cell_at k) (cell_at (next k))) (back_across way) ∙ none_back way none k within) 0 first back)
+          ]
+    ]
 
 -- who moves in the fleet moves in the index, or on the agent's own track
 pub goes_shown : (index : Contents) (agent : ℕ) (route : Option Route) (fleet : Fleet) (shows : Shows index agent route fleet) (time : ℕ) (way : Way) → Goes fleet time way
     → Goes shows.base time way ⊎ ((from : Point) × (to : Point) × (own_place route time ≡ Some from) × (own_place route (time + 1) ≡ Some to) × (leads way from to ≡ true))
 goes_shown index agent route fleet shows time way g = grind (arith, nat_tests)
 
--- the member of a ring is the one agent that moves out of its cell
-pub sole_in_ring : (fleet : Fleet) (time : ℕ) (cell : Point) (ring : List ℕ) (round : IsRingAt fleet time cell ring) → IsSoleMover fleet time cell round.member
-sole_in_ring fleet time cell ring round = grind (arith, nat_tests)
+-- agents on paths go by steps
+cells_step : (path : List Point) (i j : ℕ) (p q : Point) → IsPath path → (j ≡ i) ⊎ (j ≡ i + 1) → j < length path → slice_get path i ≡ Some p → slice_get path j ≡ Some q → IsStep p q
+cells_step path i j p q is near within a b = grind (arith, nat_tests, near, is.walkable.steps i p, get_or_from_slice_get path i p p a, get_or_from_slice_get path j q p b)
+
+path_steps : (r : Route) (time : ℕ) (p q : Point) → IsPath r.path → position r time ≡ Some p → position r (time + 1) ≡ Some q → IsStep p q
+path_steps r time p q is a b = cells_step r.path (min time (last_index r.path)) (min (time + 1) (last_index r.path)) p q is near (omega (arith, is.walkable.some_cell)) (there r.path time p a) (there r.path (time + 1) q b)
+  where
+    near : (min (time + 1) (last_index r.path) ≡ min time (last_index r.path)) ⊎ (min (time + 1) (last_index r.path) ≡ min time (last_index r.path) + 1)
+    near = grind arith
+
+    there : (path : List Point) (t : ℕ) (c : Point) → position r t ≡ Some c → place r.path t ≡ Some c
+    there path t c at = grind (arith, nat_tests)
+
+ended_path : (end : Option End) (r : Route) → IsEndOf end (Some r) → IsPath r.path
+ended_path None r is = absurd is
+ended_path (Some end) r is = is.path
+
+-- so do the agents that a sight shows
+pub shown_steps : (index : Contents) (agent : ℕ) (track : Option Track) (fleet : Fleet) (shows : Shows index agent (option_map route_of track) fleet) → IfSome track (λ t. IsPath t.plan.now) → (time a : ℕ) (p q : Point) → position_of fleet a time ≡ Some p → position_of fleet a (time + 1) ≡ Some q → IsStep p q
+shown_steps index agent track fleet shows own time a p q from to = by_route (fleet a) refl (same_or_not a agent)
+  where
+    is_path : (t : Option Track) → IfSome t (λ t. IsPath t.plan.now) → (r : Route) → option_map route_of t ≡ Some r → IsPath r.path
+    is_path None h r e = cc
+    is_path (Some t) h r e = subst (λ (q : Route). IsPath q.path) (same_Some _ _ e) h
+
+    by_route : (o : Option Route) → fleet a ≡ o → (a ≡ agent) ⊎ (a ≢ agent) → IsStep p q
+    by_route None e w = let wrong : None ≡ Some p = sym (ap (λ (o : Option Route). option_and_then (λ r. position r time) o) e) ∙ from in cc
+    by_route (Some r) e w =
+        let here : position r time ≡ Some p = sym (ap (λ (o : Option Route). option_and_then (λ r. position r time) o) e) ∙ from in
+        let there : position r (time + 1) ≡ Some q = sym (ap (λ (o : Option Route). option_and_then (λ r. position r (time + 1)) o) e) ∙ to in
+        path_steps r time p q (elim w [
+          | inl is ↦ is_path track own r (sym shows.own ∙ ap fleet (sym is) ∙ e)
+          | inr apart ↦ ended_path _ r (subst (IsEndOf _) (shows.others a apart ∙ e) (shows.stands.ends a))
+        ]) here there

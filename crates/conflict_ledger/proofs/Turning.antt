@@ -17,7 +17,8 @@ use Rattle.mapf_rules.specs.Cycles.{MovesOut, IsRing}
 use Rattle.mapf_rules.specs.Naming.{IsPair, Names, time_of}
 use Rattle.conflict_ledger.specs.Change.{SameBut, IsFree}
 use Rattle.conflict_ledger.specs.Sight.{Shows, own_place}
-use Rattle.conflict_ledger.specs.Gathering.{IsAgents, AreAgents}
+use Rattle.conflict_ledger.specs.Gathering.{IsAgents}
+use Rattle.conflict_ledger.specs.Mending.{IsShare}
 use Rattle.conflict_ledger.specs.Spans.{IsIn, HasEntriesIn, SameBeside}
 use Rattle.conflict_ledger.specs.declared.spans.Span.{Span}
 use Rattle.conflict_ledger.specs.Turns.{IsLeft, IsLeftAt, MayTurn, IsToldAt}
@@ -199,25 +200,23 @@ module _ (index : Contents) (agent : ℕ) (route : Option Route) (out into : Fle
         refl,
       )
 
-  module _ (broken joined pairs : List Conflict) (span : Span) (p_are : AreAgents into agent span pairs)
-      (b_only : (e : Conflict) → Contains broken e → IsLeft out route e × IsToldAt Broken pairs agent (time_of e)) (b_has : (e : Conflict) → IsLeft out route e → IsToldAt Broken pairs agent (time_of e) → Contains broken e)
-      (j_only : (e : Conflict) → Contains joined e → IsLeft into route e × IsToldAt Joined pairs agent (time_of e)) (j_has : (e : Conflict) → IsLeft into route e → IsToldAt Joined pairs agent (time_of e) → Contains joined e) where
+  module _ (pairs broken joined : List Conflict) (span : Span) (share : IsShare out into agent route span pairs broken joined) where
     told_in : {turn : Turn} → (time : ℕ) → IsToldAt turn pairs agent time → IsIn span time
-    told_in time told = subst (IsIn span) told.at (p_are.only told.entry told.has).1
+    told_in time told = subst (IsIn span) told.at (share.are.only told.entry told.has).1
 
     -- where such rings have an entry that tells of them, the agent's entries have it
     told_at : (turn : Turn) (fleet : Fleet) → ((x : ℕ) (r : List ℕ) → IsLeftAt fleet route x r → (e : Conflict) × IsAgents into agent e × (time_of e ≡ x) × MayTurn turn e agent) → (e : Conflict) → IsIn span (time_of e) → IsLeft fleet route e → IsToldAt turn pairs agent (time_of e)
-    told_at turn fleet tells (Cycle x r) inside left = let w = tells x r left in record { entry = w.0; has = p_are.has w.0 w.1 (subst (IsIn span) (sym w.2) inside); at = w.2; may = w.3 }
+    told_at turn fleet tells (Cycle x r) inside left = let w = tells x r left in record { entry = w.0; has = share.are.has w.0 w.1 (subst (IsIn span) (sym w.2) inside); at = w.2; may = w.3 }
     told_at turn fleet tells e inside left = absurd left
 
     b_is : (e : Conflict) → IsIn span (time_of e) → Contains broken e ↔ IsLeft out route e
-    b_is e inside = (λ h. (b_only e h).0, λ left. b_has e left (told_at Broken out told_broken e inside left))
+    b_is e inside = (λ h. (share.broken_only e h).0, λ left. share.broken_has e left (told_at Broken out told_broken e inside left))
 
     j_is : (e : Conflict) → IsIn span (time_of e) → Contains joined e ↔ IsLeft into route e
-    j_is e inside = (λ h. (j_only e h).0, λ left. j_has e left (told_at Joined into told_joined e inside left))
+    j_is e inside = (λ h. (share.joined_only e h).0, λ left. share.joined_has e left (told_at Joined into told_joined e inside left))
 
     p_is : (e : Conflict) → IsIn span (time_of e) → Contains pairs e ↔ IsAgents into agent e
-    p_is e inside = (λ h. (p_are.only e h).0, λ is. p_are.has e is inside)
+    p_is e inside = (λ h. (share.are.only e h).0, λ is. share.are.has e is inside)
 
     -- the agent comes
     module _ (k0 k1 k2 k3 : List Conflict) (loses : LosesAll k0 k1 broken) (gains : GainsAll k1 k2 joined) (more : GainsAll k2 k3 pairs) where
@@ -257,10 +256,10 @@ module _ (index : Contents) (agent : ℕ) (route : Option Route) (out into : Fle
       pub enter_beside : SameBeside span k0 k3
       enter_beside e beside = (
         λ h. elim ((more e).0 h) [
-          | inr p ↦ absurd (beside (p_are.only e p).1)
-          | inl two ↦ elim ((gains e).0 two) [ inr j ↦ absurd (beside (told_in (time_of e) (j_only e j).1)) | inl one ↦ ((loses e).0 one).0 ]
+          | inr p ↦ absurd (beside (share.are.only e p).1)
+          | inl two ↦ elim ((gains e).0 two) [ inr j ↦ absurd (beside (told_in (time_of e) (share.joined_only e j).1)) | inl one ↦ ((loses e).0 one).0 ]
         ],
-        λ h. (more e).1 (inl ((gains e).1 (inl ((loses e).1 (h, λ b. beside (told_in (time_of e) (b_only e b).1)))))),
+        λ h. (more e).1 (inl ((gains e).1 (inl ((loses e).1 (h, λ b. beside (told_in (time_of e) (share.broken_only e b).1)))))),
       )
 
     -- the agent goes
@@ -300,10 +299,10 @@ module _ (index : Contents) (agent : ℕ) (route : Option Route) (out into : Fle
       pub leave_beside : SameBeside span k0 k3
       leave_beside e beside = (
         λ h. elim ((gains e).0 h) [
-          | inr b ↦ absurd (beside (told_in (time_of e) (b_only e b).1))
+          | inr b ↦ absurd (beside (told_in (time_of e) (share.broken_only e b).1))
           | inl two ↦ ((loses e).0 ((fewer e).0 two).0).0
         ],
-        λ h. (gains e).1 (inl ((fewer e).1 ((loses e).1 (h, λ j. beside (told_in (time_of e) (j_only e j).1)), λ p. beside (p_are.only e p).1))),
+        λ h. (gains e).1 (inl ((fewer e).1 ((loses e).1 (h, λ j. beside (told_in (time_of e) (share.joined_only e j).1)), λ p. beside (share.are.only e p).1))),
       )
 
 -- ---- a fleet with another route for one agent

@@ -12,7 +12,7 @@ use Rattle.conflict_ledger.specs.declared.sight.Sight.{Sight}
 use Rattle.conflict_ledger.specs.Spans.{IsIn, Fits}
 use Rattle.conflict_ledger.specs.declared.spans.Span.{Span}
 use Rattle.mapf_rules.specs.declared.entries.Conflict.{Conflict}
-use Rattle.mapf_rules.specs.declared.entries.Conflict.TheVariants.{Vertex, Parked, Edge, Following, Swapping, Cycle}
+use Rattle.mapf_rules.specs.declared.entries.Conflict.TheVariants.{Vertex, Parked, Edge, Following, Swapping}
 use Rattle.where_index.specs.Spots.{AreRising}
 use Rattle.where_index.specs.declared.spot_sets.Spot.{Spot}
 use Rattle.conflict_ledger.specs.declared.places.Place.{Place}

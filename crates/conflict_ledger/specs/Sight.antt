@@ -3,8 +3,7 @@ use Rattle.std.specs.Prelude.{◌≡◌, ◌≢◌, ◌⊎◌, ℕ, ◌+◌, ◌
 use Rattle.std.specs.Option.{option_and_then, option_map}
 use Rattle.grid_cells.specs.Cell.{Point}
 use Rattle.where_index.specs.declared.moves.Move.{Move}
-use Rattle.plan_table.specs.Route.{Route, Fleet, position, position_of, route_of}
-use Rattle.mapf_rules.specs.Cycles.{IsRing}
+use Rattle.plan_table.specs.Route.{Route, Fleet, position, route_of}
 use Rattle.where_index.specs.Index.{Contents, StandsFor}
 use Rattle.conflict_ledger.specs.Change.{SameBut}
 use Rattle.conflict_ledger.specs.declared.sight.Sight.{Sight}
@@ -31,11 +30,6 @@ InBoth sight with holds = (fleet other : Fleet) → Sees sight fleet → Sees wi
 -- the route of the sight's agent, where it is shown
 abbrev pub own_route : Sight → Option Route
 own_route sight = option_map route_of sight.shown
-
--- so it is where a ring of a fleet that the sight shows has a member that moves from the one cell to the other in the step
-abbrev pub WhereRing : Sight → ℕ → Point → Point → Type 0 → Type 0
-WhereRing sight time from to holds =
-    (fleet : Fleet) (ring : List ℕ) (member : ℕ) → Sees sight fleet → IsRing fleet time ring → Contains ring member → position_of fleet member time ≡ Some from → position_of fleet member (time + 1) ≡ Some to → holds
 
 -- the agent moves to the cell: by its own move where it is the agent of the sight, and by the list otherwise
 abbrev pub IsMoverIn : List Move → ℕ → Option Point → ℕ → Point → Type 0

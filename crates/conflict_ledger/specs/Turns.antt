@@ -9,7 +9,7 @@ use Rattle.conflict_ledger.specs.declared.sight.Sight.{Sight}
 use Rattle.conflict_ledger.specs.declared.turns.Turn.{Turn}
 use Rattle.conflict_ledger.specs.declared.turns.Turn.TheVariants.{Broken, Joined}
 use Rattle.mapf_rules.specs.declared.entries.Conflict.{Conflict}
-use Rattle.mapf_rules.specs.declared.entries.Conflict.TheVariants.{Vertex, Parked, Edge, Following, Swapping, Cycle}
+use Rattle.mapf_rules.specs.declared.entries.Conflict.TheVariants.{Vertex, Following, Cycle}
 
 -- the route moves in the step, and the ring of the fleet has a member that moves out of the cell that it leaves
 pub record IsLeftAt (fleet : Fleet) (route : Option Route) (time : ℕ) (ring : List ℕ) : Type 0 where

@@ -1,14 +1,15 @@
-ghost use Rattle.std.specs.Prelude.{◌≡◌, ℕ, ◌+◌, ◌<◌, List, Contains, Some, IsTrue};
+ghost use Rattle.std.specs.Prelude.{◌≡◌, ℕ, ◌<◌, List, IfSome, IsTrue};
 ghost use Rattle.std.specs.Option.{option_map};
 ghost use Rattle.grid_cells.specs.Cell.{Point};
-ghost use Rattle.plan_table.specs.Route.{Fleet, position_of, route_of};
-ghost use Rattle.where_index.specs.Flows.{leads, opposite};
+ghost use Rattle.plan_table.specs.Path.{IsPath};
+ghost use Rattle.plan_table.specs.Route.{Fleet, route_of};
+ghost use Rattle.where_index.specs.Flows.{leads};
 ghost use Rattle.where_index.specs.Asked.{Goes};
 ghost use Rattle.mapf_rules.specs.Cycles.{IsRing};
-ghost use Rattle.conflict_ledger.specs.Sight.{Sees, TakesStep, WhereRing, own_route};
+ghost use Rattle.conflict_ledger.specs.Sight.{Sees, TakesStep, own_route};
 
 use crate::sight::Sight;
-use grid_cells::{Cell, Step};
+use grid_cells::Step;
 use where_index::Way;
 
 impl Sight<'_> {
@@ -35,23 +36,25 @@ impl Sight<'_> {
         self.index.goes(Step::new(time), way) || self.own_goes(time, way)
     }
 
-    // Whether an agent moves back, where the way leads from the one cell to the other.
-    fn may_go_back(&self, time: u32, way: Way, from: Cell, to: Cell) -> bool
-        requires { time < u32.MAX }
-        ensures { (fleet : Fleet) → Sees self.now fleet → (IsTrue (leads way from to) → Goes fleet time (opposite way)) → IsTrue result }
+    // The agent's own track is along a path.
+    fn own_is_path(&self)
+        ensures { IfSome self.now.shown (λ track. IsPath track.plan.now) }
     {
-        !way.leads(from, to) || self.may_go(time, way.opposite())
+        if let Some(track) = &self.shown {
+            let _last = track.plan.last();
+        }
     }
 
-    // Whether a ring can have a member that moves from the one cell to the other in the step: on each
-    // way that it goes, another agent comes back.
-    pub fn may_close(&self, time: u32, from: Cell, to: Cell) -> bool
+    // Whether the step can have a ring. Each goes all four ways: it comes back on each way that it
+    // goes, and not by the way that it went, since it has three agents at least.
+    pub fn may_have_ring(&self, time: u32) -> bool
         requires { time < u32.MAX }
-        ensures { WhereRing self.now time from to (IsTrue result) }
+        ensures { (fleet : Fleet) (ring : List ℕ) → Sees self.now fleet → IsRing fleet time ring → IsTrue result }
     {
-        self.may_go_back(time, Way::Up, from, to)
-            && self.may_go_back(time, Way::Left, from, to)
-            && self.may_go_back(time, Way::Right, from, to)
-            && self.may_go_back(time, Way::Down, from, to)
+        self.own_is_path();
+        self.may_go(time, Way::Up)
+            && self.may_go(time, Way::Left)
+            && self.may_go(time, Way::Right)
+            && self.may_go(time, Way::Down)
     }
 }

@@ -1,15 +1,14 @@
-ghost use Rattle.std.specs.Prelude.{◌≡◌, ◌↔◌, ℕ, ◌<◌, Some, List, IfOk, IfSome, IsTrue, Contains};
+ghost use Rattle.std.specs.Prelude.{◌≡◌, ◌↔◌, ◌<◌, IfOk, IfSome, IsTrue};
 ghost use Rattle.std.specs.Option.{option_map};
 ghost use Rattle.plan_table.specs.Route.{Fleet, route_of};
 ghost use Rattle.mapf_rules.specs.declared.entries.Conflict.{Conflict};
-ghost use Rattle.mapf_rules.specs.Cycles.{IsRingAt};
 ghost use Rattle.mapf_rules.specs.Naming.{time_of};
 ghost use Rattle.conflict_ledger.specs.Sight.{InBoth, InView, Sees, own_route};
 ghost use Rattle.conflict_ledger.specs.Turns.{AreLeftTold, FindsRing, FindsTurned, HasLeftTold, IsLeft, IsTurned, MayTurn};
 
 use crate::sight::Sight;
-use grid_cells::{Agent, Cell, OutOfMemory, Step};
-use mapf_rules::{Conflict, Movers, offer, ring_out_of};
+use grid_cells::{Agent, OutOfMemory, Step};
+use mapf_rules::{Conflict, offer, ring_out_of};
 use std::alloc::Global;
 
 // Which rings an agent's moves turn: those of the others that they break, or those that they join.
@@ -17,22 +16,6 @@ use std::alloc::Global;
 pub(crate) enum Turn {
     Broken,
     Joined,
-}
-
-// Whether the view can show a ring in that step at the cell. Where nobody moves the opposite way of
-// the agent that moves out of it, there is none, however long the chain of agents ahead is. The way
-// of the view's own agent is known without a look at who moves out of the cell.
-fn may_ring(view: &Sight<'_>, time: u32, cell: Cell) -> bool
-    requires { time < u32.MAX }
-    ensures { (fleet : Fleet) (ring : List ℕ) → Sees view.now fleet → IsRingAt fleet time cell ring → IsTrue result }
-{
-    if let Some(to) = view.own_move(time, cell) {
-        return view.may_close(time, cell, to);
-    }
-    match view.sole_mover(time, cell) {
-        Some(mover) => view.may_close(time, cell, mover.1),
-        None => false,
-    }
 }
 
 // The ring that the view shows in that step at the cell that the agent of the other sight moves out
@@ -53,7 +36,7 @@ fn ring_left_at(
     let Some(to) = with.own(time + 1) else {
         return Ok(None);
     };
-    if to == cell || !may_ring(view, time, cell) {
+    if to == cell || !view.may_have_ring(time) {
         return Ok(None);
     }
     match ring_out_of(alloc, view, time, cell)? {

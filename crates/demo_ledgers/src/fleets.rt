@@ -1,4 +1,4 @@
-//! Fleets of five kinds, each with one agent that is given another path and its own again. All agents
+//! Fleets of six kinds, each with one agent that is given another path and its own again. All agents
 //! rest at the ends of their paths. How many entries each fleet has, and then with the other path:
 //!
 //! - Convoy: in each of 64 steps each agent but the first of the lane steps into the cell that the next
@@ -6,6 +6,8 @@
 //!   follows it only in that step, is with it at the 64 times after it (Vertex) and goes with it in 63
 //!   steps (Edge), the one behind these two follows it in 63 steps, and it follows nobody: it had 64
 //!   and 64 entries with its neighbours and now has 1 + 64 + 63 + 63, which is 64 (n - 1) + 63 in all.
+//! - Among: a convoy, and two agents in columns of their own beside the lane, one of whom goes up in each
+//!   step and the other one down, so that agents go all four ways. They meet nobody.
 //! - Rows: convoys of the same kind, each in a row of its own and as many as there are rows: so
 //!   64 (n - 1) Following in each, and 63 entries more with the other path.
 //! - Crowd: found by a program that goes over all pairs at all times, written apart from this one:
@@ -13,7 +15,9 @@
 //! - Long: the cells 0,0 and 1,0 are nobody else's: none. With the end in 2,0, where another rests,
 //!   there are two: the agent follows that one in the last step, and they are parked in one cell.
 //! - Apart: each agent has two cells to itself, so none, also where it waits first.
-use crate::lanes::{STEPS, after_wait, along_lane, along_row, shortest, to_and_fro, with_end};
+use crate::lanes::{
+    STEPS, after_wait, along_lane, along_row, shortest, to_and_fro, up_and_down, with_end,
+};
 use plan_table::Plan;
 use std::alloc::Global;
 use test_support::Chain;
@@ -23,6 +27,8 @@ use test_support::Chain;
 pub enum Shape {
     /// So many agents head to tail along a lane, who all step on 64 times.
     Convoy { agents: u32 },
+    /// Such a convoy, and two agents beside it who go up and down.
+    Among { agents: u32 },
     /// So many agents head to tail along each of so many rows, who all step on 64 times.
     Rows { rows: u32, agents: u32 },
     /// So many agents on shortest paths between cells by chance of a square map of that side.
@@ -38,6 +44,7 @@ impl Shape {
     pub fn name(self) -> &'static str {
         match self {
             Shape::Convoy { .. } => "convoy",
+            Shape::Among { .. } => "among",
             Shape::Rows { .. } => "rows",
             Shape::Crowd { .. } => "crowd",
             Shape::Long { .. } => "long",
@@ -60,38 +67,36 @@ const RESTING: u32 = 100;
 /// A fleet of that kind.
 pub fn fleet_of(alloc: Global, shape: Shape) -> anyhow::Result<Fleet> {
     match shape {
-        Shape::Convoy { agents } => convoy(alloc, agents),
-        Shape::Rows { rows, agents } => convoys(alloc, rows, agents),
+        Shape::Convoy { agents } | Shape::Apart { agents } => alike(alloc, shape, agents, agents),
+        Shape::Among { agents } => alike(alloc, shape, agents.saturating_add(2), agents),
+        Shape::Rows { rows, agents } => alike(alloc, shape, rows.saturating_mul(agents), agents),
         Shape::Crowd { agents, side } => crowd(alloc, agents, side),
         Shape::Long { cells } => long(alloc, cells),
-        Shape::Apart { agents } => apart(alloc, agents),
     }
 }
 
-fn convoy(alloc: Global, agents: u32) -> anyhow::Result<Fleet> {
+// The plan of that agent among those who all go alike, so many in each row of convoys.
+fn plan_of(alloc: Global, shape: Shape, number: u32) -> anyhow::Result<Plan> {
+    match shape {
+        Shape::Rows { agents, .. } => {
+            let row = agents.max(1);
+            along_row(alloc, (number % row, number / row))
+        }
+        Shape::Among { agents } if number >= agents => up_and_down(alloc, number - agents),
+        Shape::Apart { .. } => apart_plan(alloc, number),
+        _ => along_lane(alloc, number),
+    }
+}
+
+// So many agents who all go alike, of whom the one in the middle of the first row is edited: it may wait
+// before its path.
+fn alike(alloc: Global, shape: Shape, agents: u32, row: u32) -> anyhow::Result<Fleet> {
     let mut plans = Vec::new(alloc);
     for number in 0..agents {
-        plans.push(along_lane(alloc, number)?)?;
+        plans.push(plan_of(alloc, shape, number)?)?;
     }
-    let edited = agents / 2;
-    let other = after_wait(alloc, &along_lane(alloc, edited)?)?;
-    Ok(Fleet {
-        plans,
-        edited,
-        other,
-    })
-}
-
-// The edited agent is in the middle of the upper row.
-fn convoys(alloc: Global, rows: u32, agents: u32) -> anyhow::Result<Fleet> {
-    let mut plans = Vec::new(alloc);
-    for row in 0..rows {
-        for column in 0..agents {
-            plans.push(along_row(alloc, (column, row))?)?;
-        }
-    }
-    let edited = agents / 2;
-    let other = after_wait(alloc, &along_row(alloc, (edited, 0))?)?;
+    let edited = row / 2;
+    let other = after_wait(alloc, &plan_of(alloc, shape, edited)?)?;
     Ok(Fleet {
         plans,
         edited,
@@ -144,21 +149,7 @@ fn long(alloc: Global, cells: u32) -> anyhow::Result<Fleet> {
     })
 }
 
-fn apart(alloc: Global, agents: u32) -> anyhow::Result<Fleet> {
-    let mut plans = Vec::new(alloc);
-    for number in 0..agents {
-        plans.push(apart_plan(alloc, number)?)?;
-    }
-    let edited = agents / 2;
-    let other = after_wait(alloc, &apart_plan(alloc, edited)?)?;
-    Ok(Fleet {
-        plans,
-        edited,
-        other,
-    })
-}
-
-// The plan of that agent of those apart: 64 of them in a row.
-fn apart_plan(alloc: Global, number: u32) -> anyhow::Result<Plan> {
+/// The plan of that agent of those apart: 64 of them in a row.
+pub fn apart_plan(alloc: Global, number: u32) -> anyhow::Result<Plan> {
     to_and_fro(alloc, (number % 64 * 2, number / 64), STEPS + 1)
 }

@@ -1,27 +1,15 @@
 //! An index and the ledger of its agents' conflicts, and the time that changes of both take.
-ghost use Rattle.std.specs.Prelude.{◌≡◌, ◌<◌, ℕ};
-ghost use Rattle.plan_table.specs.Route.{route_of, position};
-
 use crate::taken::Taken;
 use anyhow::bail;
-use conflict_ledger::{ConflictLedger, Kind};
+use conflict_ledger::ConflictLedger;
 use grid_cells::Agent;
-use plan_table::{Plan, Track};
-use scene_edits::first_difference;
+use plan_table::Plan;
 use std::alloc::Global;
 use std::io;
 use std::rt::Clock;
 use std::time::Instant;
+use test_support::{KINDS, since, stays};
 use where_index::WhereIndex;
-
-const KINDS: [Kind; 6] = [
-    Kind::Vertex,
-    Kind::Parked,
-    Kind::Edge,
-    Kind::Following,
-    Kind::Swapping,
-    Kind::Cycle,
-];
 
 /// An index and the ledger of its agents. After a call that failed one of them is gone.
 #[derive(Drop)]
@@ -35,24 +23,6 @@ pub fn agent_of(number: u32) -> anyhow::Result<Agent> {
     match Agent::new(number) {
         Some(agent) => Ok(agent),
         None => bail!("no agent {number}"),
-    }
-}
-
-// The plan's track: its agent rests at the end.
-fn stays(plan: &Plan) -> Track<'_> {
-    Track {
-        plan,
-        leaves: false,
-    }
-}
-
-// A time below which the positions on the two tracks are equal.
-fn since(old: Track, new: Track) -> u32
-    ensures { (t : ℕ) → t < result → position (route_of old.entry) t ≡ position (route_of new.entry) t }
-{
-    match first_difference(old, new, 0) {
-        Some(time) => time,
-        None => 0,
     }
 }
 

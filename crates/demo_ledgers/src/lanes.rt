@@ -64,6 +64,16 @@ pub fn to_and_fro(alloc: Global, (x, y): (u32, u32), many: u32) -> anyhow::Resul
     plan_of(cells)
 }
 
+/// The plan of one who goes down and up in turn beside the lane, or up and down.
+pub fn up_and_down(alloc: Global, number: u32) -> anyhow::Result<Plan> {
+    let mut cells = Vec::new(alloc);
+    for step in 0..=STEPS {
+        let down = number.wrapping_add(step) % 2;
+        cells.push(cell(ROW.wrapping_add(number), down)?)?;
+    }
+    plan_of(cells)
+}
+
 /// The plan after a wait of one step.
 pub fn after_wait(alloc: Global, plan: &Plan) -> anyhow::Result<Plan> {
     let mut cells = Vec::new(alloc);

@@ -1,4 +1,4 @@
-//! Times the index and the ledger of conflicts alone, no desk round them, on five kinds of fleets, and
+//! Times the index and the ledger of conflicts alone, no desk round them, on six kinds of fleets, and
 //! the readings of a desk beside copies of their lines. The word `full` asks for the sizes that
 //! docs/SPEED.md tells, any other for small ones; a kind's name, as `convoy`, for that kind alone, and
 //! `readings` for readings alone.
@@ -26,45 +26,32 @@ use std::rt::{Clock, Files};
 use std::{env, io};
 use taken::Micros;
 
-// The fleets of the small runs.
-const SMALL: [Shape; 7] = [
-    Shape::Convoy { agents: 64 },
-    Shape::Convoy { agents: 256 },
-    Shape::Rows {
-        rows: 1,
-        agents: 64,
-    },
-    Shape::Rows {
-        rows: 4,
-        agents: 64,
-    },
-    Shape::Crowd {
-        agents: 60,
-        side: 16,
-    },
-    Shape::Long { cells: 2_001 },
-    Shape::Apart { agents: 256 },
-];
-
-// The fleets of the full runs.
-const FULL: [Shape; 7] = [
-    Shape::Convoy { agents: 1_024 },
-    Shape::Convoy { agents: 4_096 },
-    Shape::Rows {
-        rows: 1,
-        agents: 1_024,
-    },
-    Shape::Rows {
-        rows: 4,
-        agents: 1_024,
-    },
-    Shape::Crowd {
-        agents: 800,
-        side: 64,
-    },
-    Shape::Long { cells: 100_001 },
-    Shape::Apart { agents: 4_096 },
-];
+// The fleets of the small or of the full runs.
+fn shapes(full: bool) -> [Shape; 9] {
+    let (few, many) = if full { (1_024, 4_096) } else { (64, 256) };
+    let (crowd, side) = if full { (800, 64) } else { (60, 16) };
+    let cells = if full { 100_001 } else { 2_001 };
+    [
+        Shape::Convoy { agents: few },
+        Shape::Convoy { agents: many },
+        Shape::Among { agents: few },
+        Shape::Among { agents: many },
+        Shape::Rows {
+            rows: 1,
+            agents: few,
+        },
+        Shape::Rows {
+            rows: 4,
+            agents: few,
+        },
+        Shape::Crowd {
+            agents: crowd,
+            side,
+        },
+        Shape::Long { cells },
+        Shape::Apart { agents: many },
+    ]
+}
 
 // Whether the words name that kind, or no kind.
 fn is_asked(words: &[String], name: &str) -> bool {
@@ -152,12 +139,8 @@ fn main(rt: HostRuntime) -> anyhow::Result<()> {
         full = full || word.as_str() == "full";
         words.push(word)?;
     }
-    let (shapes, effort) = if full {
-        (&FULL, Effort::FULL)
-    } else {
-        (&SMALL, Effort::SMALL)
-    };
-    run(&rt, shapes.as_slice(), words.as_slice(), effort)?;
+    let effort = if full { Effort::FULL } else { Effort::SMALL };
+    run(&rt, &shapes(full), words.as_slice(), effort)?;
     if is_asked(words.as_slice(), "readings") {
         let (agents, turns) = if full { (4_096, 200) } else { (128, 3) };
         read_desks(&rt, agents, turns)?;

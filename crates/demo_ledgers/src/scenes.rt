@@ -1,6 +1,7 @@
 //! Scenes whose agents meet nobody: they stand as those apart do, and each ends where it starts.
+use crate::fleets::apart_plan;
 use crate::kept::agent_of;
-use crate::lanes::{STEPS, after_wait, to_and_fro};
+use crate::lanes::after_wait;
 use anyhow::bail;
 use desk_core::{Edit, Scene};
 use grid_cells::{Cell, List};
@@ -27,9 +28,8 @@ impl Goals {
     }
 }
 
-// The plan of that agent: 64 of them in a row.
 fn plan_of(alloc: Global, number: u32, waits: bool) -> anyhow::Result<Plan> {
-    let own = to_and_fro(alloc, (number % 64 * 2, number / 64), STEPS + 1)?;
+    let own = apart_plan(alloc, number)?;
     if waits {
         after_wait(alloc, &own)
     } else {

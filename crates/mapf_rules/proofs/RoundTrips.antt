@@ -117,6 +117,20 @@ module _ (fleet : Fleet) (time first : ℕ) (chain : List ℕ) (is : IsChain fle
           ]
 
 -- the chain with one more agent
+-- distinct agents, and one more
+pub distinct_more : (chain : List ℕ) (next : ℕ) → AllPairs (λ a b. a ≢ b) chain → (Contains chain next → ⊥) → AllPairs (λ a b. a ≢ b) (chain ++ next ∷ [])
+distinct_more chain next distinct absent i j d lt within same =
+    let n : length (chain ++ next ∷ []) ≡ length chain + 1 = length-append chain (next ∷ []) in
+    let i_old : get_or (chain ++ next ∷ []) i d ≡ get_or chain i d = get_or_append_left chain (next ∷ []) d i (omega arith) in
+    elim (cases_lt j (length chain)) [
+      | inl old ↦ distinct i j d lt old (sym i_old ∙ same ∙ get_or_append_left chain (next ∷ []) d j old)
+      | inr new ↦
+          let at_end : j ≡ length chain = omega arith in
+          let j_new : get_or (chain ++ next ∷ []) j d ≡ next = rw at_end (get_or_push chain next d (length chain) refl) in
+          let here : get_or chain i d ≡ next = sym i_old ∙ same ∙ j_new in
+          absent (i, omega arith, get_or_default chain i next d (omega arith) ∙ here)
+    ]
+
 module _ (fleet : Fleet) (time first next : ℕ) (chain : List ℕ) (is : IsChain fleet time first chain) where
   old_agent : (k : ℕ) → k < length chain → slice_index (chain ++ next ∷ []) k ≡ slice_index chain k
   old_agent k within = get_or_append_left chain (next ∷ []) 0 k within
@@ -135,19 +149,6 @@ module _ (fleet : Fleet) (time first next : ℕ) (chain : List ℕ) (is : IsChai
             rw (old_agent k (omega arith), at_end, new_agent) (subst (λ q. IsNext fleet time (slice_index chain q) next) at_last follows)
       ]
 
-  new_distinct : (Contains chain next → ⊥) → AllPairs (λ a b. a ≢ b) (chain ++ next ∷ [])
-  new_distinct absent i j d lt within same =
-      let n : length (chain ++ next ∷ []) ≡ length chain + 1 = length-append chain (next ∷ []) in
-      let i_old : get_or (chain ++ next ∷ []) i d ≡ get_or chain i d = get_or_append_left chain (next ∷ []) d i (omega arith) in
-      elim (cases_lt j (length chain)) [
-        | inl old ↦ is.distinct i j d lt old (sym i_old ∙ same ∙ get_or_append_left chain (next ∷ []) d j old)
-        | inr new ↦
-            let at_end : j ≡ length chain = omega arith in
-            let j_new : get_or (chain ++ next ∷ []) j d ≡ next = rw at_end (get_or_push chain next d (length chain) refl) in
-            let here : get_or chain i d ≡ next = sym i_old ∙ same ∙ j_new in
-            absent (i, omega arith, get_or_default chain i next d (omega arith) ∙ here)
-      ]
-
   pub chain_more : IsNext fleet time (slice_index chain (length chain - 1)) next → first ≤ next → (Contains chain next → ⊥) → IsChain fleet time first (chain ++ next ∷ [])
   chain_more follows above absent =
       let n : length (chain ++ next ∷ []) ≡ length chain + 1 = length-append chain (next ∷ []) in
@@ -155,7 +156,7 @@ module _ (fleet : Fleet) (time first next : ℕ) (chain : List ℕ) (is : IsChai
         some_agent = omega arith;
         starts = old_agent 0 is.some_agent ∙ is.starts;
         links = new_links follows;
-        distinct = new_distinct absent;
+        distinct = distinct_more chain next is.distinct absent;
         above = All-push (λ a. first ≤ a) chain next is.above above;
       }
 

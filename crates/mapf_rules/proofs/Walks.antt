@@ -1,24 +1,19 @@
 -- Walks from each agent to the next, round to the first.
-use Rattle.std.proofs.Common.{◌≡◌, ◌≢◌, ◌⊎◌, inl, inr, ℕ, ◌≤◌, List, Contains, refl, sym, ap, subst, ◌∙◌, arith}
+use Rattle.std.proofs.Common.{◌≡◌, ◌≢◌, ◌⊎◌, inl, inr, ℕ, ◌+◌, ◌<◌, ◌≤◌, List, [], ◌∷◌, ◌++◌, length, length-append, Contains, refl, sym, ap, subst, ◌∙◌, arith}
 use mathlib.Core.Logic.{◌↔◌}
 use Rattle.std.specs.Prelude.{slice_index}
 use Rattle.std.specs.List.{AllPairs}
-use Rattle.std.specs.List.Sorted.{IsStrictlySortedBy}
-use Rattle.std.specs.Ordering.{nat_cmp}
-use Rattle.std.proofs.lemmas.Bool.Decides.{nat_tests}
 use Rattle.grid_cells.specs.Cell.{Point}
+use Rattle.grid_cells.specs.declared.numbers.TheConstants.{MOST_AGENT}
+use Rattle.plan_table.proofs.Order.{Contains-cons_head, Contains-cons_cases}
 use Rattle.plan_table.specs.Route.{Fleet}
 use Rattle.mapf_rules.specs.Cycles.{IsRing}
 use Rattle.mapf_rules.specs.RingWalk.{IsSoleMover, MovesTo, IsNext, IsWalked}
-use Rattle.mapf_rules.proofs.Orders.{pairs_ascend}
-use Rattle.mapf_rules.proofs.RoundTrips.{IsNext-unique, next_of_sole, sole_of_next, round_to_least, next_in_ring, one_before, has_next}
+use Rattle.mapf_rules.proofs.Sets.{push_iff}
+use Rattle.mapf_rules.proofs.RoundTrips.{distinct_more, IsNext-unique, next_of_sole, sole_of_next, round_to_least, next_in_ring, one_before, has_next}
 
 pub same_or_not : (a b : ℕ) → (a ≡ b) ⊎ (a ≢ b)
 same_or_not a b = grind arith
-
--- keys in order are distinct
-pub distinct_keys : (keys : List ℕ) → IsStrictlySortedBy nat_cmp keys → AllPairs (λ a b. a ≢ b) keys
-distinct_keys keys sorted i j d lt within same = grind (arith, nat_tests, pairs_ascend nat_cmp keys sorted i j d lt within)
 
 module _ (fleet : Fleet) (time first : ℕ) (seen : List ℕ) (least : ℕ) (to ahead : Point) (walked : IsWalked fleet time first seen least to ahead) where
   follows_last : (next : ℕ) → IsSoleMover fleet time ahead next → IsNext fleet time walked.last next
@@ -105,3 +100,56 @@ module _ (fleet : Fleet) (time first : ℕ) (seen : List ℕ) (least : ℕ) (to 
           | inr is ↦ subst (Contains ring) (sym is) (in_ring_too ring round in_ring)
         ];
       }
+
+-- so many steps of a walk, by agents that are distinct and have numbers, one of them marked
+pub record IsOnRound (fleet : Fleet) (time first steps marked least : ℕ) (to ahead : Point) : Type 0 where
+  pub seen : List ℕ
+  pub walked : IsWalked fleet time first seen least to ahead
+  pub distinct : AllPairs (λ a b. a ≢ b) seen
+  pub numbers : (a : ℕ) → Contains seen a → a < MOST_AGENT + 1
+  pub many : length seen ≡ steps + 1
+  pub mark : Contains seen marked
+
+-- one step more
+pub round_on : (fleet : Fleet) (time first steps marked least : ℕ) (to ahead : Point) (on : IsOnRound fleet time first steps marked least to ahead) (ring : List ℕ) → IsRing fleet time ring → Contains ring first
+    → (next : ℕ) → IsSoleMover fleet time ahead next → next ≢ first → next < MOST_AGENT + 1 → (goal : Point) → MovesTo fleet time next goal
+    → (lesser : ℕ × Point) → (lesser ≡ (least, to)) ⊎ (lesser ≡ (next, goal)) → lesser.0 ≤ least → lesser.0 ≤ next → (mark : ℕ) → (mark ≡ marked) ⊎ (mark ≡ next)
+    → IsOnRound fleet time first (steps + 1) mark lesser.0 lesser.1 goal
+round_on fleet time first steps marked least to ahead on ring round in_ring next sole apart low goal goes lesser one low_old low_new mark which =
+    let fresh : Contains on.seen next → ⊥ = λ again. no_ring_seen fleet time first on.seen least to ahead on.walked next sole again apart ring round in_ring in
+    let gains = push_iff on.seen next in
+    record {
+      seen = on.seen ++ next ∷ [];
+      walked = walked_on fleet time first on.seen least to ahead on.walked next sole (on.seen ++ next ∷ []) gains fresh apart goal goes lesser one low_old low_new;
+      distinct = distinct_more on.seen next on.distinct fresh;
+      numbers = λ a h. elim ((gains a).0 h) [ inl old ↦ on.numbers a old | inr is ↦ rw is low ];
+      many = omega (arith, length-append on.seen (next ∷ []), on.many);
+      mark = elim which [ inl old ↦ (gains mark).1 (inl (subst (Contains on.seen) (sym old) on.mark)) | inr new ↦ (gains mark).1 (inr new) ];
+    }
+
+pub round_begins : (fleet : Fleet) (time first : ℕ) (to : Point) → first < MOST_AGENT + 1 → MovesTo fleet time first to → IsOnRound fleet time first 0 first first to to
+round_begins fleet time first to low moves = record {
+  seen = first ∷ [];
+  walked = record {
+    last = first;
+    last_seen = here;
+    goes = moves;
+    first_seen = here;
+    closed = λ a n h apart follows. absurd (apart (only a h));
+    reached = λ b h apart. absurd (apart (only b h));
+    least_seen = here;
+    least_goes = moves;
+    lower = λ a h. omega (arith, only a h);
+    inside = λ ring round in_ring a h. subst (Contains ring) (sym (only a h)) in_ring;
+  };
+  distinct = λ i j d lt within. absurd (omega arith);
+  numbers = λ a h. rw (only a h) low;
+  many = refl;
+  mark = here;
+}
+  where
+    here : Contains (first ∷ []) first
+    here = Contains-cons_head first []
+
+    only : (a : ℕ) → Contains (first ∷ []) a → a ≡ first
+    only a h = elim (Contains-cons_cases first [] a h) [ inl same ↦ sym same | inr later ↦ absurd (omega (arith, later.1)) ]

@@ -37,6 +37,12 @@ IsOnlyWith Tells time mover to member found =
     (fleet : Fleet) (ring : List ℕ) → Tells fleet → MovesTo fleet time mover to → IsRing fleet time ring
     → slice_index ring 0 ≡ mover → Contains ring member → found ≡ Some ring
 
+-- likewise: the least agent of each ring that has the mover is the one that was found, beside a cell
+abbrev pub IsLeastRound : (Fleet → Type 0) → ℕ → ℕ → Point → Option (ℕ × Point) → Type 0
+IsLeastRound Tells time mover to found =
+    (fleet : Fleet) (ring : List ℕ) → Tells fleet → MovesTo fleet time mover to → IsRing fleet time ring
+    → Contains ring mover → (cell : Point) × (found ≡ Some (slice_index ring 0, cell))
+
 -- the agent moves into the cell that the next one alone moves out of
 pub record IsNext (fleet : Fleet) (time agent next : ℕ) : Type 0 where
   pub cell : Point

@@ -2,7 +2,7 @@
 ghost use Rattle.std.specs.Prelude.{◌≡◌, ◌⊎◌, ℕ, ◌<◌, ◌≤◌, ◌↔◌, List, Some, IfOk, IfSome, IsTrue, slice_index, Contains};
 ghost use Rattle.plan_table.specs.Route.{Fleet};
 ghost use Rattle.mapf_rules.specs.Cycles.{IsRing, IsRingAt};
-ghost use Rattle.mapf_rules.specs.RingWalk.{MovesTo, FindsRingWith, IsOnlyFrom, IsOnlyThrough, IsOnlyWith};
+ghost use Rattle.mapf_rules.specs.RingWalk.{MovesTo, FindsRingWith, IsLeastRound, IsOnlyFrom, IsOnlyThrough, IsOnlyWith};
 
 use crate::entries::Ring;
 use crate::movers::Movers;
@@ -62,26 +62,45 @@ pub fn ring_through<M: Movers>(
     ensures ring { IfOk result (FindsRingWith (M.tells movers.now) time agent to agent) }
     ensures only { IfOk result (IsOnlyThrough (M.tells movers.now) time agent to) }
 {
-    let mut seen = BTreeSet::new(alloc);
-    seen.insert(agent)?;
-    let _number = agent.number();
+    match least_round(movers, time, agent, to) {
+        Some(least) => ring_with(alloc, movers, time, least.0, least.1, agent),
+        None => Ok(None),
+    }
+}
+
+// The least agent on the way from the agent round to itself, and the cell to which that one moves, if
+// the way comes back. It keeps one agent of the way marked: a way that comes to that one again goes
+// round without the agent.
+fn least_round<M: Movers>(movers: &M, time: u32, agent: Agent, to: Cell) -> Option<(Agent, Cell)>
+    requires { time < u32.MAX }
+    ensures moves { (fleet : Fleet) → M.tells movers.now fleet → MovesTo fleet time agent to → IfSome result (λ mover. MovesTo fleet time mover.0 mover.1) }
+    ensures least { IsLeastRound (M.tells movers.now) time agent to result }
+{
     let mut least = (agent, to);
     let mut ahead = to;
-    for _ in 0..MOST_AGENT + 1 {
-        let Some(mover) = movers.sole_mover(time, ahead) else {
-            return Ok(None);
-        };
+    let mut marked = agent;
+    let _number = agent.number();
+    for step in 0..MOST_AGENT + 1 {
+        let mover = movers.sole_mover(time, ahead)?;
         if mover.0 == agent {
-            return ring_with(alloc, movers, time, least.0, least.1, agent);
+            return Some(least);
         }
-        if !seen.insert(mover.0)? {
-            return Ok(None);
+        if mover.0 == marked {
+            return None;
         }
         let _number = mover.0.number();
+        marked = mark_of(step, marked, mover.0);
         least = lesser(least, mover);
         ahead = mover.1;
     }
-    Ok(None)
+    None
+}
+
+// The agent that is marked from a step on: the next one at each step that is a power of two.
+fn mark_of(step: u32, marked: Agent, next: Agent) -> Agent
+    ensures { (result ≡ marked) ⊎ (result ≡ next) }
+{
+    if step.is_power_of_two() { next } else { marked }
 }
 
 /// The ring of the step that begins at the time with a member that moves out of the cell.

@@ -1,15 +1,16 @@
 -- The end of a route: its last index, its last cell, and whether its agent leaves then (Stern et al. 2019, behaviour at the target).
 use Rattle.std.specs.Prelude.{◌≡◌, ℕ, Some, Option, None, slice_get}
 use Rattle.grid_cells.specs.Cell.{Point}
-use Rattle.plan_table.specs.Path.{last_index}
+use Rattle.plan_table.specs.Path.{last_index, IsPath}
 use Rattle.plan_table.specs.Route.{Route}
 use Rattle.where_index.specs.declared.ends.End.{End}
 
--- the end is that of the route
+-- the end is that of the route, which is along a path
 pub record IsEndOfRoute (end : End) (r : Route) : Type 0 where
   pub last : end.last ≡ last_index r.path
   pub cell : slice_get r.path (last_index r.path) ≡ Some end.cell
   pub leaves : end.leaves ≡ r.leaves
+  pub path : IsPath r.path
 
 -- the agent has an end exactly where it has a route, and it is that of the route
 abbrev pub IsEndOf : Option End → Option Route → Type 0

@@ -15,12 +15,6 @@ leads Left from to = nat_lt to.x from.x
 leads Right from to = nat_lt from.x to.x
 leads Down from to = nat_lt from.y to.y
 
-abbrev pub opposite : Way → Way
-opposite Up = Down
-opposite Left = Right
-opposite Right = Left
-opposite Down = Up
-
 -- there is a move, and it goes that way
 abbrev pub goes : Way → Option Hop → Bool
 goes way None = false

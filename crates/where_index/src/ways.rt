@@ -1,5 +1,5 @@
 ghost use Rattle.std.specs.Prelude.{◌≡◌};
-ghost use Rattle.where_index.specs.Flows.{leads, opposite};
+ghost use Rattle.where_index.specs.Flows.{leads};
 
 use grid_cells::Cell;
 
@@ -22,18 +22,6 @@ impl Way {
             Way::Left => to.x() < from.x(),
             Way::Right => from.x() < to.x(),
             Way::Down => from.y() < to.y(),
-        }
-    }
-
-    /// The opposite way.
-    pub fn opposite(self) -> Way
-        ensures { result ≡ opposite self }
-    {
-        match self {
-            Way::Up => Way::Down,
-            Way::Left => Way::Right,
-            Way::Right => Way::Left,
-            Way::Down => Way::Up,
         }
     }
 }

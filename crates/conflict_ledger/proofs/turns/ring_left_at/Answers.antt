@@ -4,7 +4,7 @@ use Rattle.std.proofs.lemmas.Option.{same_Some, none-some, MatchOption-at_some}
 use Rattle.grid_cells.specs.Cell.{Point}
 use Rattle.mapf_rules.specs.Cycles.{IsRingAt}
 use Rattle.conflict_ledger.proofs.turns.ring_left_at.Goals as goal
-use Rattle.conflict_ledger.proofs.turns.ring_left_at.Goals.{then-eq-via-then-eq, then-eq-via-else-eq+then-not-may_ring}
+use Rattle.conflict_ledger.proofs.turns.ring_left_at.Goals.{then-eq-via-then-eq, then-eq-via-else-eq+then-not-may_have_ring}
 
 pub returns-then-eq-clause-has : goal.returns-then-eq-clause-has
 returns-then-eq-clause-has c fleet shows ring left =
@@ -13,7 +13,7 @@ returns-then-eq-clause-has c fleet shows ring left =
       | then-eq-via-then-eq w ↦
           let stays : c.in-Some-own.to ≡ c.in-Some.cell = grind (arith, sym c.eq.ensures ∙ w.if-eq.true) in
           absurd (left.moves (same_Some _ _ (sym left.arrives ∙ sym c.own-2.ensures ∙ c.in-Some-own.is) ∙ stays ∙ sym same))
-      | then-eq-via-else-eq+then-not-may_ring w ↦ absurd (false≢true (sym w.if-not-may_ring.true ∙ w.may_ring.ensures fleet ring shows (subst (λ (p : Point). IsRingAt fleet c.args.time p ring) same left.round)))
+      | then-eq-via-else-eq+then-not-may_have_ring w ↦ absurd (false≢true (sym w.if-not-may_have_ring.true ∙ w.may_have_ring.ensures fleet ring shows left.round.round))
     ]
 
 pub returns-in-Some-2-clause-only : goal.returns-in-Some-2-clause-only
