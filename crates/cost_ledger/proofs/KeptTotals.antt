@@ -12,8 +12,9 @@ use Rattle.plan_table.proofs.Fleets.{rank_of, row_at_rank, row_here}
 use Rattle.plan_table.specs.Path.{last_index, place, IsPath}
 use Rattle.plan_table.specs.Plans.{IsByAgent}
 use Rattle.plan_table.specs.declared.plans.Row.{Row}
-use Rattle.mapf_rules.specs.Costs.{IsCost, AreCosts, IsSumOf, IsGreatestOf}
-use Rattle.cost_ledger.specs.Kept.{last_of_row, ends_elsewhere, sum_of_rows, AreRests, rest}
+use Rattle.mapf_rules.specs.Costs.{IsCost, AreCosts, IsSumOf, IsGreatestOf, IsSumOfCosts, IsMakespan}
+use Rattle.cost_ledger.specs.Kept.{Keeps, last_of_row, ends_elsewhere, sum_of_rows, AreRests, rest}
+use Rattle.cost_ledger.proofs.Keeping.{all_paths}
 use Rattle.cost_ledger.specs.declared.rests.Rest.{Rest}
 use Rattle.mapf_rules.proofs.Settling.{settles, settle_once}
 
@@ -120,3 +121,18 @@ missing_costs [] = refl
 missing_costs (x ∷ rows) =
     let counted = sum_by-cons (λ (o : Option ℕ). cond (is_none o) 1 0) (cost_of x.1) (costs_of rows) in
     grind (arith, first_of ends_elsewhere x rows, counted, missing x.1, missing_costs rows)
+
+-- ---- what is told of what is kept
+module _ (rows : List (ℕ × Row)) (rests : List Rest) (total elsewhere : ℕ) (keeps : Keeps rows rests total elsewhere) where
+  pub kept_costs : AreCosts rows (costs_of rows)
+  kept_costs = are_costs rows (all_paths rows rests total elsewhere keeps)
+
+  pub told_sum : elsewhere ≡ 0 → IsSumOfCosts rows (Some total)
+  told_sum none = (costs_of rows, kept_costs, subst (λ n. IsSumOf (costs_of rows) (Some n)) (sym keeps.total_is) (sum_given rows (sym keeps.elsewhere_is ∙ none)))
+
+  pub told_makespan : (greatest : ℕ) → ((r : Rest) → Contains rests r → r.time ≤ greatest) → (rests ≡ []) × (greatest ≡ 0) ⊎ ((r : Rest) × Contains rests r × (r.time ≡ greatest)) → elsewhere ≡ 0 → IsMakespan rows (Some greatest)
+  told_makespan greatest most one none =
+      (costs_of rows, kept_costs, greatest_given rows rests keeps.by_agent keeps.rests_are greatest most one (sym keeps.elsewhere_is ∙ none))
+
+  pub told_none : (elsewhere ≡ 0 → ⊥) → All IsSome (costs_of rows) → ⊥
+  told_none some all = some (keeps.elsewhere_is ∙ given_all rows all)

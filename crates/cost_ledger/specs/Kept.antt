@@ -42,6 +42,12 @@ AreRests rows rests = (r : Rest) → Contains rests r ↔ ((row : Row) × (row_o
 abbrev pub sum_of_rows : (Row → ℕ) → List (ℕ × Row) → ℕ
 sum_of_rows number rows = sum_by (λ entry. number entry.1) rows
 
+-- new has that row of an agent that had none, and the rows of old
+pub record GainsRow (old new : List (ℕ × Row)) (agent : ℕ) (row : Row) : Type 0 where
+  pub change : ChangesRow old new agent (Some row)
+  pub sums : (number : Row → ℕ) → sum_of_rows number new ≡ sum_of_rows number old + number row
+  pub by_agent : IsByAgent new
+
 -- the agent's row before is the one after in the new rows, and no other row changes
 pub record SwapsRow (old new : List (ℕ × Row)) (agent : ℕ) (before after : Row) : Type 0 where
   pub was : row_of old agent ≡ Some before

@@ -1,24 +1,25 @@
-ghost use Rattle.std.specs.Prelude.{◌≡◌, ◌+◌, ◌≤◌, true, false, OnOk, Contains};
+ghost use Rattle.std.specs.Prelude.{◌≡◌, ◌+◌, ◌≤◌, true, false, IfOk, OnOk, Contains};
 ghost use Rattle.plan_table.specs.Path.{last_index};
 ghost use Rattle.cost_ledger.specs.Sets.{GainsAll, LosesAll};
 ghost use Rattle.cost_ledger.specs.Through.{IsThrough};
 ghost use Rattle.mapf_rules.specs.VisitSearch.{IsVisitIn};
 
-use crate::blocked::Blocked;
-use grid_cells::{Agent, Cell, Grid, OutOfMemory, Step};
+use grid_cells::{Agent, Cell, Grid, List, OutOfMemory, Step};
 use mapf_rules::{Visit, is_closed};
 use plan_table::Plan;
+use std::alloc::Global;
+use std::collections::BTreeSet;
 
 /// Adds the agent's visits to closed cells from one time on.
 pub fn block(
-    blocked: &mut Blocked,
+    blocked: &mut BTreeSet<Visit>,
     grid: &Grid,
     agent: Agent,
     plan: &Plan,
     from: u32,
 ) -> Result<(), OutOfMemory>
     requires { from ≤ last_index plan.now + 1 }
-    ensures { OnOk result (GainsAll blocked.old blocked.new (IsVisitIn grid.now agent plan.now from (last_index plan.now + 1))) }
+    ensures { OnOk result (GainsAll blocked.old.keys blocked.new.keys (IsVisitIn grid.now agent plan.now from (last_index plan.now + 1))) }
 {
     for time in from..plan.last() + 1 {
         block_at(blocked, grid, agent, plan, time)?;
@@ -28,18 +29,18 @@ pub fn block(
 
 // Adds the agent's visit at that time, if its cell is closed.
 fn block_at(
-    blocked: &mut Blocked,
+    blocked: &mut BTreeSet<Visit>,
     grid: &Grid,
     agent: Agent,
     plan: &Plan,
     time: u32,
 ) -> Result<(), OutOfMemory>
     requires { time ≤ last_index plan.now }
-    ensures { OnOk result (GainsAll blocked.old blocked.new (IsVisitIn grid.now agent plan.now time (time + 1))) }
+    ensures { OnOk result (GainsAll blocked.old.keys blocked.new.keys (IsVisitIn grid.now agent plan.now time (time + 1))) }
 {
     let cell = plan.at(Step::new(time));
     if is_closed(grid, cell) {
-        blocked.add(Visit {
+        blocked.insert(Visit {
             agent,
             time: Step::new(time),
             cell,
@@ -49,12 +50,12 @@ fn block_at(
 }
 
 /// Takes the agent's visits from one time on out, wherever on its path they are.
-pub fn unblock(blocked: &mut Blocked, agent: Agent, plan: &Plan, from: u32)
+pub fn unblock(blocked: &mut BTreeSet<Visit>, agent: Agent, plan: &Plan, from: u32)
     requires { from ≤ last_index plan.now + 1 }
-    ensures { LosesAll blocked.old blocked.new (IsThrough agent plan.now from (last_index plan.now + 1)) }
+    ensures { LosesAll blocked.old.keys blocked.new.keys (IsThrough agent plan.now from (last_index plan.now + 1)) }
 {
     for time in from..plan.last() + 1 {
-        blocked.lose(Visit {
+        blocked.remove(&Visit {
             agent,
             time: Step::new(time),
             cell: plan.at(Step::new(time)),
@@ -99,9 +100,13 @@ fn add_if_there(
 }
 
 /// Adds the visits where their cell is closed, and takes them out otherwise.
-pub fn set_blocked(blocked: &mut Blocked, visits: &[Visit], closed: bool) -> Result<(), OutOfMemory>
-    ensures adds { OnOk result (closed ≡ true → GainsAll blocked.old blocked.new (Contains visits.now)) }
-    ensures takes { OnOk result (closed ≡ false → LosesAll blocked.old blocked.new (Contains visits.now)) }
+pub fn set_blocked(
+    blocked: &mut BTreeSet<Visit>,
+    visits: &[Visit],
+    closed: bool,
+) -> Result<(), OutOfMemory>
+    ensures adds { OnOk result (closed ≡ true → GainsAll blocked.old.keys blocked.new.keys (Contains visits.now)) }
+    ensures takes { OnOk result (closed ≡ false → LosesAll blocked.old.keys blocked.new.keys (Contains visits.now)) }
 {
     if closed {
         block_all(blocked, visits)
@@ -112,20 +117,31 @@ pub fn set_blocked(blocked: &mut Blocked, visits: &[Visit], closed: bool) -> Res
 }
 
 // Adds the visits.
-fn block_all(blocked: &mut Blocked, visits: &[Visit]) -> Result<(), OutOfMemory>
-    ensures { OnOk result (GainsAll blocked.old blocked.new (Contains visits.now)) }
+fn block_all(blocked: &mut BTreeSet<Visit>, visits: &[Visit]) -> Result<(), OutOfMemory>
+    ensures { OnOk result (GainsAll blocked.old.keys blocked.new.keys (Contains visits.now)) }
 {
     for visit in visits {
-        blocked.add(*visit)?;
+        blocked.insert(*visit)?;
     }
     Ok(())
 }
 
 // Takes the visits out.
-fn unblock_all(blocked: &mut Blocked, visits: &[Visit])
-    ensures { LosesAll blocked.old blocked.new (Contains visits.now) }
+fn unblock_all(blocked: &mut BTreeSet<Visit>, visits: &[Visit])
+    ensures { LosesAll blocked.old.keys blocked.new.keys (Contains visits.now) }
 {
     for visit in visits {
-        blocked.lose(*visit);
+        blocked.remove(visit);
     }
+}
+
+/// The visits, in their order.
+pub fn listed(alloc: Global, blocked: &BTreeSet<Visit>) -> Result<List<Visit>, OutOfMemory>
+    ensures { IfOk result (λ list. list ≡ blocked.now.keys) }
+{
+    let mut list = Vec::new(alloc);
+    for visit in blocked {
+        list.push(*visit)?;
+    }
+    Ok(List::new(list))
 }

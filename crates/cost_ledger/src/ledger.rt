@@ -8,13 +8,13 @@ ghost use Rattle.cost_ledger.specs.Ledger.{StandsFor, IsSettleOf, IsFinishedIn, 
 mod flips;
 mod plans;
 
-use crate::along::unblock;
-use crate::blocked::Blocked;
-use crate::rests::Rests;
+use crate::along::{listed, unblock};
+use crate::rests::{Rest, greatest};
 use crate::rows::{Rows, elsewhere};
 use grid_cells::{Agent, Cell, List, OutOfMemory};
 use mapf_rules::{Visit, is_finished, settle_time};
 use std::alloc::Global;
+use std::collections::BTreeSet;
 use std::marker::Model;
 
 /// The costs and the blocked visits of the rows put into it, kept under changes.
@@ -22,8 +22,8 @@ use std::marker::Model;
 pub struct CostLedger {
     alloc: Global,
     rows: Rows,
-    blocked: Blocked,
-    rests: Rests,
+    blocked: BTreeSet<Visit>,
+    rests: BTreeSet<Rest>,
     total: u64,
     elsewhere: u32,
 }
@@ -34,9 +34,9 @@ impl Model for CostLedger {
 
     ghost Value = { Ledger };
 
-    ghost view = { λ l. record { rows = l.rows; visits = l.blocked } };
+    ghost view = { λ l. record { rows = l.rows; visits = l.blocked.keys } };
 
-    ghost invariant = { λ l. Keeps l.rows l.rests l.total l.elsewhere };
+    ghost invariant = { λ l. Keeps l.rows l.rests.keys l.total l.elsewhere };
 }
 
 impl CostLedger {
@@ -48,8 +48,8 @@ impl CostLedger {
         CostLedger {
             alloc,
             rows: Rows::new(alloc),
-            blocked: Blocked::new(alloc),
-            rests: Rests::new(alloc),
+            blocked: BTreeSet::new(alloc),
+            rests: BTreeSet::new(alloc),
             total: 0,
             elsewhere: 0,
         }
@@ -67,10 +67,10 @@ impl CostLedger {
         };
         let last = row.plan.last();
         unblock(&mut self.blocked, agent, &row.plan, 0);
-        self.rests.lose(last, agent);
+        self.rests.remove(&Rest { time: last, agent });
         self.total -= u64::from(last);
         self.elsewhere -= elsewhere(&row);
-        let _count = self.blocked.count();
+        let _count = self.blocked.len();
     }
 
     /// Gives the agent another goal, if it is in it.
@@ -126,7 +126,7 @@ impl CostLedger {
         ensures by_agent { IsByAgent self.now.rows }
     {
         if self.elsewhere == 0 {
-            Some(self.rests.greatest())
+            Some(greatest(&self.rests))
         } else {
             None
         }
@@ -145,7 +145,7 @@ impl CostLedger {
         ensures is { result ≡ length self.now.visits }
         ensures by_agent { IsByAgent self.now.rows }
     {
-        self.blocked.count()
+        self.blocked.len()
     }
 
     /// The blocked visits of the agents, by agent, then time.
@@ -154,6 +154,6 @@ impl CostLedger {
         ensures blocked { IfOk result (λ visits. (grid : Chart) → StandsFor self.now grid → AreVisits grid self.now.rows visits) }
         ensures by_agent { IsByAgent self.now.rows }
     {
-        self.blocked.listed(self.alloc)
+        listed(self.alloc, &self.blocked)
     }
 }

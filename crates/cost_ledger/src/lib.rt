@@ -2,7 +2,6 @@
 #![tactic(auto)]
 
 mod along;
-mod blocked;
 mod laws;
 mod ledger;
 mod replans;

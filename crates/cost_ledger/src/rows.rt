@@ -1,8 +1,8 @@
-ghost use Rattle.std.specs.Prelude.{◌≡◌, ◌+◌, ℕ, [], None, Some, OnOk, IfOk, IfSome, IfNone};
+ghost use Rattle.std.specs.Prelude.{◌≡◌, ◌+◌, ℕ, [], None, OnOk, IfOk, IfSome, IfNone};
 ghost use Rattle.std.specs.Option.{option_copied};
 ghost use Rattle.plan_table.specs.Plans.{row_of, ChangesRow, IsByAgent};
 ghost use Rattle.plan_table.specs.declared.plans.Row.{Row};
-ghost use Rattle.cost_ledger.specs.Kept.{ends_elsewhere, sum_of_rows, AimsRow};
+ghost use Rattle.cost_ledger.specs.Kept.{ends_elsewhere, sum_of_rows, AimsRow, GainsRow};
 ghost use Rattle.cost_ledger.specs.Through.{AreThrough};
 
 use crate::along::add_through;
@@ -59,9 +59,7 @@ impl Rows {
     /// Adds an agent's row.
     pub fn insert(&mut self, agent: Agent, row: Row) -> Result<(), OutOfMemory>
         requires absent { row_of self.old agent ≡ None }
-        ensures row { OnOk result (ChangesRow self.old self.new agent (Some row)) }
-        ensures sums { OnOk result ((number : Row → ℕ) → sum_of_rows number self.new ≡ sum_of_rows number self.old + number row) }
-        ensures by_agent { OnOk result (IsByAgent self.new) }
+        ensures { OnOk result (GainsRow self.old self.new agent row) }
     {
         self.rows.insert(agent, row)?;
         Ok(())

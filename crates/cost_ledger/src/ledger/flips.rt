@@ -47,7 +47,7 @@ impl CostLedger {
     {
         match set_blocked(&mut self.blocked, visits, is_closed(grid, cell)) {
             Ok(()) => {
-                let _count = self.blocked.count();
+                let _count = self.blocked.len();
                 Ok(self)
             }
             Err(refused) => {

@@ -5,7 +5,9 @@ ghost use Rattle.plan_table.specs.Plans.{row_of, ChangesRow, IsByAgent};
 ghost use Rattle.cost_ledger.specs.Ledger.{StandsFor};
 
 use super::CostLedger;
-use crate::replans::{Planned, add_row, follow_row};
+use crate::along::unblock;
+use crate::replans::{Planned, add_row};
+use crate::rests::Rest;
 use crate::rows::elsewhere;
 use grid_cells::{Agent, Cell, Grid, OutOfMemory};
 use plan_table::Plan;
@@ -35,11 +37,17 @@ impl CostLedger {
             plan,
             grid,
         };
-        match add_row(&mut self.rows, &mut self.blocked, &mut self.rests, &planned) {
+        match add_row(
+            &mut self.rows,
+            &mut self.blocked,
+            &mut self.rests,
+            &planned,
+            0,
+        ) {
             Ok(away) => {
                 self.total += u64::from(plan.last());
                 self.elsewhere += away;
-                let _count = self.blocked.count();
+                let _count = self.blocked.len();
                 Ok(self)
             }
             Err(refused) => {
@@ -93,18 +101,20 @@ impl CostLedger {
             grid,
         };
         let since = old.plan.same_front(plan, known);
-        match follow_row(
+        unblock(&mut self.blocked, agent, &old.plan, since);
+        let last = old.plan.last();
+        self.rests.remove(&Rest { time: last, agent });
+        match add_row(
             &mut self.rows,
             &mut self.blocked,
             &mut self.rests,
-            &old.plan,
             &planned,
             since,
         ) {
             Ok(stays_away) => {
-                self.total = self.total - u64::from(old.plan.last()) + u64::from(plan.last());
+                self.total = self.total - u64::from(last) + u64::from(plan.last());
                 self.elsewhere = self.elsewhere - elsewhere(&old) + stays_away;
-                let _count = self.blocked.count();
+                let _count = self.blocked.len();
                 drop(old);
                 Ok(self)
             }

@@ -3,4 +3,4 @@ use Rattle.mapf_rules.specs.VisitSearch.{IsVisitIn}
 use Rattle.cost_ledger.proofs.along.block.Given as goal
 
 abbrev pub invariant-loop-time : goal.invariant-loop-time
-invariant-loop-time l = GainsAll l.fn.blocked l.blocked (IsVisitIn l.grid l.agent l.plan l.fn.from l.time)
+invariant-loop-time l = GainsAll l.fn.blocked.keys l.blocked.keys (IsVisitIn l.grid l.agent l.plan l.fn.from l.time)

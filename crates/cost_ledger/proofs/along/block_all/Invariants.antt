@@ -3,4 +3,4 @@ use Rattle.cost_ledger.specs.Sets.{GainsAll}
 use Rattle.cost_ledger.proofs.along.block_all.Given as goal
 
 abbrev pub invariant-loop-visit : goal.invariant-loop-visit
-invariant-loop-visit l = GainsAll l.fn.blocked l.blocked (Contains (take l.visit-index l.visits))
+invariant-loop-visit l = GainsAll l.fn.blocked.keys l.blocked.keys (Contains (take l.visit-index l.visits))

@@ -3,4 +3,4 @@ use Rattle.cost_ledger.specs.Through.{IsThrough}
 use Rattle.cost_ledger.proofs.along.unblock.Given as goal
 
 abbrev pub invariant-loop-time : goal.invariant-loop-time
-invariant-loop-time l = LosesAll l.fn.blocked l.blocked (IsThrough l.agent l.plan l.fn.from l.time)
+invariant-loop-time l = LosesAll l.fn.blocked.keys l.blocked.keys (IsThrough l.agent l.plan l.fn.from l.time)

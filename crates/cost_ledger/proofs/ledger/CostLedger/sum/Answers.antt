@@ -1,21 +1,9 @@
-use Rattle.std.proofs.Common.{sym, ◌∙◌, subst, Some}
-use Rattle.mapf_rules.specs.Costs.{IsSumOf}
-use Rattle.cost_ledger.proofs.Keeping.{all_paths}
-use Rattle.cost_ledger.proofs.KeptTotals.{costs_of, are_costs, sum_given, given_all}
+use Rattle.cost_ledger.proofs.KeptTotals.{costs_of, kept_costs, told_sum, told_none}
 use Rattle.cost_ledger.proofs.ledger.CostLedger.sum.Goals as goal
 
 pub returns-then-self-eq0-clause-is : goal.returns-then-self-eq0-clause-is
-returns-then-self-eq0-clause-is c =
-    let k = c.self.invariant in
-    let rows = c.self.inside.rows in
-    rw (← c.self.view_is) (
-      costs_of rows,
-      are_costs rows (all_paths rows _ _ _ k),
-      subst (λ n. IsSumOf (costs_of rows) (Some n)) (sym k.total_is) (sum_given rows (sym k.elsewhere_is ∙ c.if-self-eq0.true)),
-    )
+returns-then-self-eq0-clause-is c = rw (← c.self.view_is) (told_sum _ _ _ _ c.self.invariant c.if-self-eq0.true)
 
 pub returns-else-self-eq0-clause-is : goal.returns-else-self-eq0-clause-is
 returns-else-self-eq0-clause-is c =
-    let k = c.self.invariant in
-    let rows = c.self.inside.rows in
-    rw (← c.self.view_is) (costs_of rows, are_costs rows (all_paths rows _ _ _ k), λ all. c.if-self-eq0.false (k.elsewhere_is ∙ given_all rows all))
+    rw (← c.self.view_is) (costs_of c.self.inside.rows, kept_costs _ _ _ _ c.self.invariant, told_none _ _ _ _ c.self.invariant c.if-self-eq0.false)
