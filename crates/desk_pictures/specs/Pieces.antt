@@ -1,8 +1,9 @@
 -- The text of the pieces that a picture is written in (this project's choice).
 use Rattle.std.specs.Prelude.{ℕ, ◌*◌, ◌/◌, ◌%◌, List, [], ◌++◌, ◌==◌, if◌then◌else◌, codes, decimal}
 use Rattle.std.specs.List.{flat_map}
+use Rattle.desk_report.specs.LineText.{given_text}
 use Rattle.desk_pictures.specs.declared.pieces.Piece.{Piece}
-use Rattle.desk_pictures.specs.declared.pieces.Piece.TheVariants.{Text, Number, Half, Thousandths, Seconds}
+use Rattle.desk_pictures.specs.declared.pieces.Piece.TheVariants.{Text, Number, Count, Given, Half, Thousandths, Seconds}
 
 -- half of a number
 abbrev pub half_text : ℕ → List ℕ
@@ -19,6 +20,8 @@ seconds_text time = decimal (time * 4 / 10) ++ codes "." ++ decimal (time * 4 % 
 abbrev pub piece_text : Piece → List ℕ
 piece_text (Text letters) = letters.now
 piece_text (Number number) = decimal number
+piece_text (Count number) = decimal number
+piece_text (Given number) = given_text number
 piece_text (Half number) = half_text number
 piece_text (Thousandths number) = thousandths_text number
 piece_text (Seconds time) = seconds_text time

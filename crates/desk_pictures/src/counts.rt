@@ -1,9 +1,11 @@
 //! The counts by kind, beside the sign of each, and the totals.
+#![tactic(auto, using(crate::proofs::Growth::growths))]
+
 ghost use Rattle.std.specs.Prelude.{OnOk, ◌≡◌, ◌||◌, is_err};
 ghost use Rattle.desk_pictures.specs.Growth.{Grows};
 
-use crate::pieces::{Piece, put_letters, put_some, put_total};
-use desk_report::{Report, Sink, WriteFailed};
+use crate::pieces::{Piece, Written, put_filled};
+use desk_report::{Report, Sink};
 use mapf_rules::Kind;
 
 // How many entries of the kind there are.
@@ -18,31 +20,28 @@ fn class_of(count: u64) -> &'static [u8] {
 }
 
 // A row of the key: a sign, what it stands for, and how many there are.
-#[tactic(auto, using(crate::proofs::Growth::growths))]
 fn put_row<'a, W: Sink>(
     sink: &mut W,
     down: u64,
     sign: &'a [u8],
     name: &'a [u8],
     count: u64,
-) -> Result<(), WriteFailed>
+) -> Written
     ensures ok { OnOk result (Grows (W.held sink.old) (W.held sink.new)) }
     ensures broken { W.broken sink.new ≡ (W.broken sink.old || is_err result) }
 {
     let pieces = [
-        Piece::Text(b"<g"),
         Piece::Text(class_of(count)),
-        Piece::Text(b" transform='translate(0 "),
         Piece::Number(down),
-        Piece::Text(b")'><use href='#"),
         Piece::Text(sign),
-        Piece::Text(b"' transform='translate(14 -6) scale(18)'/><text x='40'>"),
         Piece::Text(name),
-        Piece::Text(b"</text><text class='n' x='300'>"),
         Piece::Number(count),
-        Piece::Text(b"</text></g>\n"),
     ];
-    put_some(sink, &pieces)
+    put_filled(
+        sink,
+        b"<g~ transform='translate(0 ~)'><use href='#~' transform='translate(14 -6) scale(18)'/><text x='40'>~</text><text class='n' x='300'>~</text></g>\n",
+        &pieces,
+    )
 }
 
 // Where the row of each kind is, its sign and its name.
@@ -56,8 +55,7 @@ const KINDS: &[(u64, &[u8], &[u8], Kind)] = &[
 ];
 
 /// Puts a row for each kind of what a report has.
-#[tactic(auto, using(crate::proofs::Growth::growths))]
-pub fn put_rows<W: Sink>(sink: &mut W, report: &Report) -> Result<(), WriteFailed>
+pub fn put_rows<W: Sink>(sink: &mut W, report: &Report) -> Written
     ensures ok { OnOk result (Grows (W.held sink.old) (W.held sink.new)) }
     ensures broken { W.broken sink.new ≡ (W.broken sink.old || is_err result) }
 {
@@ -69,33 +67,20 @@ pub fn put_rows<W: Sink>(sink: &mut W, report: &Report) -> Result<(), WriteFaile
 }
 
 // A total, or `none`.
-#[tactic(auto, using(crate::proofs::Growth::growths))]
-fn put_sum<W: Sink>(
-    sink: &mut W,
-    down: u64,
-    name: &[u8],
-    total: Option<u64>,
-) -> Result<(), WriteFailed>
+fn put_sum<W: Sink>(sink: &mut W, down: u64, name: &[u8], total: Option<u64>) -> Written
     ensures ok { OnOk result (Grows (W.held sink.old) (W.held sink.new)) }
     ensures broken { W.broken sink.new ≡ (W.broken sink.old || is_err result) }
 {
-    let pieces = [
-        Piece::Text(b"<text x='4' y='"),
-        Piece::Number(down),
-        Piece::Text(b"'>"),
-        Piece::Text(name),
-        Piece::Text(b"</text><text class='n' x='300' y='"),
-        Piece::Number(down),
-        Piece::Text(b"'>"),
-    ];
-    put_some(sink, &pieces)?;
-    put_total(sink, total)?;
-    put_letters(sink, b"</text>\n")
+    let height = Piece::Number(down);
+    put_filled(
+        sink,
+        b"<text x='4' y='~'>~</text><text class='n' x='300' y='~'>~</text>\n",
+        &[height, Piece::Text(name), height, Piece::Given(total)],
+    )
 }
 
 /// Puts the totals.
-#[tactic(auto, using(crate::proofs::Growth::growths))]
-pub fn put_totals<W: Sink>(sink: &mut W, report: &Report) -> Result<(), WriteFailed>
+pub fn put_totals<W: Sink>(sink: &mut W, report: &Report) -> Written
     ensures ok { OnOk result (Grows (W.held sink.old) (W.held sink.new)) }
     ensures broken { W.broken sink.new ≡ (W.broken sink.old || is_err result) }
 {

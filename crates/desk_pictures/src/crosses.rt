@@ -5,13 +5,13 @@ ghost use Rattle.std.specs.Io.KnownBytes.{Appends};
 ghost use Rattle.desk_pictures.specs.Marks.{cross_opening_text, cross_text, crosses_text};
 
 use crate::frames::{Frame, class_text};
-use crate::pieces::{Piece, put_pieces};
-use desk_report::{Sink, WriteFailed, put_all, put_visit};
+use crate::pieces::{Piece, Written, put_pieces};
+use desk_report::{Sink, put_all, put_visit};
 use mapf_rules::Visit;
 
 // The mark of a visit up to its title. In a still picture of the visit's time it is lit.
 #[tactic(auto, unfolding(crate::specs::Marks::cross_opening_text))]
-fn put_cross_opening<W: Sink>(sink: &mut W, lit: bool, x: u32, y: u32) -> Result<(), WriteFailed>
+fn put_cross_opening<W: Sink>(sink: &mut W, lit: bool, x: u32, y: u32) -> Written
     ensures ok { OnOk result (Appends (W.held sink.old) (W.held sink.new) (cross_opening_text lit x y)) }
     ensures broken { W.broken sink.new ≡ (W.broken sink.old || is_err result) }
 {
@@ -29,7 +29,7 @@ fn put_cross_opening<W: Sink>(sink: &mut W, lit: bool, x: u32, y: u32) -> Result
 
 // The mark of a visit, which a moving picture has at all times.
 #[tactic(auto, using(crate::proofs::Growth::texts), unfolding(crate::specs::Marks::cross_text))]
-fn put_cross<W: Sink>(sink: &mut W, frame: &Frame, visit: &Visit) -> Result<(), WriteFailed>
+fn put_cross<W: Sink>(sink: &mut W, frame: &Frame, visit: &Visit) -> Written
     ensures ok { OnOk result (Appends (W.held sink.old) (W.held sink.new) (cross_text frame.now.at visit.now)) }
     ensures broken { W.broken sink.new ≡ (W.broken sink.old || is_err result) }
 {
@@ -40,7 +40,7 @@ fn put_cross<W: Sink>(sink: &mut W, frame: &Frame, visit: &Visit) -> Result<(), 
 }
 
 #[tactic(auto, using(crate::proofs::Growth::texts))]
-fn put_each_cross<W: Sink>(sink: &mut W, frame: &Frame, visits: &[Visit]) -> Result<(), WriteFailed>
+fn put_each_cross<W: Sink>(sink: &mut W, frame: &Frame, visits: &[Visit]) -> Written
     ensures ok { OnOk result (Appends (W.held sink.old) (W.held sink.new) (flat_map (cross_text frame.now.at) visits.now)) }
     ensures broken { W.broken sink.new ≡ (W.broken sink.old || is_err result) }
 {
@@ -52,11 +52,7 @@ fn put_each_cross<W: Sink>(sink: &mut W, frame: &Frame, visits: &[Visit]) -> Res
 
 /// Puts the group of the visits' marks, in the report's order.
 #[tactic(auto, using(crate::proofs::Growth::texts), unfolding(crate::specs::Marks::crosses_text))]
-pub fn put_crosses<W: Sink>(
-    sink: &mut W,
-    frame: &Frame,
-    visits: &[Visit],
-) -> Result<(), WriteFailed>
+pub fn put_crosses<W: Sink>(sink: &mut W, frame: &Frame, visits: &[Visit]) -> Written
     ensures ok { OnOk result (Appends (W.held sink.old) (W.held sink.new) (crosses_text frame.now.at visits.now)) }
     ensures broken { W.broken sink.new ≡ (W.broken sink.old || is_err result) }
 {

@@ -1,9 +1,11 @@
 //! The closed cells, each row's runs of them as one stroke a cell wide.
+#![tactic(auto, using(crate::proofs::Growth::growths))]
+
 ghost use Rattle.std.specs.Prelude.{OnOk, ◌≡◌, ◌||◌, is_err};
 ghost use Rattle.desk_pictures.specs.Growth.{Grows};
 
-use crate::pieces::{Piece, put_letters, put_some};
-use desk_report::{Sink, WriteFailed};
+use crate::pieces::{Piece, Written, put_filled, put_letters};
+use desk_report::Sink;
 use grid_cells::Grid;
 
 // The most columns or rows of a map whose cells are parted by lines.
@@ -18,26 +20,18 @@ fn is_wall(grid: &Grid, x: u32, y: u32) -> bool {
 }
 
 // The beginning of a run of closed cells, where that is.
-#[tactic(auto, using(crate::proofs::Growth::growths))]
-fn put_left<W: Sink>(sink: &mut W, grid: &Grid, x: u32, y: u32) -> Result<(), WriteFailed>
+fn put_left<W: Sink>(sink: &mut W, grid: &Grid, x: u32, y: u32) -> Written
     ensures ok { OnOk result (Grows (W.held sink.old) (W.held sink.new)) }
     ensures broken { W.broken sink.new ≡ (W.broken sink.old || is_err result) }
 {
     if !is_wall(grid, x, y) || x > 0 && is_wall(grid, x - 1, y) {
         return Ok(());
     }
-    let pieces = [
-        Piece::Text(b"M"),
-        Piece::Number(u64::from(x)),
-        Piece::Text(b" "),
-        Piece::Number(u64::from(y)),
-    ];
-    put_some(sink, &pieces)
+    put_filled(sink, b"M~ ~", &[Piece::Count(x), Piece::Count(y)])
 }
 
 // The end of a run of closed cells, where that is.
-#[tactic(auto, using(crate::proofs::Growth::growths))]
-fn put_right<W: Sink>(sink: &mut W, grid: &Grid, x: u32, y: u32) -> Result<(), WriteFailed>
+fn put_right<W: Sink>(sink: &mut W, grid: &Grid, x: u32, y: u32) -> Written
     ensures ok { OnOk result (Grows (W.held sink.old) (W.held sink.new)) }
     ensures broken { W.broken sink.new ≡ (W.broken sink.old || is_err result) }
 {
@@ -45,12 +39,11 @@ fn put_right<W: Sink>(sink: &mut W, grid: &Grid, x: u32, y: u32) -> Result<(), W
     if !is_wall(grid, x, y) || is_wall(grid, next, y) {
         return Ok(());
     }
-    put_some(sink, &[Piece::Text(b"H"), Piece::Number(u64::from(next))])
+    put_filled(sink, b"H~", &[Piece::Count(next)])
 }
 
 // The runs of a row.
-#[tactic(auto, using(crate::proofs::Growth::growths))]
-fn put_row<W: Sink>(sink: &mut W, grid: &Grid, y: u32) -> Result<(), WriteFailed>
+fn put_row<W: Sink>(sink: &mut W, grid: &Grid, y: u32) -> Written
     ensures ok { OnOk result (Grows (W.held sink.old) (W.held sink.new)) }
     ensures broken { W.broken sink.new ≡ (W.broken sink.old || is_err result) }
 {
@@ -61,8 +54,7 @@ fn put_row<W: Sink>(sink: &mut W, grid: &Grid, y: u32) -> Result<(), WriteFailed
     Ok(())
 }
 
-#[tactic(auto, using(crate::proofs::Growth::growths))]
-fn put_rows<W: Sink>(sink: &mut W, grid: &Grid) -> Result<(), WriteFailed>
+fn put_rows<W: Sink>(sink: &mut W, grid: &Grid) -> Written
     ensures ok { OnOk result (Grows (W.held sink.old) (W.held sink.new)) }
     ensures broken { W.broken sink.new ≡ (W.broken sink.old || is_err result) }
 {
@@ -73,27 +65,21 @@ fn put_rows<W: Sink>(sink: &mut W, grid: &Grid) -> Result<(), WriteFailed>
 }
 
 // A floor of that class.
-#[tactic(auto, using(crate::proofs::Growth::growths))]
-fn put_floor<W: Sink>(sink: &mut W, grid: &Grid, class: &[u8]) -> Result<(), WriteFailed>
+fn put_floor<W: Sink>(sink: &mut W, grid: &Grid, class: &[u8]) -> Written
     ensures ok { OnOk result (Grows (W.held sink.old) (W.held sink.new)) }
     ensures broken { W.broken sink.new ≡ (W.broken sink.old || is_err result) }
 {
     let size = grid.size();
-    let pieces = [
-        Piece::Text(b"<rect class='"),
-        Piece::Text(class),
-        Piece::Text(b"' x='-.5' y='-.5' width='"),
-        Piece::Number(u64::from(size.width())),
-        Piece::Text(b"' height='"),
-        Piece::Number(u64::from(size.height())),
-        Piece::Text(b"'/>\n"),
-    ];
-    put_some(sink, &pieces)
+    let (width, height) = (Piece::Count(size.width()), Piece::Count(size.height()));
+    put_filled(
+        sink,
+        b"<rect class='~' x='-.5' y='-.5' width='~' height='~'/>\n",
+        &[Piece::Text(class), width, height],
+    )
 }
 
 // Lines between the cells, where they are large enough.
-#[tactic(auto, using(crate::proofs::Growth::growths))]
-fn put_net<W: Sink>(sink: &mut W, grid: &Grid) -> Result<(), WriteFailed>
+fn put_net<W: Sink>(sink: &mut W, grid: &Grid) -> Written
     ensures ok { OnOk result (Grows (W.held sink.old) (W.held sink.new)) }
     ensures broken { W.broken sink.new ≡ (W.broken sink.old || is_err result) }
 {
@@ -109,8 +95,7 @@ fn put_net<W: Sink>(sink: &mut W, grid: &Grid) -> Result<(), WriteFailed>
 }
 
 /// Puts the floor, and over it the closed cells.
-#[tactic(auto, using(crate::proofs::Growth::growths))]
-pub fn put_ground<W: Sink>(sink: &mut W, grid: &Grid) -> Result<(), WriteFailed>
+pub fn put_ground<W: Sink>(sink: &mut W, grid: &Grid) -> Written
     ensures ok { OnOk result (Grows (W.held sink.old) (W.held sink.new)) }
     ensures broken { W.broken sink.new ≡ (W.broken sink.old || is_err result) }
 {

@@ -6,17 +6,16 @@ ghost use Rattle.desk_pictures.specs.Marks.{opening_text, mark_text, group_text,
 
 use crate::crosses::put_crosses;
 use crate::frames::Frame;
-use crate::pieces::{Piece, put_pieces};
+use crate::pieces::{Piece, Written, put_pieces};
 use crate::spots::{Spot, spot_of, symbol_of};
-use desk_report::{Report, Sink, WriteFailed, put_all, put_entry};
+use desk_report::{Report, Sink, put_all, put_entry};
 use grid_cells::Step;
 use mapf_rules::Conflict;
-use plan_table::{Mode, Plans};
 use scene_edits::Scene;
 
 // The mark of an entry at the spot, up to its title.
 #[tactic(auto, unfolding(crate::specs::Marks::opening_text))]
-fn put_opening<'a, W: Sink>(sink: &mut W, symbol: &'a [u8], spot: Spot) -> Result<(), WriteFailed>
+fn put_opening<'a, W: Sink>(sink: &mut W, symbol: &'a [u8], spot: Spot) -> Written
     ensures ok { OnOk result (Appends (W.held sink.old) (W.held sink.new) (opening_text symbol.now spot)) }
     ensures broken { W.broken sink.new ≡ (W.broken sink.old || is_err result) }
 {
@@ -34,23 +33,18 @@ fn put_opening<'a, W: Sink>(sink: &mut W, symbol: &'a [u8], spot: Spot) -> Resul
 
 // The mark of an entry.
 #[tactic(auto, using(crate::proofs::Growth::texts), unfolding(crate::specs::Marks::mark_text))]
-fn put_mark<W: Sink>(
-    sink: &mut W,
-    plans: &Plans,
-    mode: Mode,
-    entry: &Conflict,
-) -> Result<(), WriteFailed>
-    ensures ok { OnOk result (Appends (W.held sink.old) (W.held sink.new) (mark_text (tracks_of mode plans.now.rows) entry.now)) }
+fn put_mark<W: Sink>(sink: &mut W, scene: &Scene, entry: &Conflict) -> Written
+    ensures ok { OnOk result (Appends (W.held sink.old) (W.held sink.new) (mark_text (tracks_of scene.now.mode scene.now.rows) entry.now)) }
     ensures broken { W.broken sink.new ≡ (W.broken sink.old || is_err result) }
 {
-    let spot = spot_of(plans, mode, entry);
+    let spot = spot_of(scene.plans(), scene.mode(), entry);
     put_opening(sink, symbol_of(entry), spot)?;
     put_entry(sink, entry)?;
     put_all(sink, b"</title></use>")
 }
 
 // The beginning of a group of marks of the time. In a moving picture they are lit from then on.
-fn put_group<W: Sink>(sink: &mut W, moving: bool, lit: bool, time: Step) -> Result<(), WriteFailed>
+fn put_group<W: Sink>(sink: &mut W, moving: bool, lit: bool, time: Step) -> Written
     ensures ok { OnOk result (Appends (W.held sink.old) (W.held sink.new) (group_text moving lit time)) }
     ensures broken { W.broken sink.new ≡ (W.broken sink.old || is_err result) }
 {
@@ -69,7 +63,7 @@ fn put_group<W: Sink>(sink: &mut W, moving: bool, lit: bool, time: Step) -> Resu
 }
 
 // The end of the group of a mark, if there is one before.
-fn put_end<W: Sink>(sink: &mut W, before: Option<Step>) -> Result<(), WriteFailed>
+fn put_end<W: Sink>(sink: &mut W, before: Option<Step>) -> Written
     ensures ok { OnOk result (Appends (W.held sink.old) (W.held sink.new) (end_text before)) }
     ensures broken { W.broken sink.new ≡ (W.broken sink.old || is_err result) }
 {
@@ -81,12 +75,7 @@ fn put_end<W: Sink>(sink: &mut W, before: Option<Step>) -> Result<(), WriteFaile
 
 // What stands before a mark of the time, behind one of that other time or none.
 #[tactic(auto, using(crate::proofs::Growth::texts))]
-fn put_turn<W: Sink>(
-    sink: &mut W,
-    frame: &Frame,
-    before: Option<Step>,
-    time: Step,
-) -> Result<(), WriteFailed>
+fn put_turn<W: Sink>(sink: &mut W, frame: &Frame, before: Option<Step>, time: Step) -> Written
     ensures ok { OnOk result (Appends (W.held sink.old) (W.held sink.new) (turn_text frame.now.at before time)) }
     ensures broken { W.broken sink.new ≡ (W.broken sink.old || is_err result) }
 {
@@ -106,18 +95,17 @@ fn put_turn<W: Sink>(
 fn put_each_mark<W: Sink>(
     sink: &mut W,
     frame: &Frame,
-    plans: &Plans,
-    mode: Mode,
+    scene: &Scene,
     entries: &[Conflict],
-) -> Result<(), WriteFailed>
-    ensures ok { OnOk result (Appends (W.held sink.old) (W.held sink.new) (marks_behind frame.now.at (tracks_of mode plans.now.rows) None entries.now)) }
+) -> Written
+    ensures ok { OnOk result (Appends (W.held sink.old) (W.held sink.new) (marks_behind frame.now.at (tracks_of scene.now.mode scene.now.rows) None entries.now)) }
     ensures broken { W.broken sink.new ≡ (W.broken sink.old || is_err result) }
 {
     let mut before = None;
     for entry in entries {
         let time = entry.time();
         put_turn(sink, frame, before, time)?;
-        put_mark(sink, plans, mode, entry)?;
+        put_mark(sink, scene, entry)?;
         before = Some(time);
     }
     put_end(sink, before)
@@ -125,38 +113,21 @@ fn put_each_mark<W: Sink>(
 
 // The group of the entries' marks, in the report's order.
 #[tactic(auto, using(crate::proofs::Growth::texts), unfolding(crate::specs::Marks::marks_text))]
-fn put_marks<W: Sink>(
-    sink: &mut W,
-    frame: &Frame,
-    plans: &Plans,
-    mode: Mode,
-    entries: &[Conflict],
-) -> Result<(), WriteFailed>
-    ensures ok { OnOk result (Appends (W.held sink.old) (W.held sink.new) (marks_text frame.now.at (tracks_of mode plans.now.rows) entries.now)) }
+fn put_marks<W: Sink>(sink: &mut W, frame: &Frame, scene: &Scene, entries: &[Conflict]) -> Written
+    ensures ok { OnOk result (Appends (W.held sink.old) (W.held sink.new) (marks_text frame.now.at (tracks_of scene.now.mode scene.now.rows) entries.now)) }
     ensures broken { W.broken sink.new ≡ (W.broken sink.old || is_err result) }
 {
     put_all(sink, b"<g id='entries'>\n")?;
-    put_each_mark(sink, frame, plans, mode, entries)?;
+    put_each_mark(sink, frame, scene, entries)?;
     put_all(sink, b"</g>\n")
 }
 
 /// Puts a mark for each visit and each entry of the report.
 #[tactic(auto, using(crate::proofs::Growth::texts))]
-pub fn put_findings<W: Sink>(
-    sink: &mut W,
-    scene: &Scene,
-    report: &Report,
-    frame: &Frame,
-) -> Result<(), WriteFailed>
+pub fn put_findings<W: Sink>(sink: &mut W, scene: &Scene, report: &Report, frame: &Frame) -> Written
     ensures ok { OnOk result (Appends (W.held sink.old) (W.held sink.new) (findings_text frame.now.at scene.now report.now)) }
     ensures broken { W.broken sink.new ≡ (W.broken sink.old || is_err result) }
 {
     put_crosses(sink, frame, report.visits.items())?;
-    put_marks(
-        sink,
-        frame,
-        scene.plans(),
-        scene.mode(),
-        report.conflicts.items(),
-    )
+    put_marks(sink, frame, scene, report.conflicts.items())
 }

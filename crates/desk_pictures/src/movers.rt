@@ -1,58 +1,48 @@
 //! The agents themselves, as they move or as they are at one time.
+#![tactic(auto, using(crate::proofs::Growth::growths))]
+
 ghost use Rattle.std.specs.Prelude.{OnOk, ◌≡◌, ◌||◌, is_err};
 ghost use Rattle.desk_pictures.specs.Growth.{Grows};
 
 use crate::agents::put_group;
 use crate::frames::Frame;
-use crate::pieces::{Piece, put_letters, put_some};
+use crate::pieces::{Piece, Written, put_filled, put_letters};
 use crate::ways::put_motion;
-use desk_report::{Sink, WriteFailed};
+use desk_report::Sink;
 use grid_cells::{Agent, Cell, Step};
 use plan_table::{Mode, Plans, Row};
 
 // An agent that leaves is gone at the time after its last.
-#[tactic(auto, using(crate::proofs::Growth::growths))]
-fn put_leave<W: Sink>(sink: &mut W, leaves: bool, last: u32) -> Result<(), WriteFailed>
+fn put_leave<W: Sink>(sink: &mut W, leaves: bool, last: u32) -> Written
     ensures ok { OnOk result (Grows (W.held sink.old) (W.held sink.new)) }
     ensures broken { W.broken sink.new ≡ (W.broken sink.old || is_err result) }
 {
     if !leaves {
         return Ok(());
     }
-    let pieces = [
-        Piece::Text(b"<set attributeName='visibility' to='hidden' begin='"),
-        Piece::Seconds(last.saturating_add(1)),
-        Piece::Text(b"s'/>"),
-    ];
-    put_some(sink, &pieces)
+    let end = Piece::Seconds(last.saturating_add(1));
+    put_filled(
+        sink,
+        b"<set attributeName='visibility' to='hidden' begin='~s'/>",
+        &[end],
+    )
 }
 
 // The agent's body at the cell: a circle with its number.
-#[tactic(auto, using(crate::proofs::Growth::growths))]
-fn put_body<W: Sink>(sink: &mut W, agent: Agent, cell: Cell) -> Result<(), WriteFailed>
+fn put_body<W: Sink>(sink: &mut W, agent: Agent, cell: Cell) -> Written
     ensures ok { OnOk result (Grows (W.held sink.old) (W.held sink.new)) }
     ensures broken { W.broken sink.new ≡ (W.broken sink.old || is_err result) }
 {
-    let (x, y) = (u64::from(cell.x()), u64::from(cell.y()));
-    let pieces = [
-        Piece::Text(b"<use href='#body' x='"),
-        Piece::Number(x),
-        Piece::Text(b"' y='"),
-        Piece::Number(y),
-        Piece::Text(b"'/><text x='"),
-        Piece::Number(x),
-        Piece::Text(b"' y='"),
-        Piece::Number(y),
-        Piece::Text(b"'>"),
-        Piece::Number(u64::from(agent.number())),
-        Piece::Text(b"</text>"),
-    ];
-    put_some(sink, &pieces)
+    let (x, y) = (Piece::Count(cell.x()), Piece::Count(cell.y()));
+    put_filled(
+        sink,
+        b"<use href='#body' x='~' y='~'/><text x='~' y='~'>~</text>",
+        &[x, y, x, y, Piece::Count(agent.number())],
+    )
 }
 
 // An agent that moves.
-#[tactic(auto, using(crate::proofs::Growth::growths))]
-fn put_mover<W: Sink>(sink: &mut W, mode: Mode, agent: Agent, row: &Row) -> Result<(), WriteFailed>
+fn put_mover<W: Sink>(sink: &mut W, mode: Mode, agent: Agent, row: &Row) -> Written
     ensures ok { OnOk result (Grows (W.held sink.old) (W.held sink.new)) }
     ensures broken { W.broken sink.new ≡ (W.broken sink.old || is_err result) }
 {
@@ -65,14 +55,7 @@ fn put_mover<W: Sink>(sink: &mut W, mode: Mode, agent: Agent, row: &Row) -> Resu
 }
 
 // An agent at a time, if it is anywhere.
-#[tactic(auto, using(crate::proofs::Growth::growths))]
-fn put_still<W: Sink>(
-    sink: &mut W,
-    mode: Mode,
-    agent: Agent,
-    row: &Row,
-    time: Step,
-) -> Result<(), WriteFailed>
+fn put_still<W: Sink>(sink: &mut W, mode: Mode, agent: Agent, row: &Row, time: Step) -> Written
     ensures ok { OnOk result (Grows (W.held sink.old) (W.held sink.new)) }
     ensures broken { W.broken sink.new ≡ (W.broken sink.old || is_err result) }
 {
@@ -85,14 +68,7 @@ fn put_still<W: Sink>(
 }
 
 // The agent, if the frame shows it.
-#[tactic(auto, using(crate::proofs::Growth::growths))]
-fn put_shown<W: Sink>(
-    sink: &mut W,
-    frame: &Frame,
-    mode: Mode,
-    agent: Agent,
-    row: &Row,
-) -> Result<(), WriteFailed>
+fn put_shown<W: Sink>(sink: &mut W, frame: &Frame, mode: Mode, agent: Agent, row: &Row) -> Written
     ensures ok { OnOk result (Grows (W.held sink.old) (W.held sink.new)) }
     ensures broken { W.broken sink.new ≡ (W.broken sink.old || is_err result) }
 {
@@ -106,13 +82,7 @@ fn put_shown<W: Sink>(
 }
 
 /// Puts the agents that the frame shows.
-#[tactic(auto, using(crate::proofs::Growth::growths))]
-pub fn put_movers<W: Sink>(
-    sink: &mut W,
-    frame: &Frame,
-    plans: &Plans,
-    mode: Mode,
-) -> Result<(), WriteFailed>
+pub fn put_movers<W: Sink>(sink: &mut W, frame: &Frame, plans: &Plans, mode: Mode) -> Written
     ensures ok { OnOk result (Grows (W.held sink.old) (W.held sink.new)) }
     ensures broken { W.broken sink.new ≡ (W.broken sink.old || is_err result) }
 {

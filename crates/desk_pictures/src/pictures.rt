@@ -1,3 +1,5 @@
+#![tactic(auto, using(crate::proofs::Growth::growths))]
+
 ghost use Rattle.std.specs.Prelude.{OnOk, ◌≡◌, ◌||◌, is_err};
 ghost use Rattle.desk_pictures.specs.Growth.{Grows, GrowsAround};
 ghost use Rattle.desk_pictures.specs.Marks.{findings_text};
@@ -7,7 +9,7 @@ use crate::ground::put_ground;
 use crate::legend::{put_legend, put_title};
 use crate::marks::put_findings;
 use crate::movers::put_movers;
-use crate::pieces::put_letters;
+use crate::pieces::{Written, put_letters};
 use crate::rings::put_rings;
 use crate::routes::put_routes;
 use crate::rulers::put_rulers;
@@ -20,8 +22,7 @@ use scene_edits::Scene;
 const MOST_NUMBERED: u32 = 100;
 
 // What stands before all drawings.
-#[tactic(auto, using(crate::proofs::Growth::growths))]
-fn put_head<W: Sink>(sink: &mut W, sheet: Sheet, scene: &Scene) -> Result<(), WriteFailed>
+fn put_head<W: Sink>(sink: &mut W, sheet: Sheet, scene: &Scene) -> Written
     ensures ok { OnOk result (Grows (W.held sink.old) (W.held sink.new)) }
     ensures broken { W.broken sink.new ≡ (W.broken sink.old || is_err result) }
 {
@@ -33,13 +34,7 @@ fn put_head<W: Sink>(sink: &mut W, sheet: Sheet, scene: &Scene) -> Result<(), Wr
 }
 
 // What is under the marks: cells, paths, rings and agents.
-#[tactic(auto, using(crate::proofs::Growth::growths))]
-fn put_scenery<W: Sink>(
-    sink: &mut W,
-    scene: &Scene,
-    report: &Report,
-    frame: &Frame,
-) -> Result<(), WriteFailed>
+fn put_scenery<W: Sink>(sink: &mut W, scene: &Scene, report: &Report, frame: &Frame) -> Written
     ensures ok { OnOk result (Grows (W.held sink.old) (W.held sink.new)) }
     ensures broken { W.broken sink.new ≡ (W.broken sink.old || is_err result) }
 {
@@ -48,43 +43,10 @@ fn put_scenery<W: Sink>(
     put_letters(sink, b"<g id='routes'>\n")?;
     put_routes(sink, frame, plans)?;
     put_letters(sink, b"</g>\n<g id='rings'>\n")?;
-    put_rings(sink, frame, plans, scene.mode(), report.conflicts.items())?;
+    put_rings(sink, scene, report, frame)?;
     put_letters(sink, b"</g>\n<g id='agents'>\n")?;
     put_movers(sink, frame, plans, scene.mode())?;
     put_letters(sink, b"</g>\n")
-}
-
-// What stands before the marks.
-#[tactic(auto, using(crate::proofs::Growth::growths))]
-fn put_front<W: Sink>(
-    sink: &mut W,
-    sheet: Sheet,
-    scene: &Scene,
-    report: &Report,
-    frame: &Frame,
-) -> Result<(), WriteFailed>
-    ensures ok { OnOk result (Grows (W.held sink.old) (W.held sink.new)) }
-    ensures broken { W.broken sink.new ≡ (W.broken sink.old || is_err result) }
-{
-    put_head(sink, sheet, scene)?;
-    put_scenery(sink, scene, report, frame)
-}
-
-// What stands behind the marks.
-#[tactic(auto, using(crate::proofs::Growth::growths))]
-fn put_rest<W: Sink>(
-    sink: &mut W,
-    sheet: Sheet,
-    scene: &Scene,
-    report: &Report,
-    frame: &Frame,
-) -> Result<(), WriteFailed>
-    ensures ok { OnOk result (Grows (W.held sink.old) (W.held sink.new)) }
-    ensures broken { W.broken sink.new ≡ (W.broken sink.old || is_err result) }
-{
-    put_letters(sink, b"</svg>\n")?;
-    put_legend(sink, sheet, scene, report, frame)?;
-    put_letters(sink, b"</svg>\n")
 }
 
 /// Writes the picture of the scene. It has a mark for each blocked visit and each entry of the
@@ -104,7 +66,8 @@ pub fn write_picture<W: Sink>(
     ensures broken { W.broken sink.new ≡ (W.broken sink.old || is_err result) }
 {
     let sheet = Sheet::new(scene.grid().size());
-    put_front(sink, sheet, scene, report, frame)?;
+    put_head(sink, sheet, scene)?;
+    put_scenery(sink, scene, report, frame)?;
     put_findings(sink, scene, report, frame)?;
-    put_rest(sink, sheet, scene, report, frame)
+    put_legend(sink, sheet, scene, report, frame)
 }

@@ -1,4 +1,6 @@
 //! Pieces of a picture's text, put into a sink. Nothing here takes memory.
+#![tactic(auto, using(crate::proofs::Growth::growths))]
+
 ghost use Rattle.std.specs.Prelude.{◌≡◌, ◌%◌, ◌==◌, if◌then◌else◌, [], OnOk, codes, ◌||◌, is_err};
 ghost use Rattle.std.specs.List.{flat_map};
 ghost use Rattle.std.specs.Io.KnownBytes.{Appends};
@@ -7,6 +9,9 @@ ghost use Rattle.desk_pictures.specs.Pieces.{piece_text, half_text, thousandths_
 
 use desk_report::{Sink, WriteFailed, put_all, put_given, put_number};
 
+/// What it comes to when something is put into a sink.
+pub type Written = Result<(), WriteFailed>;
+
 /// A piece of the text. No piece has a quote, a bracket or an ampersand but those of a text.
 #[derive(Clone, Copy, Debug)]
 pub enum Piece<'a> {
@@ -14,6 +19,10 @@ pub enum Piece<'a> {
     Text(&'a [u8]),
     /// A number in decimal digits.
     Number(u64),
+    /// A number of 32 bits, likewise.
+    Count(u32),
+    /// A number, or `none`.
+    Given(Option<u64>),
     /// Half of the number, as `3` or `3.5`.
     Half(u64),
     /// A thousandth of the number, as `0.160`.
@@ -23,13 +32,15 @@ pub enum Piece<'a> {
 }
 
 /// Puts the piece.
-pub fn put_piece<W: Sink>(sink: &mut W, piece: &Piece) -> Result<(), WriteFailed>
+pub fn put_piece<W: Sink>(sink: &mut W, piece: &Piece) -> Written
     ensures ok { OnOk result (Appends (W.held sink.old) (W.held sink.new) (piece_text piece.now)) }
     ensures broken { W.broken sink.new ≡ (W.broken sink.old || is_err result) }
 {
     match piece {
         Piece::Text(letters) => put_all(sink, letters),
         Piece::Number(number) => put_number(sink, *number),
+        Piece::Count(number) => put_number(sink, u64::from(*number)),
+        Piece::Given(number) => put_given(sink, *number),
         Piece::Half(number) => put_half(sink, *number),
         Piece::Thousandths(number) => put_thousandths(sink, *number),
         Piece::Seconds(time) => put_seconds(sink, *time),
@@ -38,7 +49,7 @@ pub fn put_piece<W: Sink>(sink: &mut W, piece: &Piece) -> Result<(), WriteFailed
 
 /// Puts the pieces, one behind the other.
 #[tactic(auto, using(crate::proofs::Growth::texts))]
-pub fn put_pieces<W: Sink>(sink: &mut W, pieces: &[Piece]) -> Result<(), WriteFailed>
+pub fn put_pieces<W: Sink>(sink: &mut W, pieces: &[Piece]) -> Written
     ensures ok { OnOk result (Appends (W.held sink.old) (W.held sink.new) (flat_map piece_text pieces.now)) }
     ensures broken { W.broken sink.new ≡ (W.broken sink.old || is_err result) }
 {
@@ -49,8 +60,7 @@ pub fn put_pieces<W: Sink>(sink: &mut W, pieces: &[Piece]) -> Result<(), WriteFa
 }
 
 /// Puts the pieces, one behind the other.
-#[tactic(auto, using(crate::proofs::Growth::growths))]
-pub fn put_some<W: Sink>(sink: &mut W, pieces: &[Piece]) -> Result<(), WriteFailed>
+pub fn put_some<W: Sink>(sink: &mut W, pieces: &[Piece]) -> Written
     ensures ok { OnOk result (Grows (W.held sink.old) (W.held sink.new)) }
     ensures broken { W.broken sink.new ≡ (W.broken sink.old || is_err result) }
 {
@@ -58,25 +68,38 @@ pub fn put_some<W: Sink>(sink: &mut W, pieces: &[Piece]) -> Result<(), WriteFail
 }
 
 /// Puts the letters.
-#[tactic(auto, using(crate::proofs::Growth::growths))]
-pub fn put_letters<W: Sink>(sink: &mut W, letters: &[u8]) -> Result<(), WriteFailed>
+pub fn put_letters<W: Sink>(sink: &mut W, letters: &[u8]) -> Written
     ensures ok { OnOk result (Grows (W.held sink.old) (W.held sink.new)) }
     ensures broken { W.broken sink.new ≡ (W.broken sink.old || is_err result) }
 {
     put_all(sink, letters)
 }
 
-/// Puts the number, or `none`.
-#[tactic(auto, using(crate::proofs::Growth::growths))]
-pub fn put_total<W: Sink>(sink: &mut W, number: Option<u64>) -> Result<(), WriteFailed>
+// What stands before the text's first tilde, and what behind it.
+fn parted(text: &[u8]) -> (&[u8], &[u8]) {
+    match text.iter().position(|letter| *letter == b'~') {
+        Some(at) => (&text[..at], &text[at + 1..]),
+        None => (text, b""),
+    }
+}
+
+/// Puts the text, with a piece in place of each tilde.
+pub fn put_filled<W: Sink>(sink: &mut W, text: &[u8], pieces: &[Piece]) -> Written
     ensures ok { OnOk result (Grows (W.held sink.old) (W.held sink.new)) }
     ensures broken { W.broken sink.new ≡ (W.broken sink.old || is_err result) }
 {
-    put_given(sink, number)
+    let mut rest = text;
+    for piece in pieces {
+        let (before, behind) = parted(rest);
+        put_all(sink, before)?;
+        put_piece(sink, piece)?;
+        rest = behind;
+    }
+    put_letters(sink, rest)
 }
 
 #[tactic(auto, using(crate::proofs::Growth::texts))]
-fn put_half<W: Sink>(sink: &mut W, number: u64) -> Result<(), WriteFailed>
+fn put_half<W: Sink>(sink: &mut W, number: u64) -> Written
     ensures ok { OnOk result (Appends (W.held sink.old) (W.held sink.new) (half_text number)) }
     ensures broken { W.broken sink.new ≡ (W.broken sink.old || is_err result) }
 {
@@ -92,7 +115,7 @@ fn half_of(number: u64) -> &'static [u8]
 }
 
 #[tactic(auto, using(crate::proofs::Growth::texts))]
-fn put_thousandths<W: Sink>(sink: &mut W, number: u64) -> Result<(), WriteFailed>
+fn put_thousandths<W: Sink>(sink: &mut W, number: u64) -> Written
     ensures ok { OnOk result (Appends (W.held sink.old) (W.held sink.new) (thousandths_text number)) }
     ensures broken { W.broken sink.new ≡ (W.broken sink.old || is_err result) }
 {
@@ -105,7 +128,7 @@ fn put_thousandths<W: Sink>(sink: &mut W, number: u64) -> Result<(), WriteFailed
 
 // A step takes 0.4 seconds.
 #[tactic(auto, using(crate::proofs::Growth::texts))]
-fn put_seconds<W: Sink>(sink: &mut W, time: u32) -> Result<(), WriteFailed>
+fn put_seconds<W: Sink>(sink: &mut W, time: u32) -> Written
     ensures ok { OnOk result (Appends (W.held sink.old) (W.held sink.new) (seconds_text time)) }
     ensures broken { W.broken sink.new ≡ (W.broken sink.old || is_err result) }
 {

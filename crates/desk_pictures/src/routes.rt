@@ -1,12 +1,14 @@
 //! The agents' paths as lines, with their starts and goals.
+#![tactic(auto, using(crate::proofs::Growth::growths))]
+
 ghost use Rattle.std.specs.Prelude.{OnOk, ◌≡◌, ◌||◌, is_err};
 ghost use Rattle.desk_pictures.specs.Growth.{Grows};
 
 use crate::agents::put_group;
 use crate::frames::Frame;
-use crate::pieces::{Piece, put_letters, put_some};
+use crate::pieces::{Piece, Written, put_filled, put_letters};
 use crate::ways::put_offset;
-use desk_report::{Sink, WriteFailed};
+use desk_report::Sink;
 use grid_cells::{Agent, Cell, Step};
 use plan_table::{Plans, Row};
 
@@ -35,8 +37,7 @@ fn way_to(cell: Cell, next: Cell) -> Option<Way> {
 }
 
 // The line straight on to the cell, if that is another one.
-#[tactic(auto, using(crate::proofs::Growth::growths))]
-fn put_stroke<W: Sink>(sink: &mut W, from: Cell, cell: Cell) -> Result<(), WriteFailed>
+fn put_stroke<W: Sink>(sink: &mut W, from: Cell, cell: Cell) -> Written
     ensures ok { OnOk result (Grows (W.held sink.old) (W.held sink.new)) }
     ensures broken { W.broken sink.new ≡ (W.broken sink.old || is_err result) }
 {
@@ -61,8 +62,7 @@ fn turned_at(turned: Cell, way: Option<Way>, next: Option<Way>, cell: Cell) -> C
 }
 
 // The line along the cells: waits don't show, and a straight run is one stroke.
-#[tactic(auto, using(crate::proofs::Growth::growths))]
-fn put_strokes<W: Sink>(sink: &mut W, start: Cell, cells: &[Cell]) -> Result<(), WriteFailed>
+fn put_strokes<W: Sink>(sink: &mut W, start: Cell, cells: &[Cell]) -> Written
     ensures ok { OnOk result (Grows (W.held sink.old) (W.held sink.new)) }
     ensures broken { W.broken sink.new ≡ (W.broken sink.old || is_err result) }
 {
@@ -81,27 +81,8 @@ fn put_strokes<W: Sink>(sink: &mut W, start: Cell, cells: &[Cell]) -> Result<(),
     }
 }
 
-// A sign of that name at the cell.
-#[tactic(auto, using(crate::proofs::Growth::growths))]
-fn put_sign<W: Sink>(sink: &mut W, name: &[u8], cell: Cell) -> Result<(), WriteFailed>
-    ensures ok { OnOk result (Grows (W.held sink.old) (W.held sink.new)) }
-    ensures broken { W.broken sink.new ≡ (W.broken sink.old || is_err result) }
-{
-    let pieces = [
-        Piece::Text(b"<use href='#"),
-        Piece::Text(name),
-        Piece::Text(b"' x='"),
-        Piece::Number(u64::from(cell.x())),
-        Piece::Text(b"' y='"),
-        Piece::Number(u64::from(cell.y())),
-        Piece::Text(b"'/>"),
-    ];
-    put_some(sink, &pieces)
-}
-
 // A line from where the agent rests to its goal, where that is another cell.
-#[tactic(auto, using(crate::proofs::Growth::growths))]
-fn put_lack<W: Sink>(sink: &mut W, rest: Cell, goal: Cell) -> Result<(), WriteFailed>
+fn put_lack<W: Sink>(sink: &mut W, rest: Cell, goal: Cell) -> Written
     ensures ok { OnOk result (Grows (W.held sink.old) (W.held sink.new)) }
     ensures broken { W.broken sink.new ≡ (W.broken sink.old || is_err result) }
 {
@@ -109,60 +90,36 @@ fn put_lack<W: Sink>(sink: &mut W, rest: Cell, goal: Cell) -> Result<(), WriteFa
         return Ok(());
     }
     let pieces = [
-        Piece::Text(b"<path class='lack' d='M"),
-        Piece::Number(u64::from(rest.x())),
-        Piece::Text(b" "),
-        Piece::Number(u64::from(rest.y())),
-        Piece::Text(b"L"),
-        Piece::Number(u64::from(goal.x())),
-        Piece::Text(b" "),
-        Piece::Number(u64::from(goal.y())),
-        Piece::Text(b"'/>"),
+        Piece::Count(rest.x()),
+        Piece::Count(rest.y()),
+        Piece::Count(goal.x()),
+        Piece::Count(goal.y()),
     ];
-    put_some(sink, &pieces)
-}
-
-// The beginning of a path's line.
-#[tactic(auto, using(crate::proofs::Growth::growths))]
-fn put_start<W: Sink>(sink: &mut W, start: Cell) -> Result<(), WriteFailed>
-    ensures ok { OnOk result (Grows (W.held sink.old) (W.held sink.new)) }
-    ensures broken { W.broken sink.new ≡ (W.broken sink.old || is_err result) }
-{
-    let pieces = [
-        Piece::Text(b"<path d='M"),
-        Piece::Number(u64::from(start.x())),
-        Piece::Text(b" "),
-        Piece::Number(u64::from(start.y())),
-    ];
-    put_some(sink, &pieces)
+    put_filled(sink, b"<path class='lack' d='M~ ~L~ ~'/>", &pieces)
 }
 
 // The agent's path, start and goal.
-#[tactic(auto, using(crate::proofs::Growth::growths))]
-fn put_route<W: Sink>(sink: &mut W, agent: Agent, row: &Row) -> Result<(), WriteFailed>
+fn put_route<W: Sink>(sink: &mut W, agent: Agent, row: &Row) -> Written
     ensures ok { OnOk result (Grows (W.held sink.old) (W.held sink.new)) }
     ensures broken { W.broken sink.new ≡ (W.broken sink.old || is_err result) }
 {
     let start = row.plan.at(Step::new(0));
     let rest = row.plan.at(Step::new(row.plan.last()));
+    let (x, y) = (Piece::Count(start.x()), Piece::Count(start.y()));
+    let (goal_x, goal_y) = (Piece::Count(row.goal.x()), Piece::Count(row.goal.y()));
     put_group(sink, agent)?;
     put_lack(sink, rest, row.goal)?;
-    put_start(sink, start)?;
+    put_filled(sink, b"<path d='M~ ~", &[x, y])?;
     put_strokes(sink, start, row.plan.cells())?;
-    put_letters(sink, b"'/>")?;
-    put_sign(sink, b"start", start)?;
-    put_sign(sink, b"goal", row.goal)?;
-    put_letters(sink, b"</g>\n")
+    put_filled(
+        sink,
+        b"'/><use href='#start' x='~' y='~'/><use href='#goal' x='~' y='~'/></g>\n",
+        &[x, y, goal_x, goal_y],
+    )
 }
 
 // The agent's path, start and goal, if the frame shows it.
-#[tactic(auto, using(crate::proofs::Growth::growths))]
-fn put_shown<W: Sink>(
-    sink: &mut W,
-    frame: &Frame,
-    agent: Agent,
-    row: &Row,
-) -> Result<(), WriteFailed>
+fn put_shown<W: Sink>(sink: &mut W, frame: &Frame, agent: Agent, row: &Row) -> Written
     ensures ok { OnOk result (Grows (W.held sink.old) (W.held sink.new)) }
     ensures broken { W.broken sink.new ≡ (W.broken sink.old || is_err result) }
 {
@@ -173,8 +130,7 @@ fn put_shown<W: Sink>(
 }
 
 /// Puts the paths of the agents that the frame shows.
-#[tactic(auto, using(crate::proofs::Growth::growths))]
-pub fn put_routes<W: Sink>(sink: &mut W, frame: &Frame, plans: &Plans) -> Result<(), WriteFailed>
+pub fn put_routes<W: Sink>(sink: &mut W, frame: &Frame, plans: &Plans) -> Written
     ensures ok { OnOk result (Grows (W.held sink.old) (W.held sink.new)) }
     ensures broken { W.broken sink.new ≡ (W.broken sink.old || is_err result) }
 {

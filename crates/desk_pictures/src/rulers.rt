@@ -1,10 +1,12 @@
 //! The numbers of columns and rows beside the map.
+#![tactic(auto, using(crate::proofs::Growth::growths))]
+
 ghost use Rattle.std.specs.Prelude.{OnOk, ◌≡◌, ◌||◌, is_err};
 ghost use Rattle.desk_pictures.specs.Growth.{Grows};
 
-use crate::pieces::{Piece, put_letters, put_some};
+use crate::pieces::{Piece, Written, put_filled, put_letters};
 use crate::sheet::{EDGE, Sheet};
-use desk_report::{Sink, WriteFailed};
+use desk_report::Sink;
 use grid_cells::Size;
 
 // How many columns or rows one number stands for.
@@ -27,74 +29,45 @@ fn place_of(drawn: u32, cells: u32, index: u32) -> u64 {
     along.saturating_add(u64::from(EDGE))
 }
 
-// The number of a column, if it has one.
-#[tactic(auto, using(crate::proofs::Growth::growths))]
-fn put_column<W: Sink>(sink: &mut W, sheet: Sheet, size: Size, x: u32) -> Result<(), WriteFailed>
+// The number of the column or row at that index, if it has one, in a text with its place before it.
+fn put_index<W: Sink>(sink: &mut W, drawn: u32, cells: u32, text: &[u8], index: u32) -> Written
     ensures ok { OnOk result (Grows (W.held sink.old) (W.held sink.new)) }
     ensures broken { W.broken sink.new ≡ (W.broken sink.old || is_err result) }
 {
-    if x % pitch_of(size.width()).max(1) != 0 {
+    if index % pitch_of(cells).max(1) != 0 {
         return Ok(());
     }
-    let pieces = [
-        Piece::Text(b"<text x='"),
-        Piece::Number(place_of(sheet.across, size.width(), x)),
-        Piece::Text(b"' y='22'>"),
-        Piece::Number(u64::from(x)),
-        Piece::Text(b"</text>"),
-    ];
-    put_some(sink, &pieces)
+    let place = Piece::Number(place_of(drawn, cells, index));
+    put_filled(sink, text, &[place, Piece::Count(index)])
 }
 
-// The number of a row, if it has one.
-#[tactic(auto, using(crate::proofs::Growth::growths))]
-fn put_row<W: Sink>(sink: &mut W, sheet: Sheet, size: Size, y: u32) -> Result<(), WriteFailed>
+fn put_ruler<W: Sink>(sink: &mut W, drawn: u32, cells: u32, text: &[u8]) -> Written
     ensures ok { OnOk result (Grows (W.held sink.old) (W.held sink.new)) }
     ensures broken { W.broken sink.new ≡ (W.broken sink.old || is_err result) }
 {
-    if y % pitch_of(size.height()).max(1) != 0 {
-        return Ok(());
-    }
-    let pieces = [
-        Piece::Text(b"<text class='n' x='29' y='"),
-        Piece::Number(place_of(sheet.down, size.height(), y)),
-        Piece::Text(b"'>"),
-        Piece::Number(u64::from(y)),
-        Piece::Text(b"</text>"),
-    ];
-    put_some(sink, &pieces)
-}
-
-#[tactic(auto, using(crate::proofs::Growth::growths))]
-fn put_columns<W: Sink>(sink: &mut W, sheet: Sheet, size: Size) -> Result<(), WriteFailed>
-    ensures ok { OnOk result (Grows (W.held sink.old) (W.held sink.new)) }
-    ensures broken { W.broken sink.new ≡ (W.broken sink.old || is_err result) }
-{
-    for x in 0..size.width() {
-        put_column(sink, sheet, size, x)?;
-    }
-    Ok(())
-}
-
-#[tactic(auto, using(crate::proofs::Growth::growths))]
-fn put_rows<W: Sink>(sink: &mut W, sheet: Sheet, size: Size) -> Result<(), WriteFailed>
-    ensures ok { OnOk result (Grows (W.held sink.old) (W.held sink.new)) }
-    ensures broken { W.broken sink.new ≡ (W.broken sink.old || is_err result) }
-{
-    for y in 0..size.height() {
-        put_row(sink, sheet, size, y)?;
+    for index in 0..cells {
+        put_index(sink, drawn, cells, text, index)?;
     }
     Ok(())
 }
 
 /// Puts the numbers of columns above the map and of rows at its left, as many as there is room for.
-#[tactic(auto, using(crate::proofs::Growth::growths))]
-pub fn put_rulers<W: Sink>(sink: &mut W, sheet: Sheet, size: Size) -> Result<(), WriteFailed>
+pub fn put_rulers<W: Sink>(sink: &mut W, sheet: Sheet, size: Size) -> Written
     ensures ok { OnOk result (Grows (W.held sink.old) (W.held sink.new)) }
     ensures broken { W.broken sink.new ≡ (W.broken sink.old || is_err result) }
 {
     put_letters(sink, b"<g id='rulers'>\n")?;
-    put_columns(sink, sheet, size)?;
-    put_rows(sink, sheet, size)?;
+    put_ruler(
+        sink,
+        sheet.across,
+        size.width(),
+        b"<text x='~' y='22'>~</text>",
+    )?;
+    put_ruler(
+        sink,
+        sheet.down,
+        size.height(),
+        b"<text class='n' x='29' y='~'>~</text>",
+    )?;
     put_letters(sink, b"\n</g>\n")
 }

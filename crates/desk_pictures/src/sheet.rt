@@ -1,9 +1,11 @@
 //! How large a picture is and its parts are.
+#![tactic(auto, using(crate::proofs::Growth::growths))]
+
 ghost use Rattle.std.specs.Prelude.{OnOk, ◌≡◌, ◌||◌, is_err};
 ghost use Rattle.desk_pictures.specs.Growth.{Grows};
 
-use crate::pieces::{Piece, put_some};
-use desk_report::{Sink, WriteFailed};
+use crate::pieces::{Piece, Written, put_filled};
+use desk_report::Sink;
 use grid_cells::Size;
 
 // The greater side of the drawn map.
@@ -44,44 +46,36 @@ impl Sheet {
     }
 
     /// Puts the picture's first tag.
-    #[tactic(auto, using(crate::proofs::Growth::growths))]
-    pub fn put_first<W: Sink>(self, sink: &mut W) -> Result<(), WriteFailed>
+    pub fn put_first<W: Sink>(self, sink: &mut W) -> Written
         ensures ok { OnOk result (Grows (W.held sink.old) (W.held sink.new)) }
         ensures broken { W.broken sink.new ≡ (W.broken sink.old || is_err result) }
     {
         let across = u64::from(self.across) + u64::from(KEY_ROOM);
         let down = (u64::from(self.down) + 64).max(u64::from(KEY_HEIGHT));
-        let pieces = [
-            Piece::Text(b"<svg xmlns='http://www.w3.org/2000/svg' role='img' viewBox='0 0 "),
-            Piece::Number(across),
-            Piece::Text(b" "),
-            Piece::Number(down),
-            Piece::Text(b"'>\n"),
-        ];
-        put_some(sink, &pieces)
+        put_filled(
+            sink,
+            b"<svg xmlns='http://www.w3.org/2000/svg' role='img' viewBox='0 0 ~ ~'>\n",
+            &[Piece::Number(across), Piece::Number(down)],
+        )
     }
 
     /// Puts the tag of the map's part, in which a cell's middle is at its column and row.
-    #[tactic(auto, using(crate::proofs::Growth::growths))]
-    pub fn put_map<W: Sink>(self, sink: &mut W, size: Size) -> Result<(), WriteFailed>
+    pub fn put_map<W: Sink>(self, sink: &mut W, size: Size) -> Written
         ensures ok { OnOk result (Grows (W.held sink.old) (W.held sink.new)) }
         ensures broken { W.broken sink.new ≡ (W.broken sink.old || is_err result) }
     {
         let pieces = [
-            Piece::Text(b"<svg overflow='visible' x='"),
-            Piece::Number(u64::from(EDGE)),
-            Piece::Text(b"' y='"),
-            Piece::Number(u64::from(EDGE)),
-            Piece::Text(b"' width='"),
-            Piece::Number(u64::from(self.across)),
-            Piece::Text(b"' height='"),
-            Piece::Number(u64::from(self.down)),
-            Piece::Text(b"' viewBox='-.5 -.5 "),
-            Piece::Number(u64::from(size.width())),
-            Piece::Text(b" "),
-            Piece::Number(u64::from(size.height())),
-            Piece::Text(b"'>\n"),
+            Piece::Count(EDGE),
+            Piece::Count(EDGE),
+            Piece::Count(self.across),
+            Piece::Count(self.down),
+            Piece::Count(size.width()),
+            Piece::Count(size.height()),
         ];
-        put_some(sink, &pieces)
+        put_filled(
+            sink,
+            b"<svg overflow='visible' x='~' y='~' width='~' height='~' viewBox='-.5 -.5 ~ ~'>\n",
+            &pieces,
+        )
     }
 }

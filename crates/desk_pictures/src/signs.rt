@@ -1,10 +1,12 @@
 //! The signs of entries, visits and agents.
+#![tactic(auto, using(crate::proofs::Growth::growths))]
+
 ghost use Rattle.std.specs.Prelude.{OnOk, ◌≡◌, ◌||◌, is_err};
 ghost use Rattle.desk_pictures.specs.Growth.{Grows};
 
-use crate::pieces::{Piece, put_letters, put_some};
+use crate::pieces::{Piece, Written, put_filled, put_letters};
 use crate::sheet::Sheet;
-use desk_report::{Sink, WriteFailed};
+use desk_report::Sink;
 
 const SIGNS: &[u8] = b"\
 <g id='v'><circle class='back' r='.6'/><circle class='sign ring' r='.6'/></g>
@@ -22,29 +24,6 @@ const SIGNS: &[u8] = b"\
 <path id='g' class='spot' d='M-.32-.32H.32V.32H-.32z'/>
 ";
 
-// A sign of that name in the size for the map, which has another name.
-#[tactic(auto, using(crate::proofs::Growth::growths))]
-fn put_sized<'a, W: Sink>(
-    sink: &mut W,
-    sheet: Sheet,
-    name: &'a [u8],
-    sign: &'a [u8],
-) -> Result<(), WriteFailed>
-    ensures ok { OnOk result (Grows (W.held sink.old) (W.held sink.new)) }
-    ensures broken { W.broken sink.new ≡ (W.broken sink.old || is_err result) }
-{
-    let pieces = [
-        Piece::Text(b"<g id='"),
-        Piece::Text(name),
-        Piece::Text(b"' transform='scale("),
-        sheet.part(100),
-        Piece::Text(b")'><use href='#"),
-        Piece::Text(sign),
-        Piece::Text(b"'/></g>\n"),
-    ];
-    put_some(sink, &pieces)
-}
-
 // The signs of the map, each beside the sign of the key that it is in another size.
 const SIZED: &[(&[u8], &[u8])] = &[
     (b"V", b"v"),
@@ -61,14 +40,18 @@ const SIZED: &[(&[u8], &[u8])] = &[
 ];
 
 /// Puts the signs that the key shows, and those of the map, in its size; a visit's is a pattern that fills its mark.
-#[tactic(auto, using(crate::proofs::Growth::growths))]
-pub fn put_signs<W: Sink>(sink: &mut W, sheet: Sheet) -> Result<(), WriteFailed>
+pub fn put_signs<W: Sink>(sink: &mut W, sheet: Sheet) -> Written
     ensures ok { OnOk result (Grows (W.held sink.old) (W.held sink.new)) }
     ensures broken { W.broken sink.new ≡ (W.broken sink.old || is_err result) }
 {
     put_letters(sink, SIGNS)?;
     for (name, sign) in SIZED {
-        put_sized(sink, sheet, name, sign)?;
+        let pieces = [Piece::Text(name), sheet.part(100), Piece::Text(sign)];
+        put_filled(
+            sink,
+            b"<g id='~' transform='scale(~)'><use href='#~'/></g>\n",
+            &pieces,
+        )?;
     }
     Ok(())
 }

@@ -51,8 +51,8 @@ fn spot_across(plans: &Plans, mode: Mode, time: Step, ring: &[Agent]) -> Spot
     }
 }
 
-// Where the ring's agent at that index is at the time.
-fn cell_in(plans: &Plans, mode: Mode, time: Step, ring: &[Agent], index: usize) -> Option<Cell>
+/// Where the ring's agent at that index is at the time.
+pub fn cell_in(plans: &Plans, mode: Mode, time: Step, ring: &[Agent], index: usize) -> Option<Cell>
     ensures { result ≡ cell_in (tracks_of mode plans.now.rows) time ring.now index }
 {
     match ring.get(index) {

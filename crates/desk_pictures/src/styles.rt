@@ -1,14 +1,17 @@
 //! Colours, widths and sizes. The colours are those of Okabe and Ito, which people with colour
 //! blindness tell apart.
+#![tactic(auto, using(crate::proofs::Growth::growths))]
+
 ghost use Rattle.std.specs.Prelude.{OnOk, ◌≡◌, ◌||◌, is_err};
 ghost use Rattle.desk_pictures.specs.Growth.{Grows};
 
-use crate::pieces::{Piece, put_letters, put_some};
+use crate::pieces::{Piece, Written, put_letters, put_some};
 use crate::sheet::Sheet;
 use crate::signs::put_signs;
-use desk_report::{Sink, WriteFailed};
+use desk_report::Sink;
 
 const COLOURS: &[u8] = b"\
+<style>
 text{font-family:sans-serif}
 .floor{fill:#fff;stroke:#999;stroke-width:.04}
 .net{fill:url(#net)}
@@ -40,124 +43,66 @@ text{font-family:sans-serif}
 #key .bad{font-size:20px;font-weight:bold;fill:#b84f00}
 ";
 
-// The colour of agents, and how far their drawings are beside those of others.
-#[tactic(auto, using(crate::proofs::Growth::growths))]
-fn put_colour<'a, W: Sink>(
-    sink: &mut W,
-    sheet: Sheet,
-    rule: &'a [u8],
-    sign: &'a [u8],
-    aside: u32,
-) -> Result<(), WriteFailed>
-    ensures ok { OnOk result (Grows (W.held sink.old) (W.held sink.new)) }
-    ensures broken { W.broken sink.new ≡ (W.broken sink.old || is_err result) }
-{
-    let pieces = [
-        Piece::Text(rule),
-        Piece::Text(b";transform:translate("),
-        Piece::Text(sign),
-        sheet.part(aside),
-        Piece::Text(b"px,"),
-        Piece::Text(sign),
-        sheet.part(aside),
-        Piece::Text(b"px)}\n"),
-    ];
-    put_some(sink, &pieces)
-}
+// What goes by the size of signs, in its hundredths, each behind its text: how far agents of a
+// colour are beside the others, the widths and patterns of lines, and the size of visits' marks,
+// whose middles are to be where their cells' are.
+const LENGTHS: &[(&[u8], u32)] = &[
+    (b".c0{color:#0072b2;transform:translate(-", 16),
+    (b"px,-", 16),
+    (b"px)}\n.c1{color:#e69f00;transform:translate(", 16),
+    (b"px,", 16),
+    (b"px)}\n.c2{color:#009e73;transform:translate(", 0),
+    (b"px,", 0),
+    (b"px)}\n.c3{color:#cc79a7;transform:translate(-", 8),
+    (b"px,-", 8),
+    (b"px)}\n.c4{color:#56b4e9;transform:translate(", 8),
+    (b"px,", 8),
+    (b"px)}\n#routes path{stroke-width:", 14),
+    (b"}\n#routes .d1 path{stroke-dasharray:", 60),
+    (b" ", 40),
+    (b"}\n#routes .d2 path{stroke-dasharray:0 ", 30),
+    (b"}\n#routes .d3 path{stroke-dasharray:", 80),
+    (b" ", 30),
+    (b" 0 ", 30),
+    (b"}\n#routes .lack{stroke-width:", 5),
+    (b";stroke-dasharray:", 5),
+    (b" ", 15),
+    (b"}\n#rings path{stroke-width:", 8),
+    (b"}\n#agents text{font-size:", 38),
+    (b"px}\n#visits{transform:translate(-", 50),
+    (b"px,-", 50),
+    (b"px)}\n#visits rect{width:", 100),
+    (b"px;height:", 100),
+];
 
-#[tactic(auto, using(crate::proofs::Growth::growths))]
-fn put_colours<W: Sink>(sink: &mut W, sheet: Sheet) -> Result<(), WriteFailed>
+fn put_lengths<W: Sink>(sink: &mut W, sheet: Sheet) -> Written
     ensures ok { OnOk result (Grows (W.held sink.old) (W.held sink.new)) }
     ensures broken { W.broken sink.new ≡ (W.broken sink.old || is_err result) }
 {
-    put_colour(sink, sheet, b".c0{color:#0072b2", b"-", 16)?;
-    put_colour(sink, sheet, b".c1{color:#e69f00", b"", 16)?;
-    put_colour(sink, sheet, b".c2{color:#009e73", b"", 0)?;
-    put_colour(sink, sheet, b".c3{color:#cc79a7", b"-", 8)?;
-    put_colour(sink, sheet, b".c4{color:#56b4e9", b"", 8)
-}
-
-// The widths and patterns of lines, which go by the size of signs.
-#[tactic(auto, using(crate::proofs::Growth::growths))]
-fn put_lines<W: Sink>(sink: &mut W, sheet: Sheet) -> Result<(), WriteFailed>
-    ensures ok { OnOk result (Grows (W.held sink.old) (W.held sink.new)) }
-    ensures broken { W.broken sink.new ≡ (W.broken sink.old || is_err result) }
-{
-    let pieces = [
-        Piece::Text(b"#routes path{stroke-width:"),
-        sheet.part(14),
-        Piece::Text(b"}\n#routes .d1 path{stroke-dasharray:"),
-        sheet.part(60),
-        Piece::Text(b" "),
-        sheet.part(40),
-        Piece::Text(b"}\n#routes .d2 path{stroke-dasharray:0 "),
-        sheet.part(30),
-        Piece::Text(b"}\n#routes .d3 path{stroke-dasharray:"),
-        sheet.part(80),
-        Piece::Text(b" "),
-        sheet.part(30),
-        Piece::Text(b" 0 "),
-        sheet.part(30),
-        Piece::Text(b"}\n#routes .lack{stroke-width:"),
-        sheet.part(5),
-        Piece::Text(b";stroke-dasharray:"),
-        sheet.part(5),
-        Piece::Text(b" "),
-        sheet.part(15),
-        Piece::Text(b"}\n#rings path{stroke-width:"),
-        sheet.part(8),
-        Piece::Text(b"}\n#agents text{font-size:"),
-        sheet.part(38),
-        Piece::Text(b"px}\n"),
-    ];
-    put_some(sink, &pieces)
-}
-
-// The size of visits' marks, whose middles are to be where their cells' are.
-#[tactic(auto, using(crate::proofs::Growth::growths))]
-fn put_squares<W: Sink>(sink: &mut W, sheet: Sheet) -> Result<(), WriteFailed>
-    ensures ok { OnOk result (Grows (W.held sink.old) (W.held sink.new)) }
-    ensures broken { W.broken sink.new ≡ (W.broken sink.old || is_err result) }
-{
-    let pieces = [
-        Piece::Text(b"#visits{transform:translate(-"),
-        sheet.part(50),
-        Piece::Text(b"px,-"),
-        sheet.part(50),
-        Piece::Text(b"px)}\n#visits rect{width:"),
-        sheet.part(100),
-        Piece::Text(b"px;height:"),
-        sheet.part(100),
-        Piece::Text(b"px}\n"),
-    ];
-    put_some(sink, &pieces)
+    for (text, hundredths) in LENGTHS {
+        put_some(sink, &[Piece::Text(text), sheet.part(*hundredths)])?;
+    }
+    put_letters(sink, b"px}\n")
 }
 
 // The rule that hides the numbers of many agents.
-#[tactic(auto, using(crate::proofs::Growth::growths))]
-fn put_numbering<W: Sink>(sink: &mut W, many: bool) -> Result<(), WriteFailed>
-    ensures ok { OnOk result (Grows (W.held sink.old) (W.held sink.new)) }
-    ensures broken { W.broken sink.new ≡ (W.broken sink.old || is_err result) }
-{
-    if !many {
-        return Ok(());
+fn numbering(many: bool) -> &'static [u8] {
+    if many {
+        b"#agents text{display:none}\n"
+    } else {
+        b""
     }
-    put_letters(sink, b"#agents text{display:none}\n")
 }
 
 /// Puts the styles, and the signs that the marks use. Where there are many agents, their numbers
 /// are told by their titles alone.
-#[tactic(auto, using(crate::proofs::Growth::growths))]
-pub fn put_styles<W: Sink>(sink: &mut W, sheet: Sheet, many: bool) -> Result<(), WriteFailed>
+pub fn put_styles<W: Sink>(sink: &mut W, sheet: Sheet, many: bool) -> Written
     ensures ok { OnOk result (Grows (W.held sink.old) (W.held sink.new)) }
     ensures broken { W.broken sink.new ≡ (W.broken sink.old || is_err result) }
 {
-    put_letters(sink, b"<style>\n")?;
     put_letters(sink, COLOURS)?;
-    put_colours(sink, sheet)?;
-    put_lines(sink, sheet)?;
-    put_squares(sink, sheet)?;
-    put_numbering(sink, many)?;
+    put_lengths(sink, sheet)?;
+    put_letters(sink, numbering(many))?;
     put_letters(sink, b"</style>\n<defs>\n")?;
     put_signs(sink, sheet)?;
     put_letters(sink, b"</defs>\n")

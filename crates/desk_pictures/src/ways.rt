@@ -1,9 +1,11 @@
 //! The way of an agent in time: straight runs and waits are told by their ends.
+#![tactic(auto, using(crate::proofs::Growth::growths))]
+
 ghost use Rattle.std.specs.Prelude.{OnOk, ◌≡◌, ◌||◌, is_err};
 ghost use Rattle.desk_pictures.specs.Growth.{Grows};
 
-use crate::pieces::{Piece, put_letters, put_some};
-use desk_report::{Sink, WriteFailed};
+use crate::pieces::{Piece, Written, put_filled, put_letters, put_some};
+use desk_report::Sink;
 use grid_cells::{Cell, Step};
 use plan_table::Plan;
 
@@ -32,21 +34,13 @@ fn is_crooked(cells: &[Cell]) -> bool {
     corners > cells.len() / 5 * 2
 }
 
-// What stands between two corners.
-#[tactic(auto, using(crate::proofs::Growth::growths))]
-fn put_comma<W: Sink>(sink: &mut W, at: usize) -> Result<(), WriteFailed>
-    ensures ok { OnOk result (Grows (W.held sink.old) (W.held sink.new)) }
-    ensures broken { W.broken sink.new ≡ (W.broken sink.old || is_err result) }
-{
-    if at == 0 {
-        return Ok(());
-    }
-    put_letters(sink, b";")
+// What stands before the corner at that index.
+fn comma_at(at: usize) -> &'static [u8] {
+    if at == 0 { b"" } else { b";" }
 }
 
 /// Puts how far the place is from the start.
-#[tactic(auto, using(crate::proofs::Growth::growths))]
-pub fn put_offset<W: Sink>(sink: &mut W, start: u32, place: u32) -> Result<(), WriteFailed>
+pub fn put_offset<W: Sink>(sink: &mut W, start: u32, place: u32) -> Written
     ensures ok { OnOk result (Grows (W.held sink.old) (W.held sink.new)) }
     ensures broken { W.broken sink.new ≡ (W.broken sink.old || is_err result) }
 {
@@ -58,14 +52,7 @@ pub fn put_offset<W: Sink>(sink: &mut W, start: u32, place: u32) -> Result<(), W
 }
 
 // The place at that index, from the start, where it is a corner or all are told; nothing elsewhere.
-#[tactic(auto, using(crate::proofs::Growth::growths))]
-fn put_place<W: Sink>(
-    sink: &mut W,
-    cells: &[Cell],
-    start: Cell,
-    at: usize,
-    all: bool,
-) -> Result<(), WriteFailed>
+fn put_place<W: Sink>(sink: &mut W, cells: &[Cell], start: Cell, at: usize, all: bool) -> Written
     ensures ok { OnOk result (Grows (W.held sink.old) (W.held sink.new)) }
     ensures broken { W.broken sink.new ≡ (W.broken sink.old || is_err result) }
 {
@@ -73,19 +60,13 @@ fn put_place<W: Sink>(
         return Ok(());
     }
     let cell = cells[at];
-    put_comma(sink, at)?;
+    put_letters(sink, comma_at(at))?;
     put_offset(sink, start.x(), cell.x())?;
     put_letters(sink, b",")?;
     put_offset(sink, start.y(), cell.y())
 }
 
-#[tactic(auto, using(crate::proofs::Growth::growths))]
-fn put_places<W: Sink>(
-    sink: &mut W,
-    cells: &[Cell],
-    start: Cell,
-    all: bool,
-) -> Result<(), WriteFailed>
+fn put_places<W: Sink>(sink: &mut W, cells: &[Cell], start: Cell, all: bool) -> Written
     ensures ok { OnOk result (Grows (W.held sink.old) (W.held sink.new)) }
     ensures broken { W.broken sink.new ≡ (W.broken sink.old || is_err result) }
 {
@@ -96,8 +77,7 @@ fn put_places<W: Sink>(
 }
 
 // The share of the part in the whole, to six digits: 0, 1 or as `.250000`.
-#[tactic(auto, using(crate::proofs::Growth::growths))]
-fn put_share<W: Sink>(sink: &mut W, part: u64, whole: u64) -> Result<(), WriteFailed>
+fn put_share<W: Sink>(sink: &mut W, part: u64, whole: u64) -> Written
     ensures ok { OnOk result (Grows (W.held sink.old) (W.held sink.new)) }
     ensures broken { W.broken sink.new ≡ (W.broken sink.old || is_err result) }
 {
@@ -121,20 +101,18 @@ fn put_share<W: Sink>(sink: &mut W, part: u64, whole: u64) -> Result<(), WriteFa
 }
 
 // The time of a corner at that index, as a share of the time that the path takes; nothing elsewhere.
-#[tactic(auto, using(crate::proofs::Growth::growths))]
-fn put_time<W: Sink>(sink: &mut W, cells: &[Cell], last: u32, at: usize) -> Result<(), WriteFailed>
+fn put_time<W: Sink>(sink: &mut W, cells: &[Cell], last: u32, at: usize) -> Written
     ensures ok { OnOk result (Grows (W.held sink.old) (W.held sink.new)) }
     ensures broken { W.broken sink.new ≡ (W.broken sink.old || is_err result) }
 {
     if !is_corner(cells, at) {
         return Ok(());
     }
-    put_comma(sink, at)?;
+    put_letters(sink, comma_at(at))?;
     put_share(sink, at as u64, u64::from(last))
 }
 
-#[tactic(auto, using(crate::proofs::Growth::growths))]
-fn put_times<W: Sink>(sink: &mut W, cells: &[Cell], last: u32) -> Result<(), WriteFailed>
+fn put_times<W: Sink>(sink: &mut W, cells: &[Cell], last: u32) -> Written
     ensures ok { OnOk result (Grows (W.held sink.old) (W.held sink.new)) }
     ensures broken { W.broken sink.new ≡ (W.broken sink.old || is_err result) }
 {
@@ -145,13 +123,7 @@ fn put_times<W: Sink>(sink: &mut W, cells: &[Cell], last: u32) -> Result<(), Wri
 }
 
 // The times of the corners, where not all places are told.
-#[tactic(auto, using(crate::proofs::Growth::growths))]
-fn put_key_times<W: Sink>(
-    sink: &mut W,
-    cells: &[Cell],
-    last: u32,
-    all: bool,
-) -> Result<(), WriteFailed>
+fn put_key_times<W: Sink>(sink: &mut W, cells: &[Cell], last: u32, all: bool) -> Written
     ensures ok { OnOk result (Grows (W.held sink.old) (W.held sink.new)) }
     ensures broken { W.broken sink.new ≡ (W.broken sink.old || is_err result) }
 {
@@ -163,8 +135,7 @@ fn put_key_times<W: Sink>(
 }
 
 /// Puts the motion along the plan, from its start on; none where the agent rests at once.
-#[tactic(auto, using(crate::proofs::Growth::growths))]
-pub fn put_motion<W: Sink>(sink: &mut W, plan: &Plan) -> Result<(), WriteFailed>
+pub fn put_motion<W: Sink>(sink: &mut W, plan: &Plan) -> Written
     ensures ok { OnOk result (Grows (W.held sink.old) (W.held sink.new)) }
     ensures broken { W.broken sink.new ≡ (W.broken sink.old || is_err result) }
 {
@@ -172,14 +143,13 @@ pub fn put_motion<W: Sink>(sink: &mut W, plan: &Plan) -> Result<(), WriteFailed>
     if last == 0 {
         return Ok(());
     }
-    let pieces = [
-        Piece::Text(b"<animateMotion calcMode='linear' fill='freeze' dur='"),
-        Piece::Seconds(last),
-        Piece::Text(b"s' values='"),
-    ];
     let cells = plan.cells();
     let all = is_crooked(cells);
-    put_some(sink, &pieces)?;
+    put_filled(
+        sink,
+        b"<animateMotion calcMode='linear' fill='freeze' dur='~s' values='",
+        &[Piece::Seconds(last)],
+    )?;
     put_places(sink, cells, plan.at(Step::new(0)), all)?;
     put_key_times(sink, cells, last, all)?;
     put_letters(sink, b"'/>")

@@ -26,11 +26,11 @@ module _ (at : Option ℕ) (fleet : Fleet) (before : Option ℕ) (entries : List
 pub loop-entry-preserved : goal.loop-entry-preserved
 loop-entry-preserved g c = record {
   out = λ after h. c.loop-entry.invariant.out after (subst (λ text. Appends (g.W.Sink.held c.loop-entry.sink) after text)
-      (sym (one_more c.args.frame.now.at (tracks_of c.args.mode c.args.plans.now.rows) c.loop-entry.before c.args.entries.now c.loop-entry.entry-index c.entry-item.result c.time-time.result c.loop-entry-test.true c.entry-item.is c.time-time.ensures))
+      (sym (one_more c.args.frame.now.at (tracks_of c.args.scene.now.mode c.args.scene.now.rows) c.loop-entry.before c.args.entries.now c.loop-entry.entry-index c.entry-item.result c.time-time.result c.loop-entry-test.true c.entry-item.is c.time-time.ensures))
       (Appends-trans _ _ _ _ _ (Appends-trans _ _ _ _ _ c.in_ok-put_turn.ensures.ok c.in_ok-put_mark.ensures.ok) h));
   sound = sound-on _ _ _ (sound-on _ _ _ c.loop-entry.invariant.sound c.in_ok-put_turn.ensures.broken) c.in_ok-put_mark.ensures.broken;
 }
 
 pub returns-clause-ok : goal.returns-clause-ok
 returns-clause-ok g c = on_ok_weaker c.put_end.result (λ ends. c.loop-entry.invariant.out (g.W.Sink.held c.put_end.new.sink) (subst (λ text. Appends (g.W.Sink.held c.loop-entry.sink) (g.W.Sink.held c.put_end.new.sink) text)
-    (sym (no_more c.args.frame.now.at (tracks_of c.args.mode c.args.plans.now.rows) c.loop-entry.before c.args.entries.now c.loop-entry.entry-index c.loop-entry-test.false)) ends)) c.put_end.ensures.ok
+    (sym (no_more c.args.frame.now.at (tracks_of c.args.scene.now.mode c.args.scene.now.rows) c.loop-entry.before c.args.entries.now c.loop-entry.entry-index c.loop-entry-test.false)) ends)) c.put_end.ensures.ok

@@ -1,9 +1,9 @@
 use Rattle.std.proofs.Common.{◌≡◌}
 use Rattle.desk_pictures.specs.Growth.{Grows}
-use Rattle.desk_pictures.proofs.rulers.put_rows.Given as goal
+use Rattle.desk_pictures.proofs.pieces.put_filled.Given as goal
 
-abbrev pub invariant-loop-y : goal.invariant-loop-y
-invariant-loop-y g l = record {
+abbrev pub invariant-loop-piece : goal.invariant-loop-piece
+invariant-loop-piece g l = record {
   out : Grows (g.W.Sink.held l.fn.sink) (g.W.Sink.held l.sink);
   sound : g.W.Sink.broken l.sink ≡ g.W.Sink.broken l.fn.sink;
 }
