@@ -7,4 +7,5 @@ pub mod Heads
 pub mod Times
 pub mod Agents
 pub mod Sessions
+pub mod Told
 pub mod Texts

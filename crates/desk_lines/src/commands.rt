@@ -1,5 +1,5 @@
 ghost use Rattle.std.specs.Prelude.{◌≡◌};
-ghost use Rattle.desk_lines.specs.Commands.{is_remark, edit_command_of, command_of};
+ghost use Rattle.desk_lines.specs.Commands.{is_remark, command_of};
 
 /// The edits, by the first words of their lines.
 #[derive(Clone, Copy, Debug)]
@@ -37,29 +37,6 @@ pub(crate) fn is_remark(word: &[u8]) -> bool
     }
 }
 
-// The edit that a line with that first word makes.
-fn edit_command_of(word: &[u8]) -> Option<EditCommand>
-    ensures { result ≡ edit_command_of word.now }
-{
-    if word == b"agent".as_slice() {
-        Some(EditCommand::Add)
-    } else if word == b"drop".as_slice() {
-        Some(EditCommand::Drop)
-    } else if word == b"goal".as_slice() {
-        Some(EditCommand::Goal)
-    } else if word == b"path".as_slice() {
-        Some(EditCommand::Path)
-    } else if word == b"tail".as_slice() {
-        Some(EditCommand::Tail)
-    } else if word == b"open".as_slice() {
-        Some(EditCommand::Open)
-    } else if word == b"close".as_slice() {
-        Some(EditCommand::Close)
-    } else {
-        None
-    }
-}
-
 /// What a line with that first word asks for.
 pub(crate) fn command_of(word: &[u8]) -> Option<Command>
     ensures { result ≡ command_of word.now }
@@ -80,7 +57,21 @@ pub(crate) fn command_of(word: &[u8]) -> Option<Command>
         Some(Command::Distance)
     } else if word == b"solves".as_slice() {
         Some(Command::Solves)
+    } else if word == b"agent".as_slice() {
+        Some(Command::Edit(EditCommand::Add))
+    } else if word == b"drop".as_slice() {
+        Some(Command::Edit(EditCommand::Drop))
+    } else if word == b"goal".as_slice() {
+        Some(Command::Edit(EditCommand::Goal))
+    } else if word == b"path".as_slice() {
+        Some(Command::Edit(EditCommand::Path))
+    } else if word == b"tail".as_slice() {
+        Some(Command::Edit(EditCommand::Tail))
+    } else if word == b"open".as_slice() {
+        Some(Command::Edit(EditCommand::Open))
+    } else if word == b"close".as_slice() {
+        Some(Command::Edit(EditCommand::Close))
     } else {
-        Some(Command::Edit(edit_command_of(word)?))
+        None
     }
 }

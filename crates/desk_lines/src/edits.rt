@@ -51,39 +51,12 @@ fn tail_of(alloc: Global, line: &[u8]) -> Result<Edit, LineFault>
     Ok(Edit::Tail { agent, from, cells })
 }
 
-// The edit of a line AGENT.
-fn drop_of(line: &[u8]) -> Option<Edit>
-    ensures { result ≡ edit_of EditCommand.Drop (words_of line.now) }
-{
-    Some(Edit::Drop {
-        agent: only_agent(line)?,
-    })
-}
-
 // The edit of a line AGENT X,Y.
 fn goal_of(line: &[u8]) -> Option<Edit>
     ensures { result ≡ edit_of EditCommand.Goal (words_of line.now) }
 {
     let (agent, goal) = agent_and_cell(line)?;
     Some(Edit::Goal { agent, goal })
-}
-
-// The edit of a line X,Y that opens the cell.
-fn open_of(line: &[u8]) -> Option<Edit>
-    ensures { result ≡ edit_of EditCommand.Open (words_of line.now) }
-{
-    Some(Edit::Open {
-        cell: only_cell(line)?,
-    })
-}
-
-// The edit of a line X,Y that closes the cell.
-fn close_of(line: &[u8]) -> Option<Edit>
-    ensures { result ≡ edit_of EditCommand.Close (words_of line.now) }
-{
-    Some(Edit::Close {
-        cell: only_cell(line)?,
-    })
 }
 
 /// The edit of a line behind its first word.
@@ -95,11 +68,17 @@ pub(crate) fn edit_of(alloc: Global, command: EditCommand, line: &[u8]) -> Resul
 {
     match command {
         EditCommand::Add => add_of(line).ok_or(LineFault::Shape),
-        EditCommand::Drop => drop_of(line).ok_or(LineFault::Shape),
+        EditCommand::Drop => only_agent(line)
+            .map(|agent| Edit::Drop { agent })
+            .ok_or(LineFault::Shape),
         EditCommand::Goal => goal_of(line).ok_or(LineFault::Shape),
         EditCommand::Path => path_of(alloc, line),
         EditCommand::Tail => tail_of(alloc, line),
-        EditCommand::Open => open_of(line).ok_or(LineFault::Shape),
-        EditCommand::Close => close_of(line).ok_or(LineFault::Shape),
+        EditCommand::Open => only_cell(line)
+            .map(|cell| Edit::Open { cell })
+            .ok_or(LineFault::Shape),
+        EditCommand::Close => only_cell(line)
+            .map(|cell| Edit::Close { cell })
+            .ok_or(LineFault::Shape),
     }
 }

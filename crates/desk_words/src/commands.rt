@@ -11,144 +11,108 @@ use crate::helping::{
 use clap::{Arg, Command};
 use std::alloc::{AllocError, Global};
 
-// Each word is a list of its arguments, in the order in which help names them.
+// Each word has its arguments in the order in which help names them.
 
-fn serve_arguments<'a>(alloc: Global) -> Result<Vec<Arg<'a>>, AllocError> {
-    let map = "The map, a MovingAI .map file; without it the map stands first on standard input";
-    let journal = "A journal, whose entries are committed first";
-    Ok(vec![in alloc;
-        map_argument(alloc, map),
-        scen_argument(alloc),
-        agents_argument(alloc),
-        limit_argument(alloc),
-        mode_argument(alloc),
-        journal_argument(alloc, journal),
-        save_argument(alloc),
-        verbose_argument(alloc),
-    ]?)
-}
-
-fn audit_arguments<'a>(alloc: Global) -> Result<Vec<Arg<'a>>, AllocError> {
-    let journal = "A journal, whose entries are committed before the audit";
-    Ok(vec![in alloc;
-        needed_map_argument(alloc),
-        scen_argument(alloc),
-        agents_argument(alloc),
-        mode_argument(alloc),
-        journal_argument(alloc, journal),
-        workers_argument(alloc),
-        verbose_argument(alloc),
-    ]?)
-}
-
-fn drill_arguments<'a>(alloc: Global) -> Result<Vec<Arg<'a>>, AllocError> {
-    let verbose =
-        "Say more of a fault, and how the lines of each script were answered, on standard error";
-    Ok(vec![in alloc;
-        needed_map_argument(alloc),
-        scen_argument(alloc),
-        agents_argument(alloc),
-        mode_argument(alloc),
-        workers_argument(alloc),
-        verbose_argument(alloc).help(verbose),
-        scripts_argument(alloc),
-    ]?)
-}
-
-fn host_arguments<'a>(alloc: Global) -> Result<Vec<Arg<'a>>, AllocError> {
-    let journal = "A journal, whose entries are committed first";
-    Ok(vec![in alloc;
-        needed_map_argument(alloc),
-        scen_argument(alloc),
-        agents_argument(alloc),
-        limit_argument(alloc),
-        mode_argument(alloc),
-        journal_argument(alloc, journal),
-        save_argument(alloc),
-        wait_argument(alloc),
-        workers_argument(alloc),
-        verbose_argument(alloc),
-        names_argument(alloc),
-    ]?)
-}
-
-fn check_arguments<'a>(alloc: Global) -> Result<Vec<Arg<'a>>, AllocError> {
-    let scen = "A MovingAI .scen file, whose first tasks are the agents' starts and goals";
-    Ok(vec![in alloc;
-        needed_map_argument(alloc),
-        paths_argument(alloc).required(true),
-        scen_argument(alloc).help(scen),
-        agents_of_paths_argument(alloc),
-        mode_argument(alloc),
-        form_argument(alloc),
-        solves_argument(alloc),
-        workers_argument(alloc),
-        quiet_argument(alloc),
-        verbose_argument(alloc),
-    ]?)
-}
-
-fn draw_arguments<'a>(alloc: Global) -> Result<Vec<Arg<'a>>, AllocError> {
-    let journal = "A journal, whose entries are committed before the picture";
-    let agents =
-        "How many agents the scenario gives, from 0 to 8192; where it isn't given as many as there are paths, else 0";
-    let journal = journal_argument(alloc, journal).conflicts_with("paths")?;
-    Ok(vec![in alloc;
-        needed_map_argument(alloc),
-        scen_argument(alloc),
-        agents_of_paths_argument(alloc).help(agents),
-        mode_argument(alloc),
-        journal,
-        paths_argument(alloc),
-        at_argument(alloc),
-        shown_argument(alloc),
-        verbose_argument(alloc),
-    ]?)
-}
-
-// A word with its arguments, what it does in one line, and what help says at the end.
-fn word<'a>(
+// A word that serves planners, with the arguments of their desk over that map.
+fn desk_word<'a>(
     alloc: Global,
     name: &'a str,
-    arguments: Vec<Arg<'a>>,
-    about: &'a str,
     help: &'a str,
+    map: Arg<'a>,
 ) -> Result<Command<'a>, AllocError> {
+    let journal = "A journal, whose entries are committed first";
     Command::new(alloc, name)
-        .about(about)
         .after_help(help)
-        .args(arguments)
+        .arg(map)?
+        .arg(scen_argument(alloc))?
+        .arg(agents_argument(alloc))?
+        .arg(limit_argument(alloc))?
+        .arg(mode_argument(alloc))?
+        .arg(journal_argument(alloc, journal))?
+        .arg(save_argument(alloc))
+}
+
+// A word that needs a map's file.
+fn map_word<'a>(alloc: Global, name: &'a str, help: &'a str) -> Result<Command<'a>, AllocError> {
+    let word = Command::new(alloc, name).after_help(help);
+    word.arg(needed_map_argument(alloc))
+}
+
+// A word with the arguments of a scene that a scenario gives.
+fn scene_word<'a>(alloc: Global, name: &'a str, help: &'a str) -> Result<Command<'a>, AllocError> {
+    map_word(alloc, name, help)?
+        .arg(scen_argument(alloc))?
+        .arg(agents_argument(alloc))?
+        .arg(mode_argument(alloc))
 }
 
 fn serve_command<'a>(alloc: Global) -> Result<Command<'a>, AllocError> {
-    let about = "Serves one planner's session from standard input to standard output";
-    word(alloc, "serve", serve_arguments(alloc)?, about, SERVE_HELP)
+    let map = "The map, a MovingAI .map file; without it the map stands first on standard input";
+    desk_word(alloc, "serve", SERVE_HELP, map_argument(alloc, map))?
+        .about("Serves one planner's session from standard input to standard output")
+        .arg(verbose_argument(alloc))
 }
 
 fn audit_command<'a>(alloc: Global) -> Result<Command<'a>, AllocError> {
     let about =
         "Prints the report of a map, a scenario's agents and a journal, made from scratch in threads";
-    word(alloc, "audit", audit_arguments(alloc)?, about, AUDIT_HELP)
+    let journal = "A journal, whose entries are committed before the audit";
+    scene_word(alloc, "audit", AUDIT_HELP)?
+        .about(about)
+        .arg(journal_argument(alloc, journal))?
+        .arg(workers_argument(alloc))?
+        .arg(verbose_argument(alloc))
 }
 
 fn drill_command<'a>(alloc: Global) -> Result<Command<'a>, AllocError> {
-    let about = "Serves planners' scripts at once over one shared desk, and audits what they leave";
-    word(alloc, "drill", drill_arguments(alloc)?, about, DRILL_HELP)
+    let verbose =
+        "Say more of a fault, and how the lines of each script were answered, on standard error";
+    scene_word(alloc, "drill", DRILL_HELP)?
+        .about("Serves planners' scripts at once over one shared desk, and audits what they leave")
+        .arg(workers_argument(alloc))?
+        .arg(verbose_argument(alloc).help(verbose))?
+        .arg(scripts_argument(alloc))
 }
 
 fn host_command<'a>(alloc: Global) -> Result<Command<'a>, AllocError> {
-    let about = "Shares one desk among planners that are programs of their own, over pipes";
-    word(alloc, "host", host_arguments(alloc)?, about, HOST_HELP)
+    desk_word(alloc, "host", HOST_HELP, needed_map_argument(alloc))?
+        .about("Shares one desk among planners that are programs of their own, over pipes")
+        .arg(wait_argument(alloc))?
+        .arg(workers_argument(alloc))?
+        .arg(verbose_argument(alloc))?
+        .arg(names_argument(alloc))
 }
 
 fn check_command<'a>(alloc: Global) -> Result<Command<'a>, AllocError> {
-    let about = "Gives a verdict on the paths that a solver wrote, by its status too";
-    word(alloc, "check", check_arguments(alloc)?, about, CHECK_HELP)
+    let scen = "A MovingAI .scen file, whose first tasks are the agents' starts and goals";
+    map_word(alloc, "check", CHECK_HELP)?
+        .about("Gives a verdict on the paths that a solver wrote, by its status too")
+        .arg(paths_argument(alloc).required(true))?
+        .arg(scen_argument(alloc).help(scen))?
+        .arg(agents_of_paths_argument(alloc))?
+        .arg(mode_argument(alloc))?
+        .arg(form_argument(alloc))?
+        .arg(solves_argument(alloc))?
+        .arg(workers_argument(alloc))?
+        .arg(quiet_argument(alloc))?
+        .arg(verbose_argument(alloc))
 }
 
 fn draw_command<'a>(alloc: Global) -> Result<Command<'a>, AllocError> {
-    let about = "Prints a picture of agents and what the report of them lists, for a browser";
-    word(alloc, "draw", draw_arguments(alloc)?, about, DRAW_HELP)
+    let journal = "A journal, whose entries are committed before the picture";
+    let agents =
+        "How many agents the scenario gives, from 0 to 8192; where it isn't given as many as there are paths, else 0";
+    let journal = journal_argument(alloc, journal).conflicts_with("paths")?;
+    map_word(alloc, "draw", DRAW_HELP)?
+        .about("Prints a picture of agents and what the report of them lists, for a browser")
+        .arg(scen_argument(alloc))?
+        .arg(agents_of_paths_argument(alloc).help(agents))?
+        .arg(mode_argument(alloc))?
+        .arg(journal)?
+        .arg(paths_argument(alloc))?
+        .arg(at_argument(alloc))?
+        .arg(shown_argument(alloc))?
+        .arg(verbose_argument(alloc))
 }
 
 // The command with one more word, where there was memory to make it.

@@ -1,18 +1,16 @@
 -- Paths by agent, as the programs of CBS, EECBS, PBS and MAPF-LNS2 print them.
 -- A line `Agent N: (row,column)->(row,column)->..` for each agent from 0.
-use Rattle.std.specs.Prelude.{ℕ, ◌+◌, ◌-◌, nat_lt, nat_le, Option, Some, None, Result, Ok, Err, List, [], ◌∷◌, ◌++◌, ◌==◌, length, codes, if◌then◌else◌}
+use Rattle.std.specs.Prelude.{ℕ, ◌-◌, nat_lt, nat_le, Option, Some, None, Result, Err, List, ◌==◌, length, codes, if◌then◌else◌}
 use Rattle.std.specs.Option.{option_map, option_and_then, option_map_or}
 use Rattle.grid_cells.specs.Cell.{Point}
 use Rattle.plan_table.specs.declared.paths.TheConstants.{MOST_LAST_INDEX}
 use Rattle.scene_edits.specs.declared.scenes.TheConstants.{MOST_AGENTS}
 use Rattle.desk_lines.specs.SolverPaths.Answers.{and_then, unless}
-use Rattle.desk_lines.specs.SolverPaths.Lines.{Line, behind, behind_blanks, labelled}
+use Rattle.desk_lines.specs.SolverPaths.Lines.{behind, behind_blanks, labelled}
 use Rattle.desk_lines.specs.SolverPaths.Cells.{cells_of}
 use Rattle.desk_lines.specs.declared.solver_paths.faults.PathsFault.{PathsFault}
-use Rattle.desk_lines.specs.declared.solver_paths.faults.PathsFault.TheVariants.{BadAgent, NoCells, TooManyAgents, TooLong, NoPaths}
+use Rattle.desk_lines.specs.declared.solver_paths.faults.PathsFault.TheVariants.{BadAgent, NoCells, TooManyAgents, TooLong}
 use Rattle.desk_lines.specs.declared.solver_paths.cells.Notation.TheVariants.{Arrows}
-use Rattle.desk_lines.specs.declared.solver_paths.forms.Form.TheVariants.{ByAgent}
-use Rattle.desk_lines.specs.declared.solver_paths.paths.SolverPaths.{SolverPaths}
 
 -- what stands behind `Agent N:` and blanks
 abbrev pub cells_behind : ℕ → List ℕ → Option (List ℕ)
@@ -29,12 +27,3 @@ abbrev pub path_at : ℕ → ℕ → List ℕ → Result (List Point) PathsFault
 path_at agent line bytes =
     option_map_or (λ cells. if nat_le MOST_AGENTS agent then Err (TooManyAgents line) else
     and_then (cells_of Arrows line cells) (λ path. unless (path_fault line (length path)) path)) (cells_behind agent bytes) (Err (BadAgent line))
-
--- the paths so far, of so many agents, and those of these lines
-abbrev pub agents_from : ℕ → List (List Point) → List Line → Result (List (List Point)) PathsFault
-agents_from agent paths [] = if agent == 0 then Err NoPaths else Ok paths
-agents_from agent paths (line ∷ lines) = and_then (path_at agent line.number line.bytes) (λ path. agents_from (agent + 1) (paths ++ path ∷ []) lines)
-
--- what the lines spell
-abbrev pub by_agent : List Line → Result SolverPaths PathsFault
-by_agent lines = and_then (agents_from 0 [] lines) (λ paths. Ok (record { form = ByAgent; starts = None; goals = None; paths = paths }))

@@ -22,16 +22,16 @@ first_length None goals = option_map length goals
 abbrev pub agents_told : Head → Option ℕ
 agents_told head = first_length head.starts head.goals
 
+-- a list of that line, where the head doesn't have it yet
+abbrev pub list_of : Head → Option (List Point) → ℕ → List ℕ → Result (List Point) PathsFault
+list_of head list line text = if is_some list then Err (RepeatedList line) else row_of line (agents_told head) text
+
 -- the head with the starts, or with the goals, of that line
 abbrev pub with_starts : Head → ℕ → List ℕ → Result Head PathsFault
-with_starts head line text =
-    if is_some head.starts then Err (RepeatedList line) else
-    and_then (row_of line (agents_told head) text) (λ starts. Ok (record head { starts = Some starts }))
+with_starts head line text = and_then (list_of head head.starts line text) (λ starts. Ok (record head { starts = Some starts }))
 
 abbrev pub with_goals : Head → ℕ → List ℕ → Result Head PathsFault
-with_goals head line text =
-    if is_some head.goals then Err (RepeatedList line) else
-    and_then (row_of line (agents_told head) text) (λ goals. Ok (record head { goals = Some goals }))
+with_goals head line text = and_then (list_of head head.goals line text) (λ goals. Ok (record head { goals = Some goals }))
 
 -- the head with one more line
 abbrev pub with_line : Head → ℕ → List ℕ → Result Head PathsFault

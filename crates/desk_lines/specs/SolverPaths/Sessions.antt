@@ -1,22 +1,17 @@
 -- Paths as lines of a session of the desk: a line `path AGENT CELL..` for each agent from 0.
 -- What a line asks for is the desk's own grammar, `request_of`.
-use Rattle.std.specs.Prelude.{ℕ, ◌+◌, nat_le, Option, Some, None, Result, Ok, Err, List, [], ◌∷◌, ◌++◌, ◌==◌, length, if◌then◌else◌}
-use Rattle.std.specs.Option.{option_map_or}
+use Rattle.std.specs.Prelude.{ℕ, nat_le, Option, Some, None, Result, Ok, Err, List, ◌==◌, length, if◌then◌else◌}
 use Rattle.grid_cells.specs.Cell.{Point}
 use Rattle.scene_edits.specs.declared.scenes.TheConstants.{MOST_AGENTS}
 use Rattle.scene_edits.specs.declared.edits.Edit.{Edit}
 use Rattle.scene_edits.specs.declared.edits.Edit.TheVariants.{Path}
-use Rattle.desk_lines.specs.Requests.{request_of}
 use Rattle.desk_lines.specs.declared.requests.LineFault.{LineFault}
 use Rattle.desk_lines.specs.declared.requests.Request.{Request}
 use Rattle.desk_lines.specs.declared.requests.Request.TheVariants as request
 use Rattle.desk_lines.specs.SolverPaths.Answers.{and_then, unless}
-use Rattle.desk_lines.specs.SolverPaths.Lines.{Line}
 use Rattle.desk_lines.specs.SolverPaths.Agents.{path_fault}
 use Rattle.desk_lines.specs.declared.solver_paths.faults.PathsFault.{PathsFault}
-use Rattle.desk_lines.specs.declared.solver_paths.faults.PathsFault.TheVariants.{BadPath, BadAgent, TooManyAgents, NoPaths}
-use Rattle.desk_lines.specs.declared.solver_paths.forms.Form.TheVariants.{BySession}
-use Rattle.desk_lines.specs.declared.solver_paths.paths.SolverPaths.{SolverPaths}
+use Rattle.desk_lines.specs.declared.solver_paths.faults.PathsFault.TheVariants.{BadPath, BadAgent, TooManyAgents}
 
 -- the path of an edit, where that of the agent `due` is the next
 abbrev pub path_of : ℕ → ℕ → Edit → Result (List Point) PathsFault
@@ -30,14 +25,3 @@ abbrev pub path_in : ℕ → ℕ → Result Request LineFault → Result (Option
 path_in due line (Ok request.Silent) = Ok None
 path_in due line (Ok (request.Edit edit)) = and_then (path_of due line edit) (λ path. Ok (Some path))
 path_in due line _ = Err (BadPath line)
-
--- the paths so far, of the agents before `due`, and those of these lines
-abbrev pub session_from : ℕ → List (List Point) → List Line → Result (List (List Point)) PathsFault
-session_from due paths [] = if due == 0 then Err NoPaths else Ok paths
-session_from due paths (line ∷ lines) =
-    and_then (path_in due line.number (request_of line.bytes))
-    (λ told. option_map_or (λ path. session_from (due + 1) (paths ++ path ∷ []) lines) told (session_from due paths lines))
-
--- what the lines spell
-abbrev pub by_session : List Line → Result SolverPaths PathsFault
-by_session lines = and_then (session_from 0 [] lines) (λ paths. Ok (record { form = BySession; starts = None; goals = None; paths = paths }))

@@ -6,8 +6,7 @@ use Rattle.desk_lines.specs.SolverPaths.Answers.{and_then, IsRead}
 use Rattle.desk_lines.specs.SolverPaths.Forms.{form_of}
 use Rattle.desk_lines.specs.SolverPaths.Heads.{no_head}
 use Rattle.desk_lines.specs.SolverPaths.Times.{by_time}
-use Rattle.desk_lines.specs.SolverPaths.Agents.{by_agent}
-use Rattle.desk_lines.specs.SolverPaths.Sessions.{by_session}
+use Rattle.desk_lines.specs.SolverPaths.Told.{by_told}
 use Rattle.desk_lines.specs.declared.solver_paths.faults.PathsFault.{PathsFault}
 use Rattle.desk_lines.specs.declared.solver_paths.forms.Form.{Form}
 use Rattle.desk_lines.specs.declared.solver_paths.forms.Form.TheVariants.{ByTime, ByAgent, BySession}
@@ -16,8 +15,8 @@ use Rattle.desk_lines.specs.declared.solver_paths.paths.SolverPaths.{SolverPaths
 -- in that form
 abbrev pub in_form : Form → List Line → Result SolverPaths PathsFault
 in_form ByTime lines = by_time no_head lines
-in_form ByAgent lines = by_agent lines
-in_form BySession lines = by_session lines
+in_form ByAgent lines = by_told ByAgent lines
+in_form BySession lines = by_told BySession lines
 
 -- in the form that is named, else in the one that the first line tells
 abbrev pub in_named_form : Option Form → List Line → Result SolverPaths PathsFault

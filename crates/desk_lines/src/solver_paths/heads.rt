@@ -1,5 +1,5 @@
 ghost use Rattle.std.specs.Prelude.{◌≡◌};
-ghost use Rattle.desk_lines.specs.SolverPaths.Heads.{agents_told, with_line, with_starts, with_goals};
+ghost use Rattle.desk_lines.specs.SolverPaths.Heads.{agents_told, with_line, list_of, with_starts, with_goals};
 ghost use Rattle.desk_lines.specs.SolverPaths.Answers.{IsRead};
 
 use crate::solver_paths::faults::PathsFault;
@@ -26,14 +26,27 @@ pub(crate) fn agents_told(head: &Head) -> Option<usize>
     }
 }
 
+// The list of that line, where the head doesn't have it yet.
+fn list_of(
+    alloc: Global,
+    head: &Head,
+    list: &Option<List<Cell>>,
+    line: usize,
+    text: &[u8],
+) -> Result<List<Cell>, PathsFault>
+    ensures { IsRead (list_of head.now list.now line text.now) result }
+{
+    if list.is_some() {
+        return Err(PathsFault::RepeatedList { line });
+    }
+    row_of(alloc, line, agents_told(head), text)
+}
+
 // The head with the starts of that line.
 fn with_starts(alloc: Global, head: Head, line: usize, text: &[u8]) -> Result<Head, PathsFault>
     ensures { IsRead (with_starts head line text.now) result }
 {
-    if head.starts.is_some() {
-        return Err(PathsFault::RepeatedList { line });
-    }
-    let starts = row_of(alloc, line, agents_told(&head), text)?;
+    let starts = list_of(alloc, &head, &head.starts, line, text)?;
     Ok(Head {
         starts: Some(starts),
         goals: head.goals,
@@ -44,10 +57,7 @@ fn with_starts(alloc: Global, head: Head, line: usize, text: &[u8]) -> Result<He
 fn with_goals(alloc: Global, head: Head, line: usize, text: &[u8]) -> Result<Head, PathsFault>
     ensures { IsRead (with_goals head line text.now) result }
 {
-    if head.goals.is_some() {
-        return Err(PathsFault::RepeatedList { line });
-    }
-    let goals = row_of(alloc, line, agents_told(&head), text)?;
+    let goals = list_of(alloc, &head, &head.goals, line, text)?;
     Ok(Head {
         starts: head.starts,
         goals: Some(goals),

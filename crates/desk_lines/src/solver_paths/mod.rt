@@ -9,6 +9,7 @@ mod paths;
 mod rows;
 mod sessions;
 mod times;
+mod told;
 
 pub use faults::PathsFault;
 pub use forms::Form;

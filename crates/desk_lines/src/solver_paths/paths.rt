@@ -1,10 +1,9 @@
 ghost use Rattle.desk_lines.specs.SolverPaths.Texts.{IsPathsAnswer};
 
-use crate::solver_paths::agents::read_by_agent;
 use crate::solver_paths::faults::PathsFault;
 use crate::solver_paths::forms::{Form, form_of};
-use crate::solver_paths::sessions::read_by_session;
 use crate::solver_paths::times::read_by_time;
+use crate::solver_paths::told::read_told;
 use grid_cells::{Cell, List};
 use std::alloc::Global;
 
@@ -32,7 +31,7 @@ pub fn read_paths(alloc: Global, text: &[u8], form: Option<Form>) -> Result<Solv
     };
     match form {
         Form::ByTime => read_by_time(alloc, text),
-        Form::ByAgent => read_by_agent(alloc, text),
-        Form::BySession => read_by_session(alloc, text),
+        Form::ByAgent => read_told(alloc, Form::ByAgent, text),
+        Form::BySession => read_told(alloc, Form::BySession, text),
     }
 }

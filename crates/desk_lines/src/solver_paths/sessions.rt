@@ -1,17 +1,12 @@
 ghost use Rattle.std.specs.Prelude.{◌≡◌, ◌<◌, IfOk, IfSome};
-ghost use Rattle.bench_reader.specs.Lines.{lines_of};
 ghost use Rattle.scene_edits.specs.declared.scenes.TheConstants.{MOST_AGENTS};
 ghost use Rattle.desk_lines.specs.Requests.{request_of};
-ghost use Rattle.desk_lines.specs.SolverPaths.Lines.{written_from};
-ghost use Rattle.desk_lines.specs.SolverPaths.Sessions.{path_of, path_in, by_session};
+ghost use Rattle.desk_lines.specs.SolverPaths.Sessions.{path_of, path_in};
 ghost use Rattle.desk_lines.specs.SolverPaths.Answers.{IsRead};
 
 use crate::requests::{LineFault, Request, read_line};
 use crate::solver_paths::agents::path_fault;
 use crate::solver_paths::faults::PathsFault;
-use crate::solver_paths::forms::Form;
-use crate::solver_paths::lines::next_written;
-use crate::solver_paths::paths::SolverPaths;
 use grid_cells::{Cell, List};
 use scene_edits::{Edit, MOST_AGENTS};
 use std::alloc::Global;
@@ -36,8 +31,8 @@ fn path_of(due: u32, line: usize, edit: Edit) -> Result<List<Cell>, PathsFault>
     }
 }
 
-// The path in a line, where that agent's is due. A remark has none.
-fn path_in(
+/// The path in a line, where that agent's is due. A remark has none.
+pub(crate) fn path_in(
     alloc: Global,
     due: u32,
     line: usize,
@@ -52,34 +47,4 @@ fn path_in(
         Err(LineFault::OutOfMemory) => Err(PathsFault::OutOfMemory),
         Ok(_) | Err(LineFault::Word | LineFault::Shape) => Err(PathsFault::BadPath { line }),
     }
-}
-
-/// The paths of lines of a session.
-///
-/// # Errors
-/// The first fault, line by line; or want of memory.
-pub(crate) fn read_by_session(alloc: Global, text: &[u8]) -> Result<SolverPaths, PathsFault>
-    ensures { IsRead (by_session (written_from 1 (lines_of text.now))) result }
-{
-    let mut paths = Vec::new(alloc);
-    let mut agent = 0;
-    let mut rest = text;
-    let mut number = 1;
-    while let Some((line, bytes, below)) = next_written(rest, number) {
-        if let Some(path) = path_in(alloc, agent, line, bytes)? {
-            paths.push(path).map_err(|_| PathsFault::OutOfMemory)?;
-            agent += 1;
-        }
-        rest = below;
-        number = line + 1;
-    }
-    if agent == 0 {
-        return Err(PathsFault::NoPaths);
-    }
-    Ok(SolverPaths {
-        form: Form::BySession,
-        starts: None,
-        goals: None,
-        paths: List::new(paths),
-    })
 }
