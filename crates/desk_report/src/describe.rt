@@ -67,22 +67,14 @@ fn lines(
 fn bounds_of(alloc: Global, lines: &[AgentLine]) -> Result<Vec<Option<u32>>, OutOfMemory>
     ensures { IfOk result (λ bounds. bounds.items ≡ map (λ line. line.bound) lines.now) }
 {
-    let mut bounds = Vec::new(alloc);
-    for line in lines {
-        bounds.push(line.bound)?;
-    }
-    Ok(bounds)
+    Ok(lines.iter().map(|line| line.bound).collect(alloc)?)
 }
 
 // The gaps of the lines.
 fn gaps_of(alloc: Global, lines: &[AgentLine]) -> Result<Vec<Option<u32>>, OutOfMemory>
     ensures { IfOk result (λ gaps. gaps.items ≡ map (λ line. line.gap) lines.now) }
 {
-    let mut gaps = Vec::new(alloc);
-    for line in lines {
-        gaps.push(line.gap)?;
-    }
-    Ok(gaps)
+    Ok(lines.iter().map(|line| line.gap).collect(alloc)?)
 }
 
 /// The report of the plans with those conflicts, visits and lines: it adds the totals.

@@ -1,15 +1,11 @@
-ghost use Rattle.std.specs.Prelude.{◌≡◌, OnOk, OnErr, is_err, ◌||◌};
-ghost use Rattle.std.specs.List.{flat_map};
-ghost use Rattle.std.specs.Io.KnownBytes.{Appends};
-ghost use Rattle.desk_report.specs.Bytes.{AppendsFront, Puts};
+ghost use Rattle.desk_report.specs.Bytes.{Puts};
 ghost use Rattle.desk_report.specs.EntryText.{entry_line, pair_line, moves_line};
-ghost use Rattle.desk_report.specs.ReportText.{conflicts_text};
 
 use crate::bytes::{Sink, WriteFailed};
 use crate::text::cycles::put_cycle;
-use crate::text::totals::put_count;
+use crate::text::listed::Listed;
 use crate::words::{Word, put_line};
-use grid_cells::{Agent, Cell, List, Step};
+use grid_cells::{Agent, Cell, Step};
 use mapf_rules::Conflict;
 
 // The line of two agents in one cell, or of one that follows the other into it.
@@ -92,27 +88,10 @@ pub fn put_entry<W: Sink>(sink: &mut W, entry: &Conflict) -> Result<(), WriteFai
     }
 }
 
-// The lines of the entries.
-#[tactic(auto, using(crate::proofs::Fronts::fronts))]
-fn put_each<W: Sink>(sink: &mut W, entries: &[Conflict]) -> Result<(), WriteFailed>
-    ensures ok { OnOk result (Appends (W.held sink.old) (W.held sink.new) (flat_map entry_line entries.now)) }
-    ensures err { OnErr result (AppendsFront (W.held sink.old) (W.held sink.new) (flat_map entry_line entries.now)) }
-    ensures broken { W.broken sink.new ≡ (W.broken sink.old || is_err result) }
-{
-    for entry in entries {
-        put_entry(sink, entry)?;
-    }
-    Ok(())
-}
+impl Listed for Conflict {
+    ghost line = { entry_line };
 
-// How many conflicts there are, and their lines.
-#[tactic(auto, using(crate::proofs::Fronts::fronts))]
-pub fn put_conflicts<W: Sink>(sink: &mut W, entries: &List<Conflict>) -> Result<(), WriteFailed>
-    ensures ok { OnOk result (Appends (W.held sink.old) (W.held sink.new) (conflicts_text entries.now)) }
-    ensures err { OnErr result (AppendsFront (W.held sink.old) (W.held sink.new) (conflicts_text entries.now)) }
-    ensures broken { W.broken sink.new ≡ (W.broken sink.old || is_err result) }
-{
-    let items = entries.items();
-    put_count(sink, b"conflicts", items.len())?;
-    put_each(sink, items)
+    fn put_into<W: Sink>(&self, sink: &mut W) -> Result<(), WriteFailed> {
+        put_entry(sink, self)
+    }
 }

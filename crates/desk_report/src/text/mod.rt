@@ -2,6 +2,7 @@
 mod agents;
 mod cycles;
 mod entries;
+mod listed;
 mod totals;
 mod visits;
 
@@ -12,12 +13,10 @@ ghost use Rattle.desk_report.specs.ReportText.{report_text};
 
 use crate::bytes::{Sink, WriteFailed};
 use crate::reports::Report;
-use agents::put_agents;
-use entries::put_conflicts;
 pub use entries::put_entry;
+use listed::put_list;
 use totals::put_totals;
 pub use visits::put_visit;
-use visits::put_visits;
 
 /// Writes the text of the report: a line for each agent, conflict and blocked visit, times in
 /// steps and cells as column and row, and the totals. It takes no memory. Where the sink fails, or
@@ -28,8 +27,8 @@ pub fn write_report<W: Sink>(report: &Report, sink: &mut W) -> Result<(), WriteF
     ensures err { OnErr result (AppendsFront (W.held sink.old) (W.held sink.new) (report_text report.now)) }
     ensures broken { W.broken sink.new ≡ (W.broken sink.old || is_err result) }
 {
-    put_agents(sink, &report.lines)?;
-    put_conflicts(sink, &report.conflicts)?;
-    put_visits(sink, &report.visits)?;
+    put_list(sink, b"agents", &report.lines)?;
+    put_list(sink, b"conflicts", &report.conflicts)?;
+    put_list(sink, b"blocked", &report.visits)?;
     put_totals(sink, report)
 }

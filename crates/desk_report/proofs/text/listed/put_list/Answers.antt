@@ -1,5 +1,5 @@
 use Rattle.desk_report.proofs.Fronts.{front-more, err-of, err-after}
-use Rattle.desk_report.proofs.text.visits.put_visits.Goals as goal
+use Rattle.desk_report.proofs.text.listed.put_list.Goals as goal
 
 pub returns-in_err-put_count-clause-err : goal.returns-in_err-put_count-clause-err
 returns-in_err-put_count-clause-err g c = err-of c.from_residual.result (front-more _ _ _ _ (rw c.items-items.ensures at c.in_err-put_count.ensures.err))
