@@ -16,11 +16,11 @@ use Rattle.desk_session.specs.JournalText.Reading.{ReadsAs}
 use Rattle.desk_session.specs.declared.journals.faults.JournalFault.{JournalFault}
 use Rattle.desk_session.proofs.JournalText.BadLines.{one-journal}
 use Rattle.desk_session.proofs.JournalText.OneAnswer.{reads_back}
-use Rattle.desk_runs.specs.Faults.{of_journal, of_replay}
+use Rattle.desk_runs.specs.Faults.{as_told}
 use Rattle.desk_runs.specs.Opened.{ReplaysAs}
 use Rattle.desk_runs.specs.Saved.{SavedDesksComeBack, log_of, saved_text, under}
 use Rattle.desk_runs.specs.declared.faults.RunFault.{RunFault}
-use Rattle.desk_runs.specs.declared.faults.RunFault.TheVariants.{OutOfMemory}
+use Rattle.desk_runs.specs.declared.faults.RunFault.TheVariants.{Journal, Replay, OutOfMemory}
 use Rattle.desk_runs.proofs.Coming.{GoesOn, goes_on, session_goes_on, opening_goes_on}
 
 same_mode : (scene : SceneState) (entries : List Entry) → (scene_after scene entries).mode ≡ scene.mode
@@ -34,11 +34,11 @@ ComesBack limit desk result = (result ≡ Ok (under limit desk)) ⊎ (result ≡
 -- the answer of a run by the answer of a replay, and by what a journal's text reads as
 abbrev replay_answer : Result DeskState ReplayFault → Result DeskState RunFault
 replay_answer (Ok desk) = Ok desk
-replay_answer (Err why) = Err (of_replay why)
+replay_answer (Err why) = Err (as_told (Replay why))
 
 abbrev text_fault : Result Log JournalFault → RunFault
 text_fault (Ok log) = OutOfMemory
-text_fault (Err why) = of_journal why
+text_fault (Err why) = as_told (Journal why)
 
 abbrev failed : RunFault → Result DeskState RunFault
 failed fault = Err fault

@@ -73,25 +73,23 @@ cell_and a b t e = ((cell_decides a b).0 (and_first _ t e), and_second (cells.gh
 same_cell : (a : Point) → cells.ghosts.eq a a ≡ true
 same_cell a = (cell_decides a a).1 refl
 
+numbers_and : (a b c d e f : ℕ) (t : Bool) → (nat_eq a b && (nat_eq c d && (nat_eq e f && t))) ≡ true → (a ≡ b) × (c ≡ d) × (e ≡ f) × (t ≡ true)
+numbers_and a b c d e f t all =
+    let (first, later) = number_and a b _ all in let (second, last) = number_and c d _ later in let (third, rest) = number_and e f t last in (first, second, third, rest)
+
 conflict_is : (a b : Conflict) → conflicts.ghosts.eq a b ≡ true → a ≡ b
 conflict_is (Vertex t f s c) (Vertex u g r d) e =
-    let (time, e1) = number_and t u _ e in let (first, e2) = number_and f g _ e1 in let (second, e3) = number_and s r _ e2 in let cell = (cell_decides c d).0 e3 in
-    λ i. Vertex (time i) (first i) (second i) (cell i)
+    let (time, first, second, rest) = numbers_and t u f g s r _ e in let cell = (cell_decides c d).0 rest in λ i. Vertex (time i) (first i) (second i) (cell i)
 conflict_is (Parked t f s c) (Parked u g r d) e =
-    let (time, e1) = number_and t u _ e in let (first, e2) = number_and f g _ e1 in let (second, e3) = number_and s r _ e2 in let cell = (cell_decides c d).0 e3 in
-    λ i. Parked (time i) (first i) (second i) (cell i)
+    let (time, first, second, rest) = numbers_and t u f g s r _ e in let cell = (cell_decides c d).0 rest in λ i. Parked (time i) (first i) (second i) (cell i)
 conflict_is (Edge t f s c n) (Edge u g r d m) e =
-    let (time, e1) = number_and t u _ e in let (first, e2) = number_and f g _ e1 in let (second, e3) = number_and s r _ e2 in let (cell, e4) = cell_and c d _ e3 in let next = (cell_decides n m).0 e4 in
-    λ i. Edge (time i) (first i) (second i) (cell i) (next i)
+    let (time, first, second, rest) = numbers_and t u f g s r _ e in let (cell, last) = cell_and c d _ rest in let next = (cell_decides n m).0 last in λ i. Edge (time i) (first i) (second i) (cell i) (next i)
 conflict_is (Following t f s c) (Following u g r d) e =
-    let (time, e1) = number_and t u _ e in let (first, e2) = number_and f g _ e1 in let (second, e3) = number_and s r _ e2 in let cell = (cell_decides c d).0 e3 in
-    λ i. Following (time i) (first i) (second i) (cell i)
+    let (time, first, second, rest) = numbers_and t u f g s r _ e in let cell = (cell_decides c d).0 rest in λ i. Following (time i) (first i) (second i) (cell i)
 conflict_is (Swapping t f s c n) (Swapping u g r d m) e =
-    let (time, e1) = number_and t u _ e in let (first, e2) = number_and f g _ e1 in let (second, e3) = number_and s r _ e2 in let (cell, e4) = cell_and c d _ e3 in let next = (cell_decides n m).0 e4 in
-    λ i. Swapping (time i) (first i) (second i) (cell i) (next i)
+    let (time, first, second, rest) = numbers_and t u f g s r _ e in let (cell, last) = cell_and c d _ rest in let next = (cell_decides n m).0 last in λ i. Swapping (time i) (first i) (second i) (cell i) (next i)
 conflict_is (Cycle t ring) (Cycle u other) e =
-    let (time, e1) = number_and t u _ e in let agents = (pointwise_decides unsigned_Decides ring other).0 e1 in
-    λ i. Cycle (time i) (agents i)
+    let (time, last) = number_and t u _ e in let agents = (pointwise_decides unsigned_Decides ring other).0 last in λ i. Cycle (time i) (agents i)
 conflict_is a b e = absurd (true≢false (sym e))
 
 same_conflict : (a : Conflict) → conflicts.ghosts.eq a a ≡ true

@@ -11,6 +11,7 @@ use Rattle.desk_runs.specs.Drills.{IsSession}
 use Rattle.desk_runs.specs.Faults.{is_of_sink}
 use Rattle.desk_runs.specs.declared.faults.RunFault.{RunFault}
 use Rattle.desk_runs.specs.declared.faults.RunFault.TheVariants.{OutOfMemory}
+use Rattle.desk_runs.proofs.Numbering.{IsGiven}
 use Rattle.desk_runs.proofs.Unserved.{scene_unserved, session_told}
 
 -- what holds of a fault, where there is one
@@ -19,14 +20,14 @@ on_err (Ok value) P Q more is = tt
 on_err (Err fault) P Q more is = more fault is
 
 -- how a script's session ended
-pub has_ended : (shared : Sharing) (start : DeskState) (planner : ℕ) (script text : List ℕ) (before other after : PassState) (ended then : Result ℕ ServeFault) → before ≡ other → other.start ≡ start → other.made ≡ [] → other.planner ≡ planner → text ≡ script → ended ≡ then → IsSession shared before text after ended → HasEnded shared start planner script then
-has_ended shared start planner script text before other after ended then same begins nothing number whole is session =
+pub has_ended : (shared : Sharing) (start : DeskState) (planner : ℕ) (script text : List ℕ) (before after : PassState) (ended then : Result ℕ ServeFault) → IsGiven start planner before → text ≡ script → ended ≡ then → IsSession shared before text after ended → HasEnded shared start planner script then
+has_ended shared start planner script text before after ended then given whole is session =
     record {
       old = before;
       new = after;
-      begins = (λ i. (same i).start) ∙ begins;
-      nothing_seen = (λ i. (same i).made) ∙ nothing;
-      number = (λ i. (same i).planner) ∙ number;
+      begins = given.begins;
+      nothing_seen = given.nothing_seen;
+      number = given.number;
       session = subst (λ (t : List ℕ). IsSession shared before t after then) whole (subst (λ (e : Result ℕ ServeFault). IsSession shared before text after e) is session);
     }
 

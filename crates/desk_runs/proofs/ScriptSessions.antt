@@ -14,6 +14,7 @@ use Rattle.desk_session.specs.Windows.{WindowState, window_on, window_counting}
 use Rattle.desk_session.proofs.Staying.{window_stays}
 use Rattle.desk_runs.specs.Drills.{IsSession, IsServed, AreServed, texts_of}
 use Rattle.desk_runs.specs.Runs.{run_bounds}
+use Rattle.desk_runs.proofs.Numbering.{IsGiven}
 
 pub IsPrefix-trans : {A : Type 0} (xs ys zs : List A) → IsPrefix xs ys → IsPrefix ys zs → IsPrefix xs zs
 IsPrefix-trans xs ys zs (rest, is) (more, then) = (rest ++ more, sym (append_assoc xs rest more) ∙ ap (λ l. l ++ more) is ∙ then)
@@ -43,16 +44,16 @@ pub still_for : (desk : Sharing) (script : List ℕ) (old new : PassState) (ende
 still_for desk script old new ended is = (window_stays run_bounds (Some script) is.left None None Idle is.last (record { desk = desk; pass = old }) (record { desk = desk; pass = new }) ended is.session).planner
 
 -- a script that was served, as the first pass sees it once the script's pass is joined into it
-pub served : (start : DeskState) (entries : List Entry) (planner lines : ℕ) (script text : List ℕ) (desk : Sharing) (before other after : PassState) (ended : Result ℕ ServeFault) → before ≡ other → other.start ≡ start → other.made ≡ [] → other.planner ≡ planner → text ≡ script → ended ≡ Ok lines → IsSession desk before text after ended → IsPrefix after.made entries → own_of after.planner entries ≡ own_of after.planner after.made → IsServed desk start entries planner script
-served start entries planner lines script text desk before other after ended same shared nothing number whole done session seen own =
-    let numbered : after.planner ≡ planner = still_for desk text before after ended session ∙ (λ i. (same i).planner) ∙ number in
+pub served : (start : DeskState) (entries : List Entry) (planner lines : ℕ) (script text : List ℕ) (desk : Sharing) (before after : PassState) (ended : Result ℕ ServeFault) → IsGiven start planner before → text ≡ script → ended ≡ Ok lines → IsSession desk before text after ended → IsPrefix after.made entries → own_of after.planner entries ≡ own_of after.planner after.made → IsServed desk start entries planner script
+served start entries planner lines script text desk before after ended given whole done session seen own =
+    let numbered : after.planner ≡ planner = still_for desk text before after ended session ∙ given.number in
     record {
       old = before;
       new = after;
       lines = lines;
-      begins = (λ i. (same i).start) ∙ shared;
-      nothing_seen = (λ i. (same i).made) ∙ nothing;
-      number = (λ i. (same i).planner) ∙ number;
+      begins = given.begins;
+      nothing_seen = given.nothing_seen;
+      number = given.number;
       session = subst (λ (t : List ℕ). IsSession desk before t after (Ok lines)) whole (subst (λ (e : Result ℕ ServeFault). IsSession desk before text after e) done session);
       seen = seen;
       own = subst (λ (n : ℕ). own_of n entries ≡ own_of n after.made) numbered own;

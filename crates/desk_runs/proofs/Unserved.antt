@@ -15,16 +15,17 @@ use Rattle.desk_session.specs.Session.{is_read_failed, is_write_failed}
 use Rattle.desk_session.specs.Start.{StopsInMap}
 use Rattle.desk_session.specs.declared.bounds.ServeFault.{ServeFault}
 use Rattle.desk_session.specs.declared.bounds.ServeFault.TheVariants as session
-use Rattle.desk_runs.specs.Faults.{of_map, of_scen, of_tasks, of_journal, of_replay, of_session, is_of_source, is_of_sink}
+use Rattle.desk_runs.specs.Faults.{as_told, is_of_source, is_of_sink}
 use Rattle.desk_runs.specs.Opened.{IsDeskFault}
 use Rattle.desk_runs.specs.Opens.{IsOpenFault}
 use Rattle.desk_runs.specs.declared.faults.RunFault.{RunFault}
+use Rattle.desk_runs.specs.declared.faults.RunFault.TheVariants.{Map, Scen, Tasks, Journal, Replay, Serve}
 
 -- a fault that neither the source nor the sink has
 abbrev pub IsUnserved : RunFault → Type 0
 IsUnserved fault = (is_of_source fault ≡ false) × (is_of_sink fault ≡ false)
 
-map_unserved : (why : MapFault) → IsUnserved (of_map why)
+map_unserved : (why : MapFault) → IsUnserved (as_told (Map why))
 map_unserved map.NotOctile = (refl, refl)
 map_unserved (map.BadHeader line) = (refl, refl)
 map_unserved map.BadSize = (refl, refl)
@@ -35,7 +36,7 @@ map_unserved (map.BadLetter row col) = (refl, refl)
 map_unserved (map.ExtraLine line) = (refl, refl)
 map_unserved map.OutOfMemory = (refl, refl)
 
-scen_unserved : (why : ScenFault) → IsUnserved (of_scen why)
+scen_unserved : (why : ScenFault) → IsUnserved (as_told (Scen why))
 scen_unserved scen.BadVersion = (refl, refl)
 scen_unserved (scen.FieldCount line) = (refl, refl)
 scen_unserved (scen.BadNumber line field) = (refl, refl)
@@ -43,30 +44,30 @@ scen_unserved (scen.SizeMismatch line) = (refl, refl)
 scen_unserved (scen.OutOfMap line field) = (refl, refl)
 scen_unserved scen.OutOfMemory = (refl, refl)
 
-tasks_unserved : (why : TaskFault) → IsUnserved (of_tasks why)
+tasks_unserved : (why : TaskFault) → IsUnserved (as_told (Tasks why))
 tasks_unserved (tasks.TooFewTasks have) = (refl, refl)
 tasks_unserved tasks.TooManyAgents = (refl, refl)
 tasks_unserved (tasks.OutOfMap task) = (refl, refl)
 tasks_unserved tasks.OutOfMemory = (refl, refl)
 
-journal_unserved : (why : JournalFault) → IsUnserved (of_journal why)
+journal_unserved : (why : JournalFault) → IsUnserved (as_told (Journal why))
 journal_unserved (journal.BadLine line) = (refl, refl)
 journal_unserved journal.OutOfMemory = (refl, refl)
 
-replay_unserved : (why : ReplayFault) → IsUnserved (of_replay why)
+replay_unserved : (why : ReplayFault) → IsUnserved (as_told (Replay why))
 replay_unserved replay.ModeDiffers = (refl, refl)
 replay_unserved (replay.Refused entry refusal) = (refl, refl)
 replay_unserved replay.OutOfMemory = (refl, refl)
 
-as_told : (told fault : RunFault) → fault ≡ told → IsUnserved told → IsUnserved fault
-as_told told fault same unserved = subst IsUnserved (sym same) unserved
+as_unserved : (told fault : RunFault) → fault ≡ told → IsUnserved told → IsUnserved fault
+as_unserved told fault same unserved = subst IsUnserved (sym same) unserved
 
 -- the faults of a scene that doesn't open
 pub scene_unserved : (text : List ℕ) (scen : Option (List ℕ)) (agents : ℕ) (fault : RunFault) → IsOpenFault text scen agents fault → IsUnserved fault
-scene_unserved text None agents fault f = as_told _ fault f.told (map_unserved f.why)
-scene_unserved text (Some scen) agents fault (inl f) = as_told _ fault f.told (map_unserved f.why)
-scene_unserved text (Some scen) agents fault (inr (inl f)) = as_told _ fault f.told (scen_unserved f.why)
-scene_unserved text (Some scen) agents fault (inr (inr f)) = as_told _ fault f.told (tasks_unserved f.why)
+scene_unserved text None agents fault f = as_unserved _ fault f.told (map_unserved f.why)
+scene_unserved text (Some scen) agents fault (inl f) = as_unserved _ fault f.told (map_unserved f.why)
+scene_unserved text (Some scen) agents fault (inr (inl f)) = as_unserved _ fault f.told (scen_unserved f.why)
+scene_unserved text (Some scen) agents fault (inr (inr f)) = as_unserved _ fault f.told (tasks_unserved f.why)
 
 -- the faults of a desk that doesn't open
 pub desk_unserved : (text : List ℕ) (scen : Option (List ℕ)) (agents : ℕ) (mode : Mode) (limit : ℕ) (journal : Option (List ℕ)) (fault : RunFault) → IsDeskFault text scen agents mode limit journal fault → IsUnserved fault
@@ -74,12 +75,12 @@ desk_unserved text scen agents mode limit journal fault (inl f) = scene_unserved
 desk_unserved text scen agents mode limit None fault (inr f) = absurd f.first
 desk_unserved text scen agents mode limit (Some journal) fault (inr f) =
     elim f.first [
-      | inl is ↦ as_told _ fault is.told (journal_unserved is.why)
-      | inr is ↦ as_told _ fault is.told (replay_unserved is.why)
+      | inl is ↦ as_unserved _ fault is.told (journal_unserved is.why)
+      | inr is ↦ as_unserved _ fault is.told (replay_unserved is.why)
     ]
 
 -- the faults of a session are told as they are
-pub session_told : (why : ServeFault) → (is_of_source (of_session why) ≡ is_read_failed {T = ℕ} (Err why)) × (is_of_sink (of_session why) ≡ is_write_failed {T = ℕ} (Err why))
+pub session_told : (why : ServeFault) → (is_of_source (as_told (Serve why)) ≡ is_read_failed {T = ℕ} (Err why)) × (is_of_sink (as_told (Serve why)) ≡ is_write_failed {T = ℕ} (Err why))
 session_told session.ReadFailed = (refl, refl)
 session_told session.WriteFailed = (refl, refl)
 session_told session.TooManyLines = (refl, refl)
@@ -87,7 +88,7 @@ session_told session.TooManyBytes = (refl, refl)
 session_told session.OutOfMemory = (refl, refl)
 
 -- nothing is written before the map's text came whole
-pub map_unwritten : (left0 left1 : Option (List ℕ)) (most : ℕ) (why : ServeFault) → StopsInMap left0 left1 most why → is_of_sink (of_session why) ≡ false
+pub map_unwritten : (left0 left1 : Option (List ℕ)) (most : ℕ) (why : ServeFault) → StopsInMap left0 left1 most why → is_of_sink (as_told (Serve why)) ≡ false
 map_unwritten left0 left1 most session.ReadFailed stops = refl
 map_unwritten left0 left1 most session.WriteFailed stops = absurd stops
 map_unwritten left0 left1 most session.TooManyLines stops = refl

@@ -11,8 +11,6 @@ use Rattle.scene_edits.specs.declared.edits.Edit.TheVariants as edits
 use Rattle.scene_edits.specs.declared.edits.EditFault.{EditFault}
 use Rattle.scene_edits.specs.declared.edits.EditFault.TheVariants.{TooManyAgents}
 use Rattle.desk_lines.specs.SolverPaths.Texts.{paths_of}
-use Rattle.desk_lines.specs.declared.solver_paths.faults.PathsFault.{PathsFault}
-use Rattle.desk_lines.specs.declared.solver_paths.faults.PathsFault.TheVariants as paths_fault
 use Rattle.desk_lines.specs.declared.solver_paths.forms.Form.{Form}
 use Rattle.desk_lines.specs.declared.solver_paths.paths.SolverPaths.{SolverPaths}
 use Rattle.desk_runs.specs.Opens.{Opens, IsOpenFault}
@@ -22,10 +20,6 @@ use Rattle.desk_runs.specs.CheckEdits.{edits_of}
 use Rattle.desk_runs.specs.CheckTimes.{time_of}
 use Rattle.desk_runs.specs.declared.checks.faults.CheckFault.{CheckFault}
 use Rattle.desk_runs.specs.declared.checks.faults.CheckFault.TheVariants.{Paths, Run, Agent, Path, WriteFailed, OutOfMemory}
-
-abbrev pub of_paths : PathsFault → CheckFault
-of_paths paths_fault.OutOfMemory = OutOfMemory
-of_paths why = Paths why
 
 abbrev pub of_run : RunFault → CheckFault
 of_run run_fault.OutOfMemory = OutOfMemory

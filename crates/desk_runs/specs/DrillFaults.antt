@@ -9,11 +9,11 @@ use Rattle.desk_core.specs.declared.limits.TheConstants.{MOST_ENTRIES}
 use Rattle.desk_shared.specs.Passes.{PassState, Sharing}
 use Rattle.desk_session.specs.declared.bounds.ServeFault.{ServeFault}
 use Rattle.desk_runs.specs.Drills.{IsSession, AreServed, ComesTo, drill_text}
-use Rattle.desk_runs.specs.Faults.{of_session}
+use Rattle.desk_runs.specs.Faults.{as_told}
 use Rattle.desk_runs.specs.Opens.{Opens, IsOpenFault}
 use Rattle.desk_runs.specs.declared.drilling.TheConstants.{MOST_SCRIPTS}
 use Rattle.desk_runs.specs.declared.faults.RunFault.{RunFault}
-use Rattle.desk_runs.specs.declared.faults.RunFault.TheVariants.{WriteFailed, PassLost, TooManyScripts, OutOfMemory}
+use Rattle.desk_runs.specs.declared.faults.RunFault.TheVariants.{Serve, WriteFailed, PassLost, TooManyScripts, OutOfMemory}
 
 -- the script's session for that planner ended so, through a pass of the shared desk that began where the desk was shared
 pub record HasEnded (shared : Sharing) (start : DeskState) (planner : ℕ) (script : List ℕ) (ended : Result ℕ ServeFault) : Type 0 where
@@ -30,7 +30,7 @@ WasServed shared start planner script = (lines : ℕ) × HasEnded shared start p
 
 -- it ended before, at that fault
 abbrev pub HasScriptFault : Sharing → DeskState → ℕ → List ℕ → RunFault → Type 0
-HasScriptFault shared start planner script fault = (why : ServeFault) × HasEnded shared start planner script (Err why) × (fault ≡ of_session why)
+HasScriptFault shared start planner script fault = (why : ServeFault) × HasEnded shared start planner script (Err why) × (fault ≡ as_told (Serve why))
 
 -- the fault of the first script that has one, for planners numbered from that one: those before it were served to their end
 abbrev pub IsFirstFault : Sharing → DeskState → ℕ → List (List ℕ) → RunFault → Type 0

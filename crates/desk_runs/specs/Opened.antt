@@ -7,9 +7,10 @@ use Rattle.desk_core.specs.Replays.{Log, IsReplay}
 use Rattle.desk_core.specs.declared.journals.ReplayFault.{ReplayFault}
 use Rattle.desk_session.specs.JournalText.Reading.{ReadsAs}
 use Rattle.desk_session.specs.declared.journals.faults.JournalFault.{JournalFault}
-use Rattle.desk_runs.specs.Faults.{of_journal, of_replay}
+use Rattle.desk_runs.specs.Faults.{as_told}
 use Rattle.desk_runs.specs.Opens.{Opens, IsOpenFault}
 use Rattle.desk_runs.specs.declared.faults.RunFault.{RunFault}
+use Rattle.desk_runs.specs.declared.faults.RunFault.TheVariants.{Journal, Replay}
 
 -- the desk that is opened on the scene and, where a journal's text is given, commits its entries
 abbrev pub Replays : Option (List ℕ) → SceneState → ℕ → DeskState → Type 0
@@ -20,7 +21,7 @@ Replays (Some text) scene limit desk = (log : Log) × ReadsAs text (Ok log) × I
 pub record HasTextFault (text : List ℕ) (fault : RunFault) : Type 0 where
   pub why : JournalFault
   pub first : ReadsAs text (Err why)
-  pub told : fault ≡ of_journal why
+  pub told : fault ≡ as_told (Journal why)
 
 -- the journal is read, and isn't replayed on the scene
 pub record HasReplayFault (text : List ℕ) (scene : SceneState) (limit : ℕ) (fault : RunFault) : Type 0 where
@@ -28,7 +29,7 @@ pub record HasReplayFault (text : List ℕ) (scene : SceneState) (limit : ℕ) (
   pub why : ReplayFault
   pub reads : ReadsAs text (Ok log)
   pub first : IsReplay scene limit log (Err why)
-  pub told : fault ≡ of_replay why
+  pub told : fault ≡ as_told (Replay why)
 
 -- what comes of a journal's text, where one is given, on the scene: a desk, or the first fault
 abbrev pub ReplaysAs : Option (List ℕ) → SceneState → ℕ → Result DeskState RunFault → Type 0

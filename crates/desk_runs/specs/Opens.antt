@@ -14,8 +14,9 @@ use Rattle.bench_reader.specs.declared.tasks.Task.{Task}
 use Rattle.scene_edits.specs.Scene.{SceneState}
 use Rattle.scene_edits.specs.Tasks.{TasksAnswered}
 use Rattle.scene_edits.specs.declared.tasks.TaskFault.{TaskFault}
-use Rattle.desk_runs.specs.Faults.{of_map, of_scen, of_tasks}
+use Rattle.desk_runs.specs.Faults.{as_told}
 use Rattle.desk_runs.specs.declared.faults.RunFault.{RunFault}
+use Rattle.desk_runs.specs.declared.faults.RunFault.TheVariants.{Map, Scen, Tasks}
 
 -- the bytes of a text, where one is handed in
 abbrev pub bytes_of : Option (Bor (List ℕ)) → Option (List ℕ)
@@ -46,7 +47,7 @@ Opens map (Some scen) agents mode scene = OpensWith map scen agents mode scene
 pub record HasMapFault (map : List ℕ) (fault : RunFault) : Type 0 where
   pub why : MapFault
   pub first : IsMapFault (lines_of map) why
-  pub told : fault ≡ of_map why
+  pub told : fault ≡ as_told (Map why)
 
 -- the map is read, and this is the scenario's first fault
 pub record HasScenFault (map scen : List ℕ) (fault : RunFault) : Type 0 where
@@ -54,7 +55,7 @@ pub record HasScenFault (map scen : List ℕ) (fault : RunFault) : Type 0 where
   pub why : ScenFault
   pub reads : IsMapText map grid
   pub first : IsScenFault grid.size (lines_of scen) why
-  pub told : fault ≡ of_scen why
+  pub told : fault ≡ as_told (Scen why)
 
 -- both are read, and the first tasks make no scene of that many agents
 pub record HasTaskFault (map scen : List ℕ) (agents : ℕ) (fault : RunFault) : Type 0 where
@@ -64,7 +65,7 @@ pub record HasTaskFault (map scen : List ℕ) (agents : ℕ) (fault : RunFault) 
   pub reads : IsMapText map grid
   pub lists : IsScenText grid.size scen tasks
   pub first : TasksAnswered grid tasks agents (Err (why, grid))
-  pub told : fault ≡ of_tasks why
+  pub told : fault ≡ as_told (Tasks why)
 
 -- the first fault of the map, the scenario and the tasks
 abbrev pub IsOpenFault : List ℕ → Option (List ℕ) → ℕ → RunFault → Type 0

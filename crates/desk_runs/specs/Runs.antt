@@ -11,9 +11,10 @@ use Rattle.desk_session.specs.declared.bounds.Bounds.{Bounds}
 use Rattle.desk_session.specs.declared.bounds.ServeFault.{ServeFault}
 use Rattle.desk_session.specs.declared.drafts.Session.{Session}
 use Rattle.desk_session.specs.declared.drafts.Session.TheVariants.{Idle}
-use Rattle.desk_runs.specs.Faults.{of_session, run_answer}
+use Rattle.desk_runs.specs.Faults.{as_told, run_answer}
 use Rattle.desk_runs.specs.Opens.{Opens, IsOpenFault}
 use Rattle.desk_runs.specs.declared.faults.RunFault.{RunFault}
+use Rattle.desk_runs.specs.declared.faults.RunFault.TheVariants.{Serve}
 use Rattle.desk_runs.specs.declared.serving.TheConstants.{MOST_BYTES}
 use Rattle.desk_runs.specs.declared.serving.TheConstants.{MOST_LINES}
 
@@ -55,7 +56,7 @@ pub record RunsAfterMap (scen : Option (List ℕ)) (agents : ℕ) (mode : Mode) 
 pub record StopsFirst (left0 left1 held0 held1 : Option (List ℕ)) (result : Result ℕ RunFault) : Type 0 where
   pub why : ServeFault
   pub stops : StopsInMap left0 left1 run_bounds.bytes why
-  pub told : result ≡ Err (of_session why)
+  pub told : result ≡ Err (as_told (Serve why))
   pub silent : held1 ≡ held0
 
 -- what a run of `serve` leaves: where no map is handed in, its text comes first from the reader

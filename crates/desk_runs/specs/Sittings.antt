@@ -10,10 +10,11 @@ use Rattle.desk_session.specs.declared.bounds.Bounds.{Bounds}
 use Rattle.desk_session.specs.declared.bounds.ServeFault.{ServeFault}
 use Rattle.desk_session.specs.declared.drafts.Session.{Session}
 use Rattle.desk_session.specs.declared.drafts.Session.TheVariants.{Idle}
-use Rattle.desk_runs.specs.Faults.{of_session, is_of_source, is_of_sink}
+use Rattle.desk_runs.specs.Faults.{as_told, is_of_source, is_of_sink}
 use Rattle.desk_runs.specs.Opened.{OpensDesk, IsDeskFault}
 use Rattle.desk_runs.specs.Runs.{run_bounds}
 use Rattle.desk_runs.specs.declared.faults.RunFault.{RunFault}
+use Rattle.desk_runs.specs.declared.faults.RunFault.TheVariants.{Serve}
 
 -- the desk of the files was served a session, which ended so and left that desk
 pub record IsSitting (map : List ℕ) (scen : Option (List ℕ)) (agents : ℕ) (mode : Mode) (limit : ℕ) (journal : Option (List ℕ)) (bounds : Bounds) (left0 left1 held0 held1 : Option (List ℕ)) (desk : DeskState) (ended : Result ℕ ServeFault) : Type 0 where
@@ -39,7 +40,7 @@ pub record SitsAfterMap (scen : Option (List ℕ)) (agents : ℕ) (mode : Mode) 
 pub record StopsBefore (left0 left1 held0 held1 : Option (List ℕ)) (fault : RunFault) : Type 0 where
   pub why : ServeFault
   pub stops : StopsInMap left0 left1 run_bounds.bytes why
-  pub told : fault ≡ of_session why
+  pub told : fault ≡ as_told (Serve why)
   pub silent : held1 ≡ held0
 
 -- no map was handed in: its text came first from the reader, or not whole

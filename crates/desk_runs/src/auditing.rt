@@ -7,6 +7,7 @@ ghost use Rattle.desk_runs.specs.Opens.{bytes_of};
 use crate::faults::RunFault;
 use crate::opening::open_desk;
 use crate::reporting::put_report;
+use crate::scenes::Problem;
 use desk_audit::{AuditFault, NoGate, audit};
 use desk_core::{Limit, MOST_ENTRIES};
 use desk_report::{Report, Sink, WriteFailed};
@@ -44,7 +45,13 @@ pub fn run_audit<T: Threads + Wait, W: Sink>(
     let Some(limit) = Limit::new(MOST_ENTRIES) else {
         unreachable!()
     };
-    let desk = match open_desk(alloc, map, scen, agents, limit, mode, journal) {
+    let problem = Problem {
+        map,
+        scen,
+        agents: Some(agents),
+        mode,
+    };
+    let desk = match open_desk(alloc, problem, limit, journal) {
         Ok(desk) => desk,
         Err(fault) => return Err(fault),
     };

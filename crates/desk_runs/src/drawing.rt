@@ -7,11 +7,11 @@ use crate::auditing::report_of;
 use crate::checks::{CheckFault, planned_scene};
 use crate::courses::Courses;
 use crate::opening::open_desk;
+use crate::scenes::Problem;
 use desk_core::{Limit, MOST_ENTRIES};
 use desk_pictures::{Frame, write_picture};
 use desk_report::{Sink, WriteFailed};
 use grid_cells::OutOfMemory;
-use plan_table::Mode;
 use scene_edits::Scene;
 use std::alloc::Global;
 use std::sync::Wait;
@@ -56,18 +56,16 @@ fn draw_scene<T: Threads + Wait, W: Sink>(
 pub fn run_draw<T: Threads + Wait, W: Sink>(
     rt: &T,
     alloc: Global,
-    map: &[u8],
-    scen: Option<&[u8]>,
-    agents: Option<u32>,
-    mode: Mode,
+    problem: Problem<'_>,
     courses: Courses<'_>,
     frame: &Frame,
     workers: u32,
     writer: &mut W,
 ) -> Result<(), CheckFault>
     requires workers { (1 ≤ workers) × (workers ≤ 64) }
-    ensures ok { OnOk result (Draws map.now (bytes_of scen.entry) agents mode courses.entry frame.now.at (W.held writer.old) (W.held writer.new)) }
-    ensures err { IfErr result (FailsDraw map.now (bytes_of scen.entry) agents mode courses.entry) }
+    ensures ok { OnOk result (Draws problem.entry.map.now (bytes_of problem.entry.scen) problem.entry.agents problem.entry.mode
+        courses.entry frame.now.at (W.held writer.old) (W.held writer.new)) }
+    ensures err { IfErr result (FailsDraw problem.entry.map.now (bytes_of problem.entry.scen) problem.entry.agents problem.entry.mode courses.entry) }
     ensures broken { W.broken writer.new ≡ (W.broken writer.old || has_write_failed result) }
     ensures silent { IfErr result (λ fault. fault ≢ CheckFault.WriteFailed → W.held writer.new ≡ W.held writer.old) }
 {
@@ -76,8 +74,7 @@ pub fn run_draw<T: Threads + Wait, W: Sink>(
     };
     match courses {
         Courses::Journal(journal) => {
-            let agents = agents.unwrap_or(0);
-            match open_desk(alloc, map, scen, agents, limit, mode, journal) {
+            match open_desk(alloc, problem, limit, journal) {
                 Ok(desk) => {
                     let drawn = draw_scene(rt, alloc, desk.scene(), frame, workers, writer);
                     drop(desk);
@@ -87,7 +84,7 @@ pub fn run_draw<T: Threads + Wait, W: Sink>(
             }
         }
         Courses::Solver(paths) => {
-            match planned_scene(alloc, map, scen, agents, mode, paths, None) {
+            match planned_scene(alloc, problem, paths, None) {
                 Ok(scene) => {
                     let drawn = draw_scene(rt, alloc, &scene, frame, workers, writer);
                     drop(scene);

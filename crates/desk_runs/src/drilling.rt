@@ -1,4 +1,4 @@
-ghost use Rattle.std.specs.Prelude.{◌≡◌, ◌↔◌, ◌≤◌, ◌||◌, length, IfErr, IfOk, IsTrue};
+ghost use Rattle.std.specs.Prelude.{◌≡◌, ◌↔◌, ◌≤◌, ◌||◌, length, unwrap_or, IfErr, IfOk, IsTrue};
 ghost use Rattle.desk_runs.specs.DrillFaults.{FailsDrill, FailsUnwritten};
 ghost use Rattle.desk_runs.specs.Drills.{ComesTo, Drills, texts_of};
 ghost use Rattle.desk_runs.specs.Faults.{is_write_fault};
@@ -7,7 +7,7 @@ ghost use Rattle.desk_runs.specs.Opens.{bytes_of};
 use crate::faults::RunFault;
 use crate::hearing::{AtGate, Hearing};
 use crate::reporting::put_drill;
-use crate::scenes::scene_of;
+use crate::scenes::{Problem, scene_of};
 use crate::scripts::serve_scripts;
 use crate::sharing::{end_sharing, last_report, share};
 use desk_audit::Gate;
@@ -48,9 +48,20 @@ pub fn run_drill<R: Threads + Wait + Sync, G: Gate, W: Sink>(
     ensures refused { IfErr result (FailsDrill map.now (bytes_of scen.entry) agents mode (texts_of scripts.items) (W.held writer.old) (W.held writer.new)) }
     ensures broken { W.broken writer.new ≡ (W.broken writer.old || is_write_fault result) }
 {
-    let along = AtGate { gate };
+    let problem = Problem {
+        map,
+        scen,
+        agents: Some(agents),
+        mode,
+    };
     hear_drill(
-        rt, alloc, map, scen, agents, mode, workers, scripts, &along, writer,
+        rt,
+        alloc,
+        problem,
+        workers,
+        scripts,
+        &AtGate { gate },
+        writer,
     )
 }
 
@@ -63,18 +74,17 @@ pub fn run_drill<R: Threads + Wait + Sync, G: Gate, W: Sink>(
 pub fn hear_drill<R: Threads + Wait + Sync, H: Hearing + Sync, W: Sink>(
     rt: &R,
     alloc: Global,
-    map: &[u8],
-    scen: Option<&[u8]>,
-    agents: u32,
-    mode: Mode,
+    problem: Problem<'_>,
     workers: u32,
     scripts: Vec<Vec<u8>>,
     hearing: &H,
     writer: &mut W,
 ) -> Result<bool, RunFault>
     requires workers { (1 ≤ workers) × (workers ≤ 64) }
-    ensures drilled { IfOk result (Drills map.now (bytes_of scen.entry) agents mode (texts_of scripts.items) (W.held writer.old) (W.held writer.new)) }
-    ensures refused { IfErr result (FailsDrill map.now (bytes_of scen.entry) agents mode (texts_of scripts.items) (W.held writer.old) (W.held writer.new)) }
+    ensures drilled { IfOk result (Drills problem.entry.map.now (bytes_of problem.entry.scen) (unwrap_or problem.entry.agents 0) problem.entry.mode
+        (texts_of scripts.items) (W.held writer.old) (W.held writer.new)) }
+    ensures refused { IfErr result (FailsDrill problem.entry.map.now (bytes_of problem.entry.scen) (unwrap_or problem.entry.agents 0) problem.entry.mode
+        (texts_of scripts.items) (W.held writer.old) (W.held writer.new)) }
     ensures broken { W.broken writer.new ≡ (W.broken writer.old || is_write_fault result) }
 {
     if scripts.len() > MOST_SCRIPTS {
@@ -82,7 +92,7 @@ pub fn hear_drill<R: Threads + Wait + Sync, H: Hearing + Sync, W: Sink>(
         return Err(RunFault::TooManyScripts);
     }
     let texts = scripts.as_slice();
-    let ended = drilled(rt, alloc, map, scen, agents, mode, workers, texts, hearing);
+    let ended = drilled(rt, alloc, problem, workers, texts, hearing);
     drop(scripts);
     let (reading, same) = match ended {
         Ok(end) => end,
@@ -100,20 +110,19 @@ pub fn hear_drill<R: Threads + Wait + Sync, H: Hearing + Sync, W: Sink>(
 fn drilled<R: Threads + Wait + Sync, H: Hearing + Sync>(
     rt: &R,
     alloc: Global,
-    map: &[u8],
-    scen: Option<&[u8]>,
-    agents: u32,
-    mode: Mode,
+    problem: Problem<'_>,
     workers: u32,
     scripts: &[Vec<u8>],
     hearing: &H,
 ) -> Result<(Reading, bool), RunFault>
     requires workers { (1 ≤ workers) × (workers ≤ 64) }
     requires few { length scripts.now ≤ MOST_SCRIPTS }
-    ensures drilled { IfOk result (λ end. ComesTo map.now (bytes_of scen.entry) agents mode (texts_of scripts.now) end.0 end.1) }
-    ensures refused { IfErr result (FailsUnwritten map.now (bytes_of scen.entry) agents mode (texts_of scripts.now)) }
+    ensures drilled { IfOk result (λ end. ComesTo problem.entry.map.now (bytes_of problem.entry.scen) (unwrap_or problem.entry.agents 0) problem.entry.mode
+        (texts_of scripts.now) end.0 end.1) }
+    ensures refused { IfErr result (FailsUnwritten problem.entry.map.now (bytes_of problem.entry.scen) (unwrap_or problem.entry.agents 0) problem.entry.mode
+        (texts_of scripts.now)) }
 {
-    let scene = match scene_of(alloc, map, scen, agents, mode) {
+    let scene = match scene_of(alloc, problem) {
         Ok(scene) => scene,
         Err(fault) => return Err(fault),
     };

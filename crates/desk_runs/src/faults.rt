@@ -1,9 +1,10 @@
 ghost use Rattle.std.specs.Prelude.{◌≡◌};
-ghost use Rattle.desk_runs.specs.Faults.{of_journal, of_map, of_replay, of_scen, of_session, of_start, of_tasks};
+ghost use Rattle.desk_runs.specs.Faults.{as_told};
+ghost use Rattle.desk_runs.specs.declared.faults.RunFault.TheVariants.{Journal, Serve};
 
 use bench_reader::{MapFault, ScenFault};
 use desk_core::ReplayFault;
-use desk_session::{JournalFault, ServeFault, StartFault};
+use desk_session::{JournalFault, ServeFault};
 use scene_edits::TaskFault;
 use thiserror::Error;
 
@@ -41,80 +42,36 @@ pub enum RunFault {
     OutOfMemory,
 }
 
-impl From<MapFault> for RunFault {
-    ghost from_gives = { λ why fault. fault ≡ of_map why };
-
-    fn from(fault: MapFault) -> RunFault {
-        match fault {
-            MapFault::OutOfMemory => RunFault::OutOfMemory,
-            fault => RunFault::Map(fault),
-        }
-    }
-}
-
-impl From<ScenFault> for RunFault {
-    ghost from_gives = { λ why fault. fault ≡ of_scen why };
-
-    fn from(fault: ScenFault) -> RunFault {
-        match fault {
-            ScenFault::OutOfMemory => RunFault::OutOfMemory,
-            fault => RunFault::Scen(fault),
-        }
-    }
-}
-
-impl From<TaskFault> for RunFault {
-    ghost from_gives = { λ why fault. fault ≡ of_tasks why };
-
-    fn from(fault: TaskFault) -> RunFault {
-        match fault {
-            TaskFault::OutOfMemory => RunFault::OutOfMemory,
-            fault => RunFault::Tasks(fault),
+impl RunFault {
+    /// The fault of a part of a run as the run tells it: want of memory is one fault, wherever it is.
+    pub fn as_told(self) -> RunFault
+        ensures { result ≡ as_told self }
+    {
+        match self {
+            RunFault::Map(MapFault::OutOfMemory)
+            | RunFault::Scen(ScenFault::OutOfMemory)
+            | RunFault::Tasks(TaskFault::OutOfMemory)
+            | RunFault::Journal(JournalFault::OutOfMemory)
+            | RunFault::Replay(ReplayFault::OutOfMemory)
+            | RunFault::Serve(ServeFault::OutOfMemory) => RunFault::OutOfMemory,
+            fault => fault,
         }
     }
 }
 
 impl From<JournalFault> for RunFault {
-    ghost from_gives = { λ why fault. fault ≡ of_journal why };
+    ghost from_gives = { λ why fault. fault ≡ as_told (Journal why) };
 
     fn from(fault: JournalFault) -> RunFault {
-        match fault {
-            JournalFault::OutOfMemory => RunFault::OutOfMemory,
-            fault => RunFault::Journal(fault),
-        }
-    }
-}
-
-impl From<ReplayFault> for RunFault {
-    ghost from_gives = { λ why fault. fault ≡ of_replay why };
-
-    fn from(fault: ReplayFault) -> RunFault {
-        match fault {
-            ReplayFault::OutOfMemory => RunFault::OutOfMemory,
-            fault => RunFault::Replay(fault),
-        }
+        RunFault::Journal(fault).as_told()
     }
 }
 
 impl From<ServeFault> for RunFault {
-    ghost from_gives = { λ why fault. fault ≡ of_session why };
+    ghost from_gives = { λ why fault. fault ≡ as_told (Serve why) };
 
     fn from(fault: ServeFault) -> RunFault {
-        match fault {
-            ServeFault::OutOfMemory => RunFault::OutOfMemory,
-            fault => RunFault::Serve(fault),
-        }
-    }
-}
-
-impl From<StartFault> for RunFault {
-    ghost from_gives = { λ why fault. fault ≡ of_start why };
-
-    fn from(fault: StartFault) -> RunFault {
-        match fault {
-            StartFault::Map(why) => RunFault::from(why),
-            StartFault::Serve(why) => RunFault::from(why),
-        }
+        RunFault::Serve(fault).as_told()
     }
 }
 

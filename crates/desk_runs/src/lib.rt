@@ -21,7 +21,7 @@ mod serving;
 mod sharing;
 
 pub use auditing::run_audit;
-pub use checks::{CheckFault, run_check};
+pub use checks::{CheckFault, fault_word, run_check};
 pub use courses::Courses;
 pub use drawing::run_draw;
 pub use drilling::{MOST_SCRIPTS, hear_drill, run_drill};
@@ -33,4 +33,5 @@ pub use hosts::{
 pub use laws::saved_desks_come_back;
 pub use opening::open_desk;
 pub use saving::save_desk;
+pub use scenes::Problem;
 pub use serving::{BOUNDS, MOST_BYTES, run_serve, serve_desk};

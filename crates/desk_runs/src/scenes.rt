@@ -1,4 +1,4 @@
-ghost use Rattle.std.specs.Prelude.{IfOk, IfErr};
+ghost use Rattle.std.specs.Prelude.{IfOk, IfErr, unwrap_or};
 ghost use Rattle.desk_runs.specs.Opens.{Opens, IsOpenFault, bytes_of};
 
 use crate::faults::RunFault;
@@ -7,24 +7,35 @@ use plan_table::Mode;
 use scene_edits::Scene;
 use std::alloc::Global;
 
+/// What a scene is made of: a map, a scenario, how many agents have its first tasks, and a mode.
+#[derive(Clone, Copy)]
+pub struct Problem<'t> {
+    pub map: &'t [u8],
+    pub scen: Option<&'t [u8]>,
+    /// Without a number there are as many as a solver's paths, or else none.
+    pub agents: Option<u32>,
+    pub mode: Mode,
+}
+
 /// The scene of a map in a mode, with the agents of the first tasks of a scenario.
 ///
 /// # Errors
 ///
 /// The first fault of the map, the scenario and the tasks, or want of memory.
-pub(crate) fn scene_of(
-    alloc: Global,
-    map: &[u8],
-    scen: Option<&[u8]>,
-    agents: u32,
-    mode: Mode,
-) -> Result<Scene, RunFault>
-    ensures opened { IfOk result (Opens map.now (bytes_of scen.entry) agents mode) }
-    ensures refused { IfErr result (IsOpenFault map.now (bytes_of scen.entry) agents) }
+pub(crate) fn scene_of(alloc: Global, problem: Problem<'_>) -> Result<Scene, RunFault>
+    ensures opened { IfOk result (Opens problem.entry.map.now (bytes_of problem.entry.scen) (unwrap_or problem.entry.agents 0) problem.entry.mode) }
+    ensures refused { IfErr result (IsOpenFault problem.entry.map.now (bytes_of problem.entry.scen) (unwrap_or problem.entry.agents 0)) }
 {
+    let Problem {
+        map,
+        scen,
+        agents,
+        mode,
+    } = problem;
+    let agents = agents.unwrap_or(0);
     let grid = match read_map(alloc, map) {
         Ok(grid) => grid,
-        Err(fault) => return Err(RunFault::from(fault)),
+        Err(fault) => return Err(RunFault::Map(fault).as_told()),
     };
     let Some(scen) = scen else {
         return Ok(Scene::bare(alloc, grid).with_mode(mode));
@@ -33,7 +44,7 @@ pub(crate) fn scene_of(
         Ok(tasks) => tasks,
         Err(fault) => {
             drop(grid);
-            return Err(RunFault::from(fault));
+            return Err(RunFault::Scen(fault).as_told());
         }
     };
     let made = Scene::with_tasks(alloc, grid, tasks.items(), agents);
@@ -42,7 +53,7 @@ pub(crate) fn scene_of(
         Ok(scene) => Ok(scene.with_mode(mode)),
         Err((fault, grid)) => {
             drop(grid);
-            Err(RunFault::from(fault))
+            Err(RunFault::Tasks(fault).as_told())
         }
     }
 }

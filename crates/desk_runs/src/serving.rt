@@ -1,4 +1,4 @@
-ghost use Rattle.std.specs.Prelude.{◌≡◌, ◌||◌};
+ghost use Rattle.std.specs.Prelude.{◌≡◌, ◌||◌, unwrap_or};
 ghost use Rattle.desk_session.specs.Reads.{ReadsUntil};
 ghost use Rattle.desk_runs.specs.Faults.{is_read_fault, is_write_fault};
 ghost use Rattle.desk_runs.specs.Runs.{Runs};
@@ -7,6 +7,7 @@ ghost use Rattle.desk_runs.specs.Opens.{bytes_of};
 
 use crate::faults::RunFault;
 use crate::opening::open_desk;
+use crate::scenes::Problem;
 use desk_core::{Desk, Limit};
 use desk_report::{Sink, Source};
 use desk_session::{Bounds, ServeFault, hear_map, serve};
@@ -84,10 +85,15 @@ pub fn serve_desk<R: Source, W: Sink>(
     ensures failed { R.failed reader.new ≡ (R.failed reader.old || source_failed result) }
     ensures broken { W.broken writer.new ≡ (W.broken writer.old || sink_failed result) }
 {
+    let agents = Some(agents);
     if let Some(map) = map {
-        return serve_over(
-            alloc, map, scen, agents, limit, mode, journal, reader, writer, BOUNDS,
-        );
+        let problem = Problem {
+            map,
+            scen,
+            agents,
+            mode,
+        };
+        return serve_over(alloc, problem, limit, journal, reader, writer, BOUNDS);
     }
     let text = match hear_map(alloc, reader, MOST_BYTES) {
         Ok(text) => text,
@@ -97,32 +103,32 @@ pub fn serve_desk<R: Source, W: Sink>(
         lines: MOST_LINES,
         bytes: MOST_BYTES - text.len() as u64,
     };
-    let map = text.as_slice();
-    serve_over(
-        alloc, map, scen, agents, limit, mode, journal, reader, writer, rest,
-    )
+    let problem = Problem {
+        map: text.as_slice(),
+        scen,
+        agents,
+        mode,
+    };
+    serve_over(alloc, problem, limit, journal, reader, writer, rest)
 }
 
 // Opens the desk, and serves a session over it.
 fn serve_over<R: Source, W: Sink>(
     alloc: Global,
-    map: &[u8],
-    scen: Option<&[u8]>,
-    agents: u32,
+    problem: Problem<'_>,
     limit: Limit,
-    mode: Mode,
     journal: Option<&[u8]>,
     reader: &mut R,
     writer: &mut W,
     bounds: Bounds,
 ) -> Result<(Desk, Result<u32, ServeFault>), RunFault>
-    ensures sits { SitsOver map.now (bytes_of scen.entry) agents mode limit (bytes_of journal.entry) bounds
-        (R.left reader.old) (R.left reader.new) (W.held writer.old) (W.held writer.new) result }
+    ensures sits { SitsOver problem.entry.map.now (bytes_of problem.entry.scen) (unwrap_or problem.entry.agents 0) problem.entry.mode
+        limit (bytes_of journal.entry) bounds (R.left reader.old) (R.left reader.new) (W.held writer.old) (W.held writer.new) result }
     ensures reads { ReadsUntil R.gives reader.old reader.new (source_failed result) }
     ensures failed { R.failed reader.new ≡ (R.failed reader.old || source_failed result) }
     ensures broken { W.broken writer.new ≡ (W.broken writer.old || sink_failed result) }
 {
-    match open_desk(alloc, map, scen, agents, limit, mode, journal) {
+    match open_desk(alloc, problem, limit, journal) {
         Ok(mut desk) => {
             let ended = serve(alloc, &mut desk, reader, writer, bounds);
             Ok((desk, ended))

@@ -50,9 +50,12 @@ rests start log turn homes holder seat log' turn' homes' holder' made Making awa
 rests start log turn homes holder seat log' turn' homes' holder' made Holding away h = absurd (away h.0 h.1)
 rests start log turn homes holder seat log' turn' homes' holder' made (Joined a b p q s) away h = h
 
--- the pass at another stage, which has seen the whole journal
+-- the pass at another stage, which has seen the whole journal, or what it had
 live_posed : (start : DeskState) (planners : ℕ) (log : List Entry) (owner : ℕ → ℕ) (seat : ℕ) (k : Known) (stage : Stage) → Live start planners log owner seat k → Live start planners log owner seat (posed k stage log)
 live_posed start planners log owner seat k stage l = grind (arith, nat_tests, common_steps, gets)
+
+pub live_staged : (start : DeskState) (planners : ℕ) (log : List Entry) (owner : ℕ → ℕ) (seat : ℕ) (k : Known) (stage : Stage) → Live start planners log owner seat k → Live start planners log owner seat (posed k stage k.made)
+live_staged start planners log owner seat k stage l = grind (arith, nat_tests, common_steps, gets)
 
 pub set_at : {A : Type 0} (l : List A) (i : ℕ) (a b : A) → get_elem? l i ≡ some a → get_elem? (set l i b) i ≡ some b
 set_at [] i a b e = absurd (some-ne-none a (sym e))
@@ -87,6 +90,26 @@ Stays start planners log turn homes holder owner j v = v.live ≡ true → Live 
 pub unmoved : (s : St) (r : Ruled s) (i id : ℕ) (cs : Carried) (k : Known) → get_elem? s.views id ≡ some k → Ruled (stepped s i (get_or s.words i 0) id cs k keeps)
 unmoved s r i id cs k at = subst (λ (z : List ℕ × List Known). Ruled record { words = z.0; homes = s.homes; views = z.1 }) (λ c. (sym (set-get_or s.words i 0) c, sym (set_again s.views id k at) c)) r
 
+-- the rule for a table after a step, from the same desk for as many planners
+pub renewed : (s t : St) (r : Ruled s) (log : List Entry) (holder : ℕ) (owner : ℕ → ℕ) → length t.words ≡ 2 → length t.homes ≡ 1 → IsLegal r.start log → AreOfPlanners r.planners log
+    → get_or t.words 0 0 ≡ version_at r.start log → (turn_of t ≡ 0 → get_elem? t.homes 0 ≡ some (some (Some (after r.start log)))) → (turn_of t ≢ 0 → IsWithin t.views holder)
+    → ((j : ℕ) (k : Known) → get_elem? t.views j ≡ some k → Stays r.start r.planners log (turn_of t) t.homes holder owner j k) → Ruled t
+renewed s t r log holder owner wide deep legal numbered count home held each =
+    record { start = r.start; planners = r.planners; log = log; holder = holder; owner = owner; wide = wide; deep = deep; bounded = r.bounded; within = r.within; legal = legal; numbered = numbered; count = count; home = home; held = held; each = each }
+
+-- the pass of a seat takes the turn, has it or gives it up, and the journal stays
+turned : (s : St) (r : Ruled s) (id : ℕ) (k w : Known) (turn : ℕ) (homes : Homes) → get_elem? s.views id ≡ some k → length homes ≡ 1
+    → (turn ≡ 0 → get_elem? homes 0 ≡ some (some (Some (after r.start r.log)))) → (turn ≢ 0 → IsBusy w.stage)
+    → Live r.start r.planners r.log r.owner id w × Stands r.start r.log turn homes id id w.made w.stage → ((j : ℕ) → j ≢ id → j ≡ r.holder → turn_of s ≡ 1 → ⊥)
+    → Ruled record { words = set s.words 1 turn; homes = homes; views = set s.views id w }
+turned s r id k w turn homes at deep home busy mine away =
+    let wide = r.wide in
+    let is : get_or (set s.words 1 turn) 1 0 ≡ turn = get_or-set_same s.words 1 turn 0 (omega arith) in
+    renewed s record { words = set s.words 1 turn; homes = homes; views = set s.views id w } r r.log id r.owner (length-set s.words 1 turn ∙ r.wide) deep r.legal r.numbered
+    (get_or-set_other s.words 1 0 turn 0 (λ e. omega arith) ∙ r.count) (rw is home) (rw is (λ n. held_here s.views id k w at (busy n)))
+    (rw is (each_stays (Stays r.start r.planners r.log turn homes id r.owner) s.views id w (λ _. mine)
+    (λ j v other there alive. let h = r.each j v there alive in (h.0, rests r.start r.log (turn_of s) s.homes r.holder j r.log turn homes id v.made v.stage (away j other) h.1))))
+
 pub found : (s : St) (r : Ruled s) (id : ℕ) (k : Known) → Live r.start r.planners r.log r.owner id k → GoesOn (shown k) r.log
 found s r id k l = record {
   seen = l.seen;
@@ -112,25 +135,8 @@ wins slots id k cs live s r deep at small =
       w,
       takes 0 d,
       r.home free ∙ ap (λ (z : DeskState). some (some (Some (after z r.log)))) (sym mine.same),
-      (let wide = r.wide in record {
-        start = r.start;
-        log = r.log;
-        holder = id;
-        planners = r.planners;
-        owner = r.owner;
-        numbered = r.numbered;
-        wide = length-set s.words 1 1 ∙ r.wide;
-        deep = length-set s.homes 0 none ∙ r.deep;
-        bounded = r.bounded;
-        within = r.within;
-        legal = r.legal;
-        count = get_or-set_other s.words 1 0 1 0 (λ e. omega arith) ∙ r.count;
-        home = λ z. let same = get_or-set_same s.words 1 1 0 (omega arith) in absurd (omega arith);
-        held = λ _. held_here s.views id k w at tt;
-        each = each_stays (Stays r.start r.planners r.log (get_or (set s.words 1 1) 1 0) (set s.homes 0 none) id r.owner) s.views id w
-            (λ _. (live_posed r.start r.planners r.log r.owner id k Holding mine, (refl, get_or-set_same s.words 1 1 0 (omega arith), refl)))
-            (λ j v other there alive. let h = r.each j v there alive in (h.0, rests r.start r.log n s.homes r.holder j r.log (get_or (set s.words 1 1) 1 0) (set s.homes 0 none) id v.made v.stage (λ _ held. omega arith) h.1));
-      }),
+      turned s r id k w 1 (set s.homes 0 none) at (length-set s.homes 0 none ∙ r.deep) (λ z. absurd (omega arith)) (λ _. tt)
+          (live_posed r.start r.planners r.log r.owner id k Holding mine, (refl, refl, refl)) (λ _ _ _ held. omega arith),
       ((λ _. (found s r id k mine, refl)), λ held. absurd (held free)),
     ))
     (λ held. (k, keeps, tt, unmoved s r 1 id cs k at, ((λ free. absurd (held free)), λ _. refl)))
@@ -145,30 +151,13 @@ reaches slots id k cs live making s r deep at small =
     let (mine, stands) = r.each id k at live in
     let h : Stands r.start r.log n s.homes r.holder id k.made Making = subst (Stands r.start r.log n s.homes r.holder id k.made) making stands in
     let held : n ≡ 1 = h.1 in
-    let w : Known = posed k Holding k.made in
-    let same : posed k Holding r.log ≡ w = ap (posed k Holding) (sym h.2) in (
+    let w : Known = posed k Holding k.made in (
       w,
       takes 0 None,
       h.3,
-      subst (λ (ws : List ℕ). Ruled record { words = ws; homes = set s.homes 0 none; views = set s.views id w }) (sym (set-get_or s.words 1 0)) record {
-        start = r.start;
-        log = r.log;
-        holder = id;
-        planners = r.planners;
-        owner = r.owner;
-        numbered = r.numbered;
-        wide = r.wide;
-        deep = length-set s.homes 0 none ∙ r.deep;
-        bounded = r.bounded;
-        within = r.within;
-        legal = r.legal;
-        count = r.count;
-        home = λ z. absurd (omega arith);
-        held = λ _. held_here s.views id k w at tt;
-        each = each_stays (Stays r.start r.planners r.log n (set s.homes 0 none) id r.owner) s.views id w
-            (λ _. (subst (Live r.start r.planners r.log r.owner id) same (live_posed r.start r.planners r.log r.owner id k Holding mine), (refl, held, h.2)))
-            (λ j v other there alive. let h' = r.each j v there alive in (h'.0, rests r.start r.log n s.homes r.holder j r.log n (set s.homes 0 none) id v.made v.stage (λ is _. other (is ∙ sym h.0)) h'.1));
-      },
+      subst (λ (turn : ℕ). Ruled record { words = set s.words 1 turn; homes = set s.homes 0 none; views = set s.views id w }) (sym held)
+          (turned s r id k w 1 (set s.homes 0 none) at (length-set s.homes 0 none ∙ r.deep) (λ z. absurd (omega arith)) (λ _. tt)
+          (live_staged r.start r.planners r.log r.owner id k Holding mine, (refl, refl, h.2)) (λ _ other is _. other (is ∙ sym h.0))),
       refl,
     )
 
@@ -180,32 +169,14 @@ frees slots id k d live holding is s r deep at small =
     let h : Stands r.start r.log n s.homes r.holder id k.made Holding = subst (Stands r.start r.log n s.homes r.holder id k.made) holding stands in
     let held : n ≡ 1 = h.1 in
     let w : Known = posed k Idle k.made in
-    let same : posed k Idle r.log ≡ w = ap (posed k Idle) (sym h.2) in
-    let homes' : Homes = set s.homes 0 (some (Some d)) in
-    let turn' : ℕ = get_or (set s.words 1 0) 1 0 in
+    let deep = r.deep in
     let there : d ≡ after r.start r.log = is ∙ (λ c. after (mine.same c) (h.2 c)) in (
       w,
       gives,
       tt,
-      (let wide = r.wide in let deep' = r.deep in record {
-        start = r.start;
-        log = r.log;
-        holder = id;
-        planners = r.planners;
-        owner = r.owner;
-        numbered = r.numbered;
-        wide = length-set s.words 1 0 ∙ r.wide;
-        deep = length-set s.homes 0 (some (Some d)) ∙ r.deep;
-        bounded = r.bounded;
-        within = r.within;
-        legal = r.legal;
-        count = get_or-set_other s.words 1 0 0 0 (λ e. omega arith) ∙ r.count;
-        home = λ _. set_here s.homes 0 (some (Some d)) (omega arith) ∙ ap (λ (z : DeskState). some (some (Some z))) there;
-        held = λ z. absurd (z (get_or-set_same s.words 1 0 0 (omega arith)));
-        each = each_stays (Stays r.start r.planners r.log turn' homes' id r.owner) s.views id w
-            (λ _. (subst (Live r.start r.planners r.log r.owner id) same (live_posed r.start r.planners r.log r.owner id k Idle mine), tt))
-            (λ j v other at' alive. let h' = r.each j v at' alive in (h'.0, rests r.start r.log n s.homes r.holder j r.log turn' homes' id v.made v.stage (λ e _. other (e ∙ sym h.0)) h'.1));
-      }),
+      turned s r id k w 0 (set s.homes 0 (some (Some d))) at (length-set s.homes 0 (some (Some d)) ∙ r.deep)
+          (λ _. set_here s.homes 0 (some (Some d)) (omega arith) ∙ ap (λ (z : DeskState). some (some (Some z))) there) (λ z. absurd (z refl))
+          (live_staged r.start r.planners r.log r.owner id k Idle mine, tt) (λ _ other is _. other (is ∙ sym h.0)),
       refl,
     )
 
@@ -258,41 +229,28 @@ grows slots id k d live holding next s r deep at small =
       w,
       keeps,
       tt,
-      record {
-        start = r.start;
-        log = log';
-        holder = id;
-        planners = r.planners;
-        owner = r.owner;
-        numbered = All-push (λ (z : Entry). z.planner < r.planners) r.log e r.numbered (subst (λ (z : ℕ). z < r.planners) (sym next.2) mine.number.0);
-        wide = length-set s.words 0 c' ∙ r.wide;
-        deep = r.deep;
-        bounded = r.bounded;
-        within = r.within;
-        legal = IsLegal-push r.start r.log e r.legal may;
-        count = get_or-set_same s.words 0 c' 0 (omega arith) ∙ is_count;
-        home = λ z. absurd (omega arith);
-        held = λ _. held_here s.views id k w at tt;
-        each = each_stays (Stays r.start r.planners log' turn' s.homes id r.owner) s.views id w
-            (λ _. let floor = mine.floor in let apart : (u : ℕ) → u ≢ k.planner → own_of u log' ≡ own_of u r.log = λ u not. own_of-other u r.log e (λ z. not (sym z ∙ next.2)) in (
-              record {
-                same = mine.same;
-                shared = mine.shared;
-                seen = subst (λ (z : List Entry). IsPrefix z log') (sym is_made) (prefix_self log');
-                floor = omega arith;
-                number = mine.number;
-                own = ap (own_of k.planner) (sym is_made);
-                unused = λ u give. let m = mine.unused u give in (m.0, apart u m.0.1 ∙ m.1);
-                past = All-weaker (IsPast r.start r.planners r.log r.owner id k) (IsPast r.start r.planners log' r.owner id w)
-                    (λ n p. let whole = apart n.0 p.beside.1 ∙ p.whole in record { beside = p.beside; kept = p.kept; whole = whole; seen = ap (own_of n.0) is_made ∙ whole }) k.past mine.past;
-              },
-              (refl, still ∙ held, is_made),
-            ))
-            (λ j v other at' alive. let h' = r.each j v at' alive in (
-              live_more r.start r.planners r.log r.owner j id e v other (ap r.owner next.2 ∙ mine.number.1) h'.0,
-              rests r.start r.log n s.homes r.holder j log' turn' s.homes id v.made v.stage (λ is _. other (is ∙ sym h.0)) h'.1,
-            ));
-      },
+      renewed s record { words = set s.words 0 c'; homes = s.homes; views = set s.views id w } r log' id r.owner (length-set s.words 0 c' ∙ r.wide) r.deep (IsLegal-push r.start r.log e r.legal may)
+          (All-push (λ (z : Entry). z.planner < r.planners) r.log e r.numbered (subst (λ (z : ℕ). z < r.planners) (sym next.2) mine.number.0)) (get_or-set_same s.words 0 c' 0 (omega arith) ∙ is_count)
+          (λ z. absurd (omega arith)) (λ _. held_here s.views id k w at tt)
+          (each_stays (Stays r.start r.planners log' turn' s.homes id r.owner) s.views id w
+          (λ _. let floor = mine.floor in let apart : (u : ℕ) → u ≢ k.planner → own_of u log' ≡ own_of u r.log = λ u not. own_of-other u r.log e (λ z. not (sym z ∙ next.2)) in (
+            record {
+              same = mine.same;
+              shared = mine.shared;
+              seen = subst (λ (z : List Entry). IsPrefix z log') (sym is_made) (prefix_self log');
+              floor = omega arith;
+              number = mine.number;
+              own = ap (own_of k.planner) (sym is_made);
+              unused = λ u give. let m = mine.unused u give in (m.0, apart u m.0.1 ∙ m.1);
+              past = All-weaker (IsPast r.start r.planners r.log r.owner id k) (IsPast r.start r.planners log' r.owner id w)
+                  (λ n p. let whole = apart n.0 p.beside.1 ∙ p.whole in record { beside = p.beside; kept = p.kept; whole = whole; seen = ap (own_of n.0) is_made ∙ whole }) k.past mine.past;
+            },
+            (refl, still ∙ held, is_made),
+          ))
+          (λ j v other at' alive. let h' = r.each j v at' alive in (
+            live_more r.start r.planners r.log r.owner j id e v other (ap r.owner next.2 ∙ mine.number.1) h'.0,
+            rests r.start r.log n s.homes r.holder j log' turn' s.homes id v.made v.stage (λ is _. other (is ∙ sym h.0)) h'.1,
+          ))),
       λ z same. let is' : d ≡ z = ap (in_hand d) same in λ i. (posed k Holding (since k.start (is' i)), (0, Some d) ∷ []),
     )
 

@@ -1,7 +1,7 @@
 -- What callers are told follows from what the steps told.
 use Rattle.std.specs.Prelude.{◌⊎◌, slice_index_or, All}
 use mathlib.Core.List.{IsPrefix}
-use Rattle.std.proofs.Common.{◌≡◌, ◌≢◌, ℕ, ◌+◌, ◌<◌, Bool, false, List, [], ◌∷◌, ◌++◌, length-append, arith, get_or, true, refl, sym, ap, ◌∙◌, subst, Option, Some, Ok}
+use Rattle.std.proofs.Common.{◌≡◌, ◌≢◌, ℕ, ◌+◌, ◌<◌, Bool, false, List, [], ◌∷◌, ◌++◌, length-append, arith, get_or, true, sym, ap, ◌∙◌, subst, Option, Some, Ok}
 use Rattle.std.proofs.lemmas.Bool.Decides.{nat_tests}
 use Rattle.std.proofs.lemmas.Grind.{common_steps}
 use Rattle.std.proofs.lemmas.Option.{gets}
@@ -57,18 +57,7 @@ closes ws xs id k d live last free there =
     record { found = r.log; goes_on = found s r id k mine; desk_is = ap (desk_or d) is ∙ ap (λ (z : DeskState). after z r.log) (sym mine.same) }
 
 splitted_so : (k : Known) → Unspent k → IsLeast (shown k) (first_true k.unused) → IsSplit (shown k) (shown (giver k)) (shown (given k))
-splitted_so k unspent least = let own = unspent (first_true k.unused) least.kept in record {
-  number = least;
-  given = refl;
-  start = refl;
-  shared = refl;
-  made = refl;
-  floor = refl;
-  keeps_none = λ u. blank 256 u;
-  no_entries = own.1;
-  no_past = refl;
-  apart = own.0;
-}
+splitted_so k unspent least = grind (arith, common_steps, unspent (first_true k.unused) least.kept, blank 256)
 
 pub splitted : (k l n : Known) → l ≡ giver k → n ≡ given k → Unspent k → IsLeast (shown k) (first_true k.unused) → IsSplit (shown k) (shown l) (shown n)
 splitted k l n is is' unspent least = subst (λ (z : Known × Known). IsSplit (shown k) (shown z.0) (shown z.1)) (λ i. (sym is i, sym is' i)) (splitted_so k unspent least)

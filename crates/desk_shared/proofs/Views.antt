@@ -22,7 +22,7 @@ use Rattle.desk_shared.specs.Turns.{shown, Stands, IsPast, Live, IsBusy, IsWithi
 use Rattle.desk_shared.specs.Numbers.{first_true}
 use Rattle.desk_shared.proofs.Beginnings.{prefix_longer, own_none, own_between, All-prefix}
 use Rattle.desk_shared.proofs.Unused.{either_at, blank}
-use Rattle.desk_shared.proofs.Kept.{Carried, Stays, turn_of, each_stays, held_on, unmoved, found}
+use Rattle.desk_shared.proofs.Kept.{Carried, Stays, turn_of, each_stays, held_on, unmoved, found, live_staged, renewed}
 
 abbrev put : (ℕ → ℕ) → ℕ → ℕ → ℕ → ℕ
 put f q x u = either (eqb u q) x (f u)
@@ -53,26 +53,15 @@ at_end (x ∷ xs) a b (suc j) e = ⊎_elim (λ t. inl t) (λ t. inr (t.0, ap suc
 live_owned : (start : DeskState) (planners : ℕ) (log : List Entry) (owner owner' : ℕ → ℕ) (seat : ℕ) (k : Known) → ((u : ℕ) → owner u ≡ seat → owner' u ≡ seat) → Live start planners log owner seat k → Live start planners log owner' seat k
 live_owned start planners log owner owner' seat k stays l = grind (arith, nat_tests, common_steps, gets)
 
+-- the same pass, where it has read the length of the journal
+live_floored : (start : DeskState) (planners : ℕ) (log : List Entry) (owner : ℕ → ℕ) (seat : ℕ) (k : Known) (n : ℕ) → n ≡ version_at start log → Live start planners log owner seat k → Live start planners log owner seat (floored k n)
+live_floored start planners log owner seat k n is l = grind (arith, nat_tests, common_steps, gets)
+
 -- a step on no word and no slot, after which the passes are these
 viewed : (s : State (Option DeskState) Known) (r : Ruled s) (owner : ℕ → ℕ) (views : List Known) → ((j : ℕ) (k : Known) → get_elem? views j ≡ some k → Stays r.start r.planners r.log (turn_of s) s.homes r.holder owner j k)
     → (IsWithin s.views r.holder → IsWithin views r.holder) → Ruled record { words = s.words; homes = s.homes; views = views }
-viewed s r owner views each held = record {
-  start = r.start;
-  planners = r.planners;
-  log = r.log;
-  holder = r.holder;
-  owner = owner;
-  wide = r.wide;
-  deep = r.deep;
-  bounded = r.bounded;
-  within = r.within;
-  legal = r.legal;
-  numbered = r.numbered;
-  count = r.count;
-  home = r.home;
-  each = each;
-  held = λ z. held (r.held z);
-}
+viewed s r owner views each held =
+    renewed s record { words = s.words; homes = s.homes; views = views } r r.log r.holder owner r.wide r.deep r.legal r.numbered r.count r.home (λ z. held (r.held z)) each
 
 -- the same at a load of the word i
 loaded : (s : State (Option DeskState) Known) (r : Ruled s) (i id : ℕ) (k w : Known) → get_elem? s.views id ≡ some k → (IsBusy k.stage → IsBusy w.stage)
@@ -88,19 +77,7 @@ fronts slots id k cs live s r deep at small =
       floored k n,
       keeps,
       tt,
-      loaded s r 0 id k (floored k n) at (λ b. b) (λ _. (
-        record {
-          same = mine.same;
-          shared = mine.shared;
-          seen = mine.seen;
-          floor = omega arith;
-          number = mine.number;
-          own = mine.own;
-          unused = mine.unused;
-          past = All-weaker (IsPast r.start r.planners r.log r.owner id k) (IsPast r.start r.planners r.log r.owner id (floored k n)) (λ z p. record { beside = p.beside; kept = p.kept; whole = p.whole; seen = p.seen }) k.past mine.past;
-        },
-        stands,
-      )),
+      loaded s r 0 id k (floored k n) at (λ b. b) (λ _. (live_floored r.start r.planners r.log r.owner id k n r.count mine, stands)),
       ((r.log, found s r id k mine, count ∙ ap (λ (z : DeskState). version_at z r.log) (sym mine.same)), refl),
     )
 
@@ -115,19 +92,7 @@ compares slots id k cs live busy s r deep at small =
       w,
       keeps,
       tt,
-      loaded s r 0 id k w at (λ b. absurd (busy b)) (λ _. (
-        record {
-          same = mine.same;
-          shared = mine.shared;
-          seen = mine.seen;
-          floor = mine.floor;
-          number = mine.number;
-          own = mine.own;
-          unused = mine.unused;
-          past = All-weaker (IsPast r.start r.planners r.log r.owner id k) (IsPast r.start r.planners r.log r.owner id w) (λ z p. record { beside = p.beside; kept = p.kept; whole = p.whole; seen = p.seen }) k.past mine.past;
-        },
-        tt,
-      )),
+      loaded s r 0 id k w at (λ b. absurd (busy b)) (λ _. (live_staged r.start r.planners r.log r.owner id k Idle mine, tt)),
       λ a b p q o is. let h = subst (Stands r.start r.log (turn_of s) s.homes r.holder id k.made) is stands in (
         (h.0, h.1, h.2, h.3, h.4 ∙ sym mine.same),
         subst (λ (n : ℕ). AreOfPlanners n k.made) (sym mine.shared) (All-prefix (λ (e : Entry). e.planner < r.planners) k.made r.log mine.seen r.numbered),

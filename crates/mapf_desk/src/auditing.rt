@@ -7,9 +7,8 @@ use crate::telling::More;
 use desk_report::Spout;
 use desk_runs::{Fault, RunFault, run_audit};
 use desk_words::AuditWords;
-use std::alloc::Global;
 use std::io;
-use std::io::{BufWriter, Write};
+use std::io::BufWriter;
 use std::rt::Files;
 use std::sync::Wait;
 use std::thread::Threads;
@@ -54,22 +53,9 @@ fn audit_texts<R: AllocGlobal + Print + Eprint + Threads + Wait>(
     let Ok(buffered) = BufWriter::new(alloc, io::writer(rt)) else {
         return Err(RunFault::OutOfMemory);
     };
-    audit_onto(rt, alloc, texts, words, stages, buffered, more)
-}
-
-// Audits the texts onto a writer.
-fn audit_onto<R: Eprint + Threads + Wait, O: Write + Drop>(
-    rt: &R,
-    alloc: Global,
-    texts: Texts<'_>,
-    words: &AuditWords<'_>,
-    stages: bool,
-    buffered: BufWriter<O>,
-    more: &mut More,
-) -> Result<(), RunFault> {
+    let mut writer = Spout::new(buffered);
     let workers = words.workers.clamp(1, 64);
     tell_stage(rt, stages, "opening the desk, and auditing it");
-    let mut writer = Spout::new(buffered);
     let ended = run_audit(
         rt,
         alloc,
@@ -81,5 +67,5 @@ fn audit_onto<R: Eprint + Threads + Wait, O: Write + Drop>(
         workers,
         &mut writer,
     );
-    finish(alloc, ended, texts, writer.into_inner(), more)
+    finish(alloc, ended, texts, writer, more)
 }

@@ -1,16 +1,15 @@
 //! The word `check`.
-use crate::details::{Texts, more_of_check};
+use crate::details::{Texts, problem_of};
 use crate::faults::ProgramFault;
 use crate::finishing::finish;
 use crate::named::read_files;
 use crate::stages::tell_stage;
 use crate::telling::More;
 use desk_report::Spout;
-use desk_runs::{CheckFault, Fault, RunFault, run_check};
+use desk_runs::{CheckFault, Fault, run_check};
 use desk_words::CheckWords;
-use std::alloc::Global;
 use std::io;
-use std::io::{BufWriter, Write};
+use std::io::BufWriter;
 use std::rt::Files;
 use std::sync::Wait;
 use std::thread::Threads;
@@ -53,44 +52,19 @@ fn check_texts<R: AllocGlobal + Print + Threads + Wait>(
 ) -> Result<bool, CheckFault> {
     let alloc = rt.alloc();
     let Ok(buffered) = BufWriter::new(alloc, io::writer(rt)) else {
-        return Err(CheckFault::Run(RunFault::OutOfMemory));
+        return Err(CheckFault::OutOfMemory);
     };
-    check_onto(rt, alloc, texts, words, buffered, more)
-}
-
-// Checks the texts onto a writer.
-fn check_onto<R: Threads + Wait, O: Write + Drop>(
-    rt: &R,
-    alloc: Global,
-    texts: Texts<'_>,
-    words: &CheckWords<'_>,
-    buffered: BufWriter<O>,
-    more: &mut More,
-) -> Result<bool, CheckFault> {
-    let paths = texts.journal.unwrap_or(b"");
     let mut writer = Spout::new(buffered);
     let ended = run_check(
         rt,
         alloc,
-        texts.map.unwrap_or(b""),
-        texts.scen,
-        words.agents,
-        words.mode,
-        paths,
+        problem_of(texts, words.agents, words.mode),
+        texts.journal.unwrap_or(b""),
         words.form,
         words.kinds,
         words.quiet,
         words.workers.clamp(1, 64),
         &mut writer,
     );
-    match ended {
-        Ok(solved) => match finish(alloc, Ok(solved), texts, writer.into_inner(), more) {
-            Ok(solved) => Ok(solved),
-            Err(fault) => Err(CheckFault::Run(fault)),
-        },
-        Err(fault) => {
-            more.put(more_of_check(alloc, &fault, texts, paths));
-            Err(fault)
-        }
-    }
+    finish(alloc, ended, texts, writer, more)
 }

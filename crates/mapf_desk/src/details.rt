@@ -2,8 +2,9 @@
 use bench_reader::{MapFault, ScenFault};
 use desk_core::{EditFault, Refusal, ReplayFault, Thing};
 use desk_lines::solver_paths::PathsFault;
-use desk_runs::{CheckFault, RunFault};
+use desk_runs::{CheckFault, Problem, RunFault, fault_word};
 use desk_session::JournalFault;
+use plan_table::Mode;
 use std::alloc::{AllocError, Global};
 
 /// The most letters that are shown of a text.
@@ -17,51 +18,64 @@ pub struct Texts<'t> {
     pub journal: Option<&'t [u8]>,
 }
 
-/// What more is known of a run's fault: the line that it names, or the entry that was refused and
-/// why.
-pub fn more_of(alloc: Global, fault: &RunFault, texts: Texts<'_>) -> Option<String> {
-    match *fault {
-        RunFault::Map(why) => line_of(alloc, texts.map, map_line(why)),
-        RunFault::Scen(why) => line_of(alloc, texts.scen, scen_line(why)),
-        RunFault::Journal(JournalFault::BadLine { line }) => {
-            line_of(alloc, texts.journal, Some(line))
-        }
-        RunFault::Replay(ReplayFault::ModeDiffers) => line_of(alloc, texts.journal, Some(2)),
-        RunFault::Replay(ReplayFault::Refused { entry, why }) => {
-            entry_of(alloc, texts.journal, entry, why)
-        }
-        _ => None,
+/// The problem of the texts, for so many agents in that mode.
+pub fn problem_of(texts: Texts<'_>, agents: Option<u32>, mode: Mode) -> Problem<'_> {
+    Problem {
+        map: texts.map.unwrap_or(b""),
+        scen: texts.scen,
+        agents,
+        mode,
     }
 }
 
-/// What more is known of why a solver's paths have no verdict: the line that the fault names.
-pub fn more_of_check(
-    alloc: Global,
-    fault: &CheckFault,
-    texts: Texts<'_>,
-    paths: &[u8],
-) -> Option<String> {
-    match fault {
-        CheckFault::Run(fault) => more_of(alloc, fault, texts),
-        CheckFault::Paths(why) => line_of(alloc, Some(paths), paths_line(*why)),
-        _ => None,
+/// A fault of a run of which more may be known, by the texts that it is about.
+pub trait Detailed {
+    /// What more is known: the line that the fault names, or the entry that was refused and why.
+    fn more(&self, alloc: Global, texts: Texts<'_>) -> Option<String>;
+}
+
+impl Detailed for RunFault {
+    fn more(&self, alloc: Global, texts: Texts<'_>) -> Option<String> {
+        match *self {
+            RunFault::Map(why) => line_of(alloc, texts.map, map_line(why)),
+            RunFault::Scen(why) => line_of(alloc, texts.scen, scen_line(why)),
+            RunFault::Journal(JournalFault::BadLine { line }) => {
+                line_of(alloc, texts.journal, Some(line))
+            }
+            RunFault::Replay(ReplayFault::ModeDiffers) => line_of(alloc, texts.journal, Some(2)),
+            RunFault::Replay(ReplayFault::Refused { entry, why }) => {
+                entry_of(alloc, texts.journal, entry, why)
+            }
+            _ => None,
+        }
+    }
+}
+
+impl Detailed for CheckFault {
+    // In place of a journal there are a solver's paths.
+    fn more(&self, alloc: Global, texts: Texts<'_>) -> Option<String> {
+        match self {
+            CheckFault::Run(fault) => fault.more(alloc, texts),
+            CheckFault::Paths(why) => line_of(alloc, texts.journal, paths_line(*why)),
+            _ => None,
+        }
     }
 }
 
 // The line that a fault of a file of paths is about, counted from 1.
 fn paths_line(why: PathsFault) -> Option<usize> {
     match why {
-        PathsFault::NoForm { line } => Some(line),
-        PathsFault::BadHeader { line } => Some(line),
-        PathsFault::RepeatedList { line } => Some(line),
-        PathsFault::BadTime { line } => Some(line),
-        PathsFault::BadAgent { line } => Some(line),
-        PathsFault::BadPath { line } => Some(line),
-        PathsFault::BadCell { line, .. } => Some(line),
-        PathsFault::NoCells { line } => Some(line),
-        PathsFault::CellCount { line } => Some(line),
-        PathsFault::TooManyAgents { line } => Some(line),
-        PathsFault::TooLong { line } => Some(line),
+        PathsFault::NoForm { line }
+        | PathsFault::BadHeader { line }
+        | PathsFault::RepeatedList { line }
+        | PathsFault::BadTime { line }
+        | PathsFault::BadAgent { line }
+        | PathsFault::BadPath { line }
+        | PathsFault::BadCell { line, .. }
+        | PathsFault::NoCells { line }
+        | PathsFault::CellCount { line }
+        | PathsFault::TooManyAgents { line }
+        | PathsFault::TooLong { line } => Some(line),
         _ => None,
     }
 }
@@ -70,11 +84,9 @@ fn paths_line(why: PathsFault) -> Option<usize> {
 fn map_line(why: MapFault) -> Option<usize> {
     match why {
         MapFault::NotOctile => Some(1),
-        MapFault::BadHeader { line } => Some(line),
-        MapFault::ShortRow { row } => Some(row.saturating_add(5)),
-        MapFault::LongRow { row } => Some(row.saturating_add(5)),
-        MapFault::BadLetter { row, .. } => Some(row.saturating_add(5)),
-        MapFault::ExtraLine { line } => Some(line),
+        MapFault::BadHeader { line } | MapFault::ExtraLine { line } => Some(line),
+        MapFault::ShortRow { row } | MapFault::LongRow { row } | MapFault::BadLetter { row, .. } =>
+            { Some(row.saturating_add(5)) }
         _ => None,
     }
 }
@@ -83,10 +95,10 @@ fn map_line(why: MapFault) -> Option<usize> {
 fn scen_line(why: ScenFault) -> Option<usize> {
     match why {
         ScenFault::BadVersion => Some(1),
-        ScenFault::FieldCount { line } => Some(line),
-        ScenFault::BadNumber { line, .. } => Some(line),
-        ScenFault::SizeMismatch { line } => Some(line),
-        ScenFault::OutOfMap { line, .. } => Some(line),
+        ScenFault::FieldCount { line }
+        | ScenFault::BadNumber { line, .. }
+        | ScenFault::SizeMismatch { line }
+        | ScenFault::OutOfMap { line, .. } => Some(line),
         ScenFault::OutOfMemory => None,
     }
 }
@@ -161,19 +173,5 @@ fn faulty_text(alloc: Global, index: usize, why: EditFault) -> Result<String, Al
     match why {
         EditFault::NotAStep { at } => format!(in alloc; "faulty {index} not-a-step {at}"),
         why => format!(in alloc; "faulty {index} {}", fault_word(why)),
-    }
-}
-
-fn fault_word(why: EditFault) -> &'static str {
-    match why {
-        EditFault::UnknownAgent => "unknown-agent",
-        EditFault::AgentTaken => "agent-taken",
-        EditFault::TooManyAgents => "too-many-agents",
-        EditFault::OutOfMap => "out-of-map",
-        EditFault::EmptyPath => "empty-path",
-        EditFault::NotFromStart => "not-from-start",
-        EditFault::NoSuchTime => "no-such-time",
-        EditFault::NotAStep { .. } => "not-a-step",
-        EditFault::TooLong => "too-long",
     }
 }

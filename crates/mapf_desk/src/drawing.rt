@@ -1,5 +1,5 @@
 //! The word `draw`.
-use crate::details::{Texts, more_of_check};
+use crate::details::{Texts, problem_of};
 use crate::faults::ProgramFault;
 use crate::finishing::finish;
 use crate::named::read_files;
@@ -7,12 +7,11 @@ use crate::stages::tell_stage;
 use crate::telling::More;
 use desk_pictures::Frame;
 use desk_report::Spout;
-use desk_runs::{CheckFault, Courses, Fault, RunFault, run_draw};
+use desk_runs::{CheckFault, Courses, Fault, run_draw};
 use desk_words::DrawWords;
 use grid_cells::Step;
-use std::alloc::Global;
 use std::io;
-use std::io::{BufWriter, Write};
+use std::io::BufWriter;
 use std::rt::Files;
 use std::sync::Wait;
 use std::thread::Threads;
@@ -66,48 +65,16 @@ fn draw_texts<R: AllocGlobal + Print + Threads + Wait>(
     more: &mut More,
 ) -> Result<(), CheckFault> {
     let alloc = rt.alloc();
-    let Ok(buffered) = BufWriter::new(alloc, io::writer(rt)) else {
-        return Err(CheckFault::OutOfMemory);
-    };
-    draw_onto(rt, alloc, texts, words, buffered, more)
-}
-
-// Draws the texts onto a writer.
-fn draw_onto<R: Threads + Wait, O: Write + Drop>(
-    rt: &R,
-    alloc: Global,
-    texts: Texts<'_>,
-    words: &DrawWords<'_>,
-    buffered: BufWriter<O>,
-    more: &mut More,
-) -> Result<(), CheckFault> {
     let frame = Frame {
         at: words.at.map(Step::new),
         shown: words.shown,
     };
-    let (agents, mode) = (words.agents, words.mode);
+    let Ok(buffered) = BufWriter::new(alloc, io::writer(rt)) else {
+        return Err(CheckFault::OutOfMemory);
+    };
     let mut writer = Spout::new(buffered);
-    let ended = run_draw(
-        rt,
-        alloc,
-        texts.map.unwrap_or(b""),
-        texts.scen,
-        agents,
-        mode,
-        courses_of(words, texts.journal),
-        &frame,
-        WORKERS,
-        &mut writer,
-    );
-    match ended {
-        Ok(()) => match finish(alloc, Ok(()), texts, writer.into_inner(), more) {
-            Ok(()) => Ok(()),
-            Err(fault) => Err(CheckFault::Run(fault)),
-        },
-        Err(fault) => {
-            let text = texts.journal.unwrap_or(b"");
-            more.put(more_of_check(alloc, &fault, texts, text));
-            Err(fault)
-        }
-    }
+    let problem = problem_of(texts, words.agents, words.mode);
+    let courses = courses_of(words, texts.journal);
+    let ended = run_draw(rt, alloc, problem, courses, &frame, WORKERS, &mut writer);
+    finish(alloc, ended, texts, writer, more)
 }

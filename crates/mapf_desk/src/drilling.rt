@@ -1,5 +1,5 @@
 //! The word `drill`.
-use crate::details::Texts;
+use crate::details::{Texts, problem_of};
 use crate::files::file_bytes;
 use crate::finishing::finish;
 use crate::named::read_files;
@@ -9,9 +9,8 @@ use crate::telling::More;
 use desk_report::Spout;
 use desk_runs::{Fault, RunFault, hear_drill};
 use desk_words::DrillWords;
-use std::alloc::Global;
 use std::io;
-use std::io::{BufWriter, Write};
+use std::io::BufWriter;
 use std::rt::Files;
 use std::sync::Wait;
 use std::thread::Threads;
@@ -97,34 +96,11 @@ fn drill_counted<R: AllocGlobal + Print + Threads + Wait + Sync>(
         drop(scripts);
         return Err(RunFault::OutOfMemory);
     };
-    let ended = drill_texts(rt, alloc, texts, scripts, words, &tallies, buffered, more);
+    let mut writer = Spout::new(buffered);
+    let problem = problem_of(texts, Some(words.agents), words.mode);
+    let workers = words.workers.clamp(1, 64);
+    let drilled = hear_drill(rt, alloc, problem, workers, scripts, &tallies, &mut writer);
+    let ended = finish(alloc, drilled, texts, writer, more);
     more.served(tallies.lines(alloc, words.scripts.as_slice()).ok());
     ended
-}
-
-// Runs a drill of the texts onto a writer.
-fn drill_texts<R: Threads + Wait + Sync, O: Write + Drop>(
-    rt: &R,
-    alloc: Global,
-    texts: Texts<'_>,
-    scripts: Vec<Vec<u8>>,
-    words: &DrillWords<'_>,
-    tallies: &Tallies,
-    buffered: BufWriter<O>,
-    more: &mut More,
-) -> Result<bool, RunFault> {
-    let mut writer = Spout::new(buffered);
-    let ended = hear_drill(
-        rt,
-        alloc,
-        texts.map.unwrap_or(b""),
-        texts.scen,
-        words.agents,
-        words.mode,
-        words.workers.clamp(1, 64),
-        scripts,
-        tallies,
-        &mut writer,
-    );
-    finish(alloc, ended, texts, writer.into_inner(), more)
 }

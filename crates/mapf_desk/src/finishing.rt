@@ -1,6 +1,7 @@
 //! The end of a run whose report is in a buffer.
-use crate::details::{Texts, more_of};
+use crate::details::{Detailed, Texts};
 use crate::telling::More;
+use desk_report::Spout;
 use desk_runs::RunFault;
 use std::alloc::Global;
 use std::io::{BufWriter, Write};
@@ -10,15 +11,16 @@ use std::io::{BufWriter, Write};
 /// # Errors
 ///
 /// The run's fault, or the writer's.
-pub fn finish<T: Drop, O: Write + Drop>(
+pub fn finish<T: Drop, F: Detailed + From<RunFault> + Drop, O: Write + Drop>(
     alloc: Global,
-    ended: Result<T, RunFault>,
+    ended: Result<T, F>,
     texts: Texts<'_>,
-    mut buffered: BufWriter<O>,
+    writer: Spout<BufWriter<O>>,
     more: &mut More,
-) -> Result<T, RunFault> {
+) -> Result<T, F> {
+    let mut buffered = writer.into_inner();
     if let Err(fault) = &ended {
-        more.put(more_of(alloc, fault, texts));
+        more.put(fault.more(alloc, texts));
     }
     match ended {
         Err(fault) => Err(fault),
@@ -26,7 +28,7 @@ pub fn finish<T: Drop, O: Write + Drop>(
             Ok(()) => Ok(value),
             Err(why) => {
                 more.reason(alloc, &why);
-                Err(RunFault::WriteFailed)
+                Err(F::from(RunFault::WriteFailed))
             }
         },
     }

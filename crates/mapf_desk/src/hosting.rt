@@ -1,6 +1,6 @@
 //! The word `host`.
 use crate::DIFFERS;
-use crate::details::more_of;
+use crate::details::{Detailed, problem_of};
 use crate::faults::ProgramFault;
 use crate::named::read_named;
 use crate::saving::save_named;
@@ -14,7 +14,7 @@ use std::process::ExitCode;
 use std::rt::Files;
 use std::sync::Wait;
 use std::thread;
-use std::thread::{Scope, Threads};
+use std::thread::Threads;
 
 /// Hosts planners of other processes on one desk, as the words ask for, and the operator at standard
 /// input and output, until all their inputs have ended; saves the desk's journal where they ask for
@@ -111,15 +111,12 @@ fn open_named<'a, R: Files + AllocGlobal>(
     let texts = named.texts();
     let opened = open_desk(
         rt.alloc(),
-        texts.map.unwrap_or(b""),
-        texts.scen,
-        words.desk.agents,
+        problem_of(texts, Some(words.desk.agents), words.desk.mode),
         limit_of(&words.desk),
-        words.desk.mode,
         texts.journal,
     );
     if let Err(fault) = &opened {
-        more.put(more_of(rt.alloc(), fault, texts));
+        more.put(fault.more(rt.alloc(), texts));
     }
     drop(named);
     match opened {
@@ -128,41 +125,9 @@ fn open_named<'a, R: Files + AllocGlobal>(
     }
 }
 
-// Hosts the planners, who may take as long to come as the words say.
+// Hosts the planners until all have ended, who may take as long to come as the words say: a thread
+// sees to those who don't come in time.
 fn host_all<R: AllocGlobal + Threads + Wait + Sync>(
-    rt: &R,
-    desk: Desk,
-    pipes: &Pipes<'_>,
-    words: &HostWords<'_>,
-) -> Result<HostEnd, HostFault> {
-    let Some(seconds) = words.wait else {
-        return host_seated(rt, desk, pipes, words);
-    };
-    thread::scope(thread::scope_env(), rt, move |scope| {
-        host_timed(rt, scope, desk, pipes, words, seconds)
-    })
-}
-
-// Hosts the planners, while a thread sees to those who don't come in time.
-fn host_timed<'s, E: 's, R: AllocGlobal + Threads + Wait + Sync>(
-    rt: &'s R,
-    scope: &'s Scope<'s, E>,
-    desk: Desk,
-    pipes: &'s Pipes<'s>,
-    words: &HostWords<'_>,
-    seconds: u32,
-) -> Result<HostEnd, HostFault> {
-    let Ok(keeper) = scope.spawn(move || pipes.wait(rt, seconds)) else {
-        drop(desk);
-        return Err(HostFault::OutOfMemory);
-    };
-    let ended = host_seated(rt, desk, pipes, words);
-    keeper.join(rt);
-    ended
-}
-
-// Hosts the planners until all have ended.
-fn host_seated<R: AllocGlobal + Threads + Wait + Sync>(
     rt: &R,
     desk: Desk,
     pipes: &Pipes<'_>,
@@ -172,6 +137,17 @@ fn host_seated<R: AllocGlobal + Threads + Wait + Sync>(
         drop(desk);
         return Err(HostFault::TooManyPlanners);
     };
-    let workers = words.workers.clamp(1, 64);
-    host_planners(rt, rt.alloc(), desk, pipes, planners, workers)
+    let workers = words.workers;
+    let Some(seconds) = words.wait else {
+        return host_planners(rt, rt.alloc(), desk, pipes, planners, workers.clamp(1, 64));
+    };
+    thread::scope(thread::scope_env(), rt, move |scope| {
+        let Ok(keeper) = scope.spawn(move || pipes.wait(rt, seconds)) else {
+            drop(desk);
+            return Err(HostFault::OutOfMemory);
+        };
+        let ended = host_planners(rt, rt.alloc(), desk, pipes, planners, workers.clamp(1, 64));
+        keeper.join(rt);
+        ended
+    })
 }

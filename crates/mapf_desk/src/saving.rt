@@ -20,10 +20,20 @@ pub fn look_ahead<'a, R: Files + AllocGlobal>(
     file: &'a str,
     more: &mut More,
 ) -> Result<(), Fault<'a>> {
-    match is_ready(rt, file) {
+    told(rt.alloc(), is_ready(rt, file), file, more)
+}
+
+// Whether something was done with the file that is to be written; more is known of why it wasn't.
+fn told<'a>(
+    alloc: Global,
+    done: Done<()>,
+    file: &'a str,
+    more: &mut More,
+) -> Result<(), Fault<'a>> {
+    match done {
         Ok(()) => Ok(()),
         Err(why) => {
-            more.reason(rt.alloc(), &why);
+            more.reason(alloc, &why);
             Err(Fault::CannotWrite { file })
         }
     }
@@ -55,13 +65,7 @@ pub fn save_journal<'a, R: Files + AllocGlobal>(
             }
         },
     };
-    match saved {
-        Ok(()) => Ok(()),
-        Err(why) => {
-            more.reason(rt.alloc(), &why);
-            Err(Fault::CannotWrite { file })
-        }
-    }
+    told(rt.alloc(), saved, file, more)
 }
 
 /// Saves a desk's journal as `save_journal` does, where a file for it is named.
@@ -77,10 +81,7 @@ pub fn save_named<'a, R: Files + AllocGlobal>(
 ) -> Result<(), Fault<'a>> {
     match file {
         None => Ok(()),
-        Some(file) => match save_journal(rt, desk, file, more) {
-            Ok(()) => Ok(()),
-            Err(fault) => Err(fault),
-        },
+        Some(file) => save_journal(rt, desk, file, more),
     }
 }
 

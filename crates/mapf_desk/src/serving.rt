@@ -1,5 +1,5 @@
 //! The word `serve`.
-use crate::details::{Texts, more_of};
+use crate::details::{Detailed, Texts};
 use crate::named::read_named;
 use crate::saving::save_named;
 use crate::streams::{Answers, Lines, Outlet};
@@ -39,7 +39,7 @@ pub fn serve_streams<'a, R: Files + AllocGlobal + Print + Eprint + Input>(
     if let Some(fault) = &fault {
         match why {
             Some(why) => more.reason(alloc, &why),
-            None => more.put(more_of(alloc, fault, named.texts())),
+            None => more.put(fault.more(alloc, named.texts())),
         }
     }
     let mut unsaved = More::none();

@@ -1,5 +1,5 @@
 ghost use Rattle.std.specs.Prelude.{◌≡◌};
-ghost use Rattle.desk_runs.specs.CheckFaults.{of_paths, of_run};
+ghost use Rattle.desk_runs.specs.CheckFaults.{of_run};
 
 use crate::faults::RunFault;
 use desk_lines::solver_paths::PathsFault;
@@ -17,13 +17,13 @@ pub enum CheckFault {
     #[error("{0}")]
     Run(RunFault),
     /// The agent isn't taken, with the start and the goal that the text tells.
-    #[error("paths: agent {}: {}", .agent.number(), word_of(*.why))]
+    #[error("paths: agent {}: {}", .agent.number(), fault_word(*.why))]
     Agent {
         agent: Agent,
         why: EditFault,
     },
     /// The agent's path isn't taken; the time, in steps, is that of the first cell that is why.
-    #[error("paths: agent {} at time {time}: {}", .agent.number(), word_of(*.why))]
+    #[error("paths: agent {} at time {time}: {}", .agent.number(), fault_word(*.why))]
     Path {
         agent: Agent,
         time: usize,
@@ -34,17 +34,6 @@ pub enum CheckFault {
     WriteFailed,
     #[error("out of memory")]
     OutOfMemory,
-}
-
-impl From<PathsFault> for CheckFault {
-    ghost from_gives = { λ why fault. fault ≡ of_paths why };
-
-    fn from(fault: PathsFault) -> CheckFault {
-        match fault {
-            PathsFault::OutOfMemory => CheckFault::OutOfMemory,
-            fault => CheckFault::Paths(fault),
-        }
-    }
 }
 
 impl From<RunFault> for CheckFault {
@@ -58,8 +47,8 @@ impl From<RunFault> for CheckFault {
     }
 }
 
-// The word of a session for the fault of an edit.
-fn word_of(why: EditFault) -> &'static str {
+/// The word of a session for the fault of an edit.
+pub fn fault_word(why: EditFault) -> &'static str {
     match why {
         EditFault::UnknownAgent => "unknown-agent",
         EditFault::AgentTaken => "agent-taken",

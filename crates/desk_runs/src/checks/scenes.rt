@@ -10,10 +10,9 @@ ghost use Rattle.desk_runs.specs.Opens.{bytes_of};
 use crate::checks::edits::edits_of;
 use crate::checks::faults::CheckFault;
 use crate::checks::times::time_of;
-use crate::scenes::scene_of;
-use desk_lines::solver_paths::{Form, SolverPaths, read_paths};
+use crate::scenes::{Problem, scene_of};
+use desk_lines::solver_paths::{Form, PathsFault, SolverPaths, read_paths};
 use grid_cells::{Agent, OutOfMemory, Size};
-use plan_table::Mode;
 use scene_edits::{Edit, EditFault, EditsFault, MOST_AGENTS, Scene};
 use std::alloc::Global;
 
@@ -71,8 +70,7 @@ fn too_many() -> CheckFault
     }
 }
 
-/// The scene of a map and the first tasks of a scenario, with the paths of a text and, where there
-/// is no scenario, their agents.
+/// The scene of a problem, with the paths of a text and, where there is no scenario, their agents.
 ///
 /// # Errors
 ///
@@ -80,34 +78,36 @@ fn too_many() -> CheckFault
 /// or want of memory.
 pub(crate) fn planned_scene(
     alloc: Global,
-    map: &[u8],
-    scen: Option<&[u8]>,
-    agents: Option<u32>,
-    mode: Mode,
+    problem: Problem<'_>,
     paths: &[u8],
     form: Option<Form>,
 ) -> Result<Scene, CheckFault>
-    ensures ok { IfOk result (IsPlanned map.now (bytes_of scen.entry) agents mode paths.now form) }
-    ensures err { IfErr result (IsPlanFault map.now (bytes_of scen.entry) agents mode paths.now form) }
+    ensures ok { IfOk result (IsPlanned problem.entry.map.now (bytes_of problem.entry.scen) problem.entry.agents problem.entry.mode paths.now form) }
+    ensures err { IfErr result (IsPlanFault problem.entry.map.now (bytes_of problem.entry.scen) problem.entry.agents problem.entry.mode paths.now form) }
 {
     let spelled = match read_paths(alloc, paths, form) {
         Ok(spelled) => spelled,
-        Err(fault) => return Err(CheckFault::from(fault)),
+        Err(PathsFault::OutOfMemory) => return Err(CheckFault::OutOfMemory),
+        Err(fault) => return Err(CheckFault::Paths(fault)),
     };
     let many = spelled.paths.items().len();
     if many > MOST_AGENTS as usize {
         drop(spelled);
         return Err(too_many());
     }
-    let tasks = agents.unwrap_or(many as u32);
-    let mut scene = match scene_of(alloc, map, scen, tasks, mode) {
+    let tasks = problem.agents.unwrap_or(many as u32);
+    let counted = Problem {
+        agents: Some(tasks),
+        ..problem
+    };
+    let mut scene = match scene_of(alloc, counted) {
         Ok(scene) => scene,
         Err(fault) => {
             drop(spelled);
             return Err(CheckFault::from(fault));
         }
     };
-    match plan(alloc, &mut scene, spelled, scen.is_none()) {
+    match plan(alloc, &mut scene, spelled, problem.scen.is_none()) {
         Ok(()) => Ok(scene),
         Err(fault) => {
             drop(scene);

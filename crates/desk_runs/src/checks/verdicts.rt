@@ -8,10 +8,10 @@ use crate::auditing::report_of;
 use crate::checks::faults::CheckFault;
 use crate::checks::scenes::planned_scene;
 use crate::checks::texts::put_check;
+use crate::scenes::Problem;
 use desk_lines::solver_paths::Form;
 use desk_report::{Kinds, Report, Sink, WriteFailed};
 use grid_cells::OutOfMemory;
-use plan_table::Mode;
 use std::alloc::Global;
 use std::sync::Wait;
 use std::thread::Threads;
@@ -36,10 +36,7 @@ fn solves(report: &Report, kinds: Kinds) -> bool
 pub fn run_check<T: Threads + Wait, W: Sink>(
     rt: &T,
     alloc: Global,
-    map: &[u8],
-    scen: Option<&[u8]>,
-    agents: Option<u32>,
-    mode: Mode,
+    problem: Problem<'_>,
     paths: &[u8],
     form: Option<Form>,
     kinds: Kinds,
@@ -48,12 +45,13 @@ pub fn run_check<T: Threads + Wait, W: Sink>(
     writer: &mut W,
 ) -> Result<bool, CheckFault>
     requires workers { (1 ≤ workers) × (workers ≤ 64) }
-    ensures ok { IfOk result (Checks map.now (bytes_of scen.entry) agents mode paths.now form kinds quiet (W.held writer.old) (W.held writer.new)) }
-    ensures err { IfErr result (IsCheckFault map.now (bytes_of scen.entry) agents mode paths.now form) }
+    ensures ok { IfOk result (Checks problem.entry.map.now (bytes_of problem.entry.scen) problem.entry.agents problem.entry.mode
+        paths.now form kinds quiet (W.held writer.old) (W.held writer.new)) }
+    ensures err { IfErr result (IsCheckFault problem.entry.map.now (bytes_of problem.entry.scen) problem.entry.agents problem.entry.mode paths.now form) }
     ensures broken { W.broken writer.new ≡ (W.broken writer.old || has_write_failed result) }
     ensures silent { IfErr result (λ fault. fault ≢ CheckFault.WriteFailed → W.held writer.new ≡ W.held writer.old) }
 {
-    let scene = match planned_scene(alloc, map, scen, agents, mode, paths, form) {
+    let scene = match planned_scene(alloc, problem, paths, form) {
         Ok(scene) => scene,
         Err(fault) => return Err(fault),
     };

@@ -1,8 +1,7 @@
-use Rattle.std.proofs.Common.{rules, ◌≡◌, ◌<◌, ◌+◌, length, arith, ap, ◌∙◌, Ok, Err, inl, inr}
+use Rattle.std.proofs.Common.{rules, ◌≡◌, ◌+◌, length, ap, ◌∙◌, Ok, Err, inl, inr}
 use Rattle.std.proofs.lemmas.Result.{on_ok_weaker}
-use Rattle.desk_shared.specs.Passes.{PassState, Held}
 use Rattle.desk_runs.specs.Drills.{texts_of}
-use Rattle.desk_runs.proofs.Numbering.{keeps_some, least_is_first, split_keeps}
+use Rattle.desk_runs.proofs.Numbering.{may_give, may_still_split, is_given}
 use Rattle.desk_runs.proofs.ScriptSessions.{served, served_on, still_for}
 use Rattle.desk_runs.proofs.ScriptFaults.{has_ended, later_fault, on_err}
 use Rattle.desk_runs.proofs.Gathering.{split_gathered, join_gathered, own_kept, one_more_joined}
@@ -10,20 +9,11 @@ use Rattle.desk_runs.proofs.scripts.+serve_all.Goals as goal
 
 pub unreachable-requires : goal.unreachable-requires
 unreachable-requires g t c =
-    let some : c.args.number + 1 < c.args.number + length c.args.scripts.now + 1 = omega (arith, c.in-Some.ensures.cases.1) in
-    keeps_some _ _ c.args.first.now.known c.requires.first.kept some c.in_default-split.ensures.fault.0
+    may_give _ _ _ _ _ c.requires.first c.in-Some.ensures.cases.1 c.in_default-split.ensures.fault.0
 
 pub serve_all-others-requires-clause-first : goal.serve_all-others-requires-clause-first
 serve_all-others-requires-clause-first g t c κs within =
-    let planners : c.args.number + length c.args.scripts.now + 1 ≡ c.args.number + 1 + length c.in-Some.later.now + 1 = omega (arith, c.in-Some.ensures.cases.1) in
-    let some : c.args.number + 1 < c.args.number + length c.args.scripts.now + 1 = omega (arith, c.in-Some.ensures.cases.1) in
-    record {
-      owned = search rules;
-      few = omega (arith, c.in-Some.ensures.cases.1);
-      kept = split_keeps _ _ _ c.args.first.now.known c.split.new.pass.known c.in-Ok.pass.known planners some c.requires.first.kept c.in-Ok.ensures.split;
-      nothing_seen = search rules;
-      none_joined = search rules;
-    }
+    may_still_split c.args.desk.now _ _ _ _ c.requires.first c.in-Some.ensures.cases.1 c.split.new.pass _ c.in-Ok.ensures.split (search rules)
 
 pub returns-in-Ok-ended-clause-gathered : goal.returns-in-Ok-ended-clause-gathered
 returns-in-Ok-ended-clause-gathered g t c =
@@ -31,19 +21,13 @@ returns-in-Ok-ended-clause-gathered g t c =
 
 pub returns-in-Ok-ended-clause-refused : goal.returns-in-Ok-ended-clause-refused
 returns-in-Ok-ended-clause-refused g t c =
-    let some : c.args.number + 1 < c.args.number + length c.args.scripts.now + 1 = omega (arith, c.in-Some.ensures.cases.1) in
-    let split = c.in-Ok.ensures.split in
-    let child = c.in-Ok-begin.ensures in
-    let start : c.split.new.pass.known.start ≡ c.args.first.now.known.start = λ i. (split.given i).start in
-    let before = ap (λ (h : Held). h.known) child.before in
-    let whole = child.text ∙ c.as_slice-text.ensures.value in
-    let onto = child.desk in
-    let number : c.in-Ok.pass.known.planner ≡ c.args.number + 1 = least_is_first _ _ c.args.first.now.known _ c.requires.first.kept some split.number in
+    let given = is_given _ _ _ _ _ c.requires.first c.in-Some.ensures.cases.1 _ _ _ c.in-Ok.ensures.split c.in-Ok-begin.ensures.before in
+    let start : c.split.new.pass.known.start ≡ c.args.first.now.known.start = λ i. (c.in-Ok.ensures.split.given i).start in
     let here =
-    has_ended c.in-Ok-begin.child.promise.desk.now c.args.first.now.known.start (c.args.number + 1) c.in-Some.script.now.items c.in-Ok-begin.child.promise.text.now _ c.in-Ok.pass.known
-    c.join-pass.result.0.known c.join-pass.result.1 (Ok c.in-Ok-ended.field-0) before split.start (split.made ∙ c.requires.first.nothing_seen) number whole c.in-Ok-ended.is c.join-pass.ensures.1 in
+    has_ended c.in-Ok-begin.child.promise.desk.now c.args.first.now.known.start (c.args.number + 1) c.in-Some.script.now.items c.in-Ok-begin.child.promise.text.now _
+    c.join-pass.result.0.known c.join-pass.result.1 (Ok c.in-Ok-ended.field-0) given (c.in-Ok-begin.ensures.text ∙ c.as_slice-text.ensures.value) c.in-Ok-ended.is c.join-pass.ensures.1 in
     on_err c.serve_all-others.result _ _
-    (λ fault more. rw (ap texts_of c.in-Some.ensures.cases.0) (later_fault c.args.desk.now c.args.first.now.known.start (c.args.number + 1) c.in-Some.script.now.items (texts_of c.in-Some.later.now) fault (c.in-Ok-ended.field-0, rw onto at here) (rw start at more)))
+    (λ fault more. rw (ap texts_of c.in-Some.ensures.cases.0) (later_fault c.args.desk.now c.args.first.now.known.start (c.args.number + 1) c.in-Some.script.now.items (texts_of c.in-Some.later.now) fault (c.in-Ok-ended.field-0, rw c.in-Ok-begin.ensures.desk at here) (rw start at more)))
     c.serve_all-others.ensures.refused
 
 pub returns-in-Err-clause-gathered : goal.returns-in-Err-clause-gathered
@@ -52,39 +36,26 @@ returns-in-Err-clause-gathered g t c =
 
 pub returns-in-Err-clause-refused : goal.returns-in-Err-clause-refused
 returns-in-Err-clause-refused g t c =
-    let some : c.args.number + 1 < c.args.number + length c.args.scripts.now + 1 = omega (arith, c.in-Some.ensures.cases.1) in
-    let split = c.in-Ok.ensures.split in
-    let child = c.in-Ok-begin.ensures in
-    let start : c.split.new.pass.known.start ≡ c.args.first.now.known.start = λ i. (split.given i).start in
-    let before = ap (λ (h : Held). h.known) child.before in
-    let whole = child.text ∙ c.as_slice-text.ensures.value in
-    let onto = child.desk in
-    let number : c.in-Ok.pass.known.planner ≡ c.args.number + 1 = least_is_first _ _ c.args.first.now.known _ c.requires.first.kept some split.number in
+    let given = is_given _ _ _ _ _ c.requires.first c.in-Some.ensures.cases.1 _ _ _ c.in-Ok.ensures.split c.in-Ok-begin.ensures.before in
     let here =
-    has_ended c.in-Ok-begin.child.promise.desk.now c.args.first.now.known.start (c.args.number + 1) c.in-Some.script.now.items c.in-Ok-begin.child.promise.text.now _ c.in-Ok.pass.known
-    c.join-pass.result.0.known c.join-pass.result.1 (Err c.in-Err.fault) before split.start (split.made ∙ c.requires.first.nothing_seen) number whole c.in-Err.is c.join-pass.ensures.1 in
-    rw (ap texts_of c.in-Some.ensures.cases.0) (inr (inl (c.in-Err.fault, rw onto at here, c.from.ensures)))
+    has_ended c.in-Ok-begin.child.promise.desk.now c.args.first.now.known.start (c.args.number + 1) c.in-Some.script.now.items c.in-Ok-begin.child.promise.text.now _
+    c.join-pass.result.0.known c.join-pass.result.1 (Err c.in-Err.fault) given (c.in-Ok-begin.ensures.text ∙ c.as_slice-text.ensures.value) c.in-Err.is c.join-pass.ensures.1 in
+    rw (ap texts_of c.in-Some.ensures.cases.0) (inr (inl (c.in-Err.fault, rw c.in-Ok-begin.ensures.desk at here, c.from.ensures)))
 
 pub returns-in-Ok-ended-clause-served : goal.returns-in-Ok-ended-clause-served
 returns-in-Ok-ended-clause-served g t c =
-    let some : c.args.number + 1 < c.args.number + length c.args.scripts.now + 1 = omega (arith, c.in-Some.ensures.cases.1) in
-    let split = c.in-Ok.ensures.split in
+    let given = is_given _ _ _ _ _ c.requires.first c.in-Some.ensures.cases.1 _ _ _ c.in-Ok.ensures.split c.in-Ok-begin.ensures.before in
+    let start : c.split.new.pass.known.start ≡ c.args.first.now.known.start = λ i. (c.in-Ok.ensures.split.given i).start in
     let joined = c.join.ensures.joined in
-    let child = c.in-Ok-begin.ensures in
-    let start : c.split.new.pass.known.start ≡ c.args.first.now.known.start = λ i. (split.given i).start in
-    let before = ap (λ (h : Held). h.known) child.before in
-    let whole = child.text ∙ c.as_slice-text.ensures.value in
-    let onto = child.desk in
-    let number : c.in-Ok.pass.known.planner ≡ c.args.number + 1 = least_is_first _ _ c.args.first.now.known _ c.requires.first.kept some split.number in
-    let numbered : c.join-pass.result.0.known.planner ≡ c.args.number + 1 = still_for _ _ _ _ _ c.join-pass.ensures.1 ∙ ap (λ (p : PassState). p.planner) before ∙ number in
+    let numbered : c.join-pass.result.0.known.planner ≡ c.args.number + 1 = still_for _ _ _ _ _ c.join-pass.ensures.1 ∙ given.number in
     let here =
-    served c.args.first.now.known.start c.join.new.pass.known.made (c.args.number + 1) c.in-Ok-ended.field-0 c.in-Some.script.now.items c.in-Ok-begin.child.promise.text.now c.in-Ok-begin.child.promise.desk.now _ c.in-Ok.pass.known
-    c.join-pass.result.0.known c.join-pass.result.1 before split.start (split.made ∙ c.requires.first.nothing_seen) number whole c.in-Ok-ended.is c.join-pass.ensures.1 joined.others joined.own_of_other in
+    served c.args.first.now.known.start c.join.new.pass.known.made (c.args.number + 1) c.in-Ok-ended.field-0 c.in-Some.script.now.items c.in-Ok-begin.child.promise.text.now c.in-Ok-begin.child.promise.desk.now _
+    c.join-pass.result.0.known c.join-pass.result.1 given (c.in-Ok-begin.ensures.text ∙ c.as_slice-text.ensures.value) c.in-Ok-ended.is c.join-pass.ensures.1 joined.others joined.own_of_other in
     on_ok_weaker c.serve_all-others.result
     (λ all. rw (ap texts_of c.in-Some.ensures.cases.0) (
       one_more_joined _ _ _ joined (c.args.number + 1) (length (texts_of c.in-Some.later.now)) numbered all.0,
       (
-        rw onto at here,
+        rw c.in-Ok-begin.ensures.desk at here,
         served_on c.args.desk.now c.args.first.now.known.start c.serve_all-others.new.first.known.made c.join.new.pass.known.made joined.seen (c.args.number + 1 + 1) (texts_of c.in-Some.later.now)
             (λ number low high. own_kept _ _ _ joined c.serve_all-others.ensures.gathered.kept number (all.0 number low high))
             (rw start at all.1),

@@ -1,8 +1,8 @@
-use Rattle.std.proofs.Common.{rules, ◌≡◌, ◌+◌, ◌<◌, length, arith, refl}
+use Rattle.std.proofs.Common.{rules, ◌≡◌, ◌+◌, refl}
 use Rattle.desk_runs.specs.Hosts.{IsEnded}
 use Rattle.desk_runs.proofs.Joining.{none_hosted, one_more_hosted}
 use Rattle.desk_runs.proofs.Sitting.{as_promised}
-use Rattle.desk_runs.proofs.Numbering.{keeps_some, least_is_first, split_keeps}
+use Rattle.desk_runs.proofs.Numbering.{may_give, next_number, may_still_split}
 use Rattle.desk_runs.proofs.hosts.threads.+host_all.Goals as goal
 use Rattle.desk_runs.proofs.hosts.threads.+host_all.Goals.{in-Ok-sitting, in-Err}
 
@@ -12,26 +12,16 @@ returns-in_default-clause-hosted g t c =
 
 pub unreachable-requires : goal.unreachable-requires
 unreachable-requires g t c =
-    let some : c.args.number + 1 < c.args.number + length c.args.outcomes.now + 1 = omega (arith, c.in-Some.ensures.cases.1) in
-    keeps_some _ _ c.args.first.known c.requires.first.kept some c.in_default-split.ensures.fault.0
+    may_give _ _ _ _ _ c.requires.first c.in-Some.ensures.cases.1 c.in_default-split.ensures.fault.0
 
 pub host_all-first-requires-clause-first : goal.host_all-first-requires-clause-first
 host_all-first-requires-clause-first g t c κs within =
-    let planners : c.args.number + length c.args.outcomes.now + 1 ≡ c.args.number + 1 + length c.in-Some.later.now + 1 = omega (arith, c.in-Some.ensures.cases.1) in
-    let some : c.args.number + 1 < c.args.number + length c.args.outcomes.now + 1 = omega (arith, c.in-Some.ensures.cases.1) in
-    record {
-      owned = search rules;
-      few = omega (arith, c.in-Some.ensures.cases.1);
-      kept = split_keeps _ _ _ c.args.first.known c.split.new.pass.known c.in-Ok.pass.known planners some c.requires.first.kept c.in-Ok.ensures.split;
-      nothing_seen = search rules;
-      none_joined = search rules;
-    }
+    may_still_split c.args.desk.now _ _ _ _ c.requires.first c.in-Some.ensures.cases.1 c.split.new.pass _ c.in-Ok.ensures.split (search rules)
 
 pub returns-clause-hosted : goal.returns-clause-hosted
 returns-clause-hosted g t c =
-    let some : c.args.number + 1 < c.args.number + length c.args.outcomes.now + 1 = omega (arith, c.in-Some.ensures.cases.1) in
     let split = c.in-Ok.ensures.split in
-    let number : c.in-Ok.pass.known.planner ≡ c.args.number + 1 = least_is_first _ _ c.args.first.known _ c.requires.first.kept some split.number in
+    let number : c.in-Ok.pass.known.planner ≡ c.args.number + 1 = next_number _ _ _ _ _ c.requires.first c.in-Some.ensures.cases.1 _ split.number in
     let ends : IsEnded c.args.desk.now (g.S.Seats.inputs c.args.seats.now (c.args.number + 1)) c.in-Ok.pass c.match-sitting.pass.0 c.match-sitting.pass.1 =
     elim c.match-sitting.branch [
       | in-Ok-sitting w ↦ as_promised c.args.desk.now _ (g.S.Seats.inputs c.args.seats.now (c.args.number + 1)) _ c.in-Ok.pass _ c.match-sitting.pass w.join.result
