@@ -1,5 +1,6 @@
 ghost use Rattle.std.specs.Prelude.{◌≡◌, ◌≢◌, [], ◌∷◌, length, MatchOption, MatchResult};
-ghost use Rattle.bench_reader.specs.Words.{words_of};
+ghost use Rattle.std.specs.Option.{ok_or};
+ghost use Rattle.bench_reader.specs.Words.{words_of, number_of};
 ghost use Rattle.bench_reader.specs.ScenText.{AreFields};
 ghost use Rattle.bench_reader.specs.ScenFaults.{IsBadField};
 
@@ -62,40 +63,26 @@ pub(crate) fn task_words(line: &[u8]) -> Option<TaskWords<'_>>
     })
 }
 
+// The number in the word of a field, or which field it is.
+fn number_in(word: &[u8], field: usize) -> Result<u32, usize>
+    ensures { result ≡ ok_or (number_of word.now) field }
+{
+    number_of(word).ok_or(field)
+}
+
 /// The numbers in the words, or the first field, counted from 1, that should be one and isn't.
 pub(crate) fn fields_of(w: &TaskWords<'_>) -> Result<Fields, usize>
     ensures { let words = w.now.bucket.now ∷ w.now.map.now ∷ w.now.width.now ∷ w.now.height.now
         ∷ w.now.start_x.now ∷ w.now.start_y.now ∷ w.now.goal_x.now ∷ w.now.goal_y.now ∷ w.now.optimal.now ∷ []
         in MatchResult result (AreFields words) (IsBadField words) }
 {
-    let Some(bucket) = number_of(w.bucket) else {
-        return Err(1);
-    };
-    let Some(width) = number_of(w.width) else {
-        return Err(3);
-    };
-    let Some(height) = number_of(w.height) else {
-        return Err(4);
-    };
-    let Some(start_x) = number_of(w.start_x) else {
-        return Err(5);
-    };
-    let Some(start_y) = number_of(w.start_y) else {
-        return Err(6);
-    };
-    let Some(goal_x) = number_of(w.goal_x) else {
-        return Err(7);
-    };
-    let Some(goal_y) = number_of(w.goal_y) else {
-        return Err(8);
-    };
     Ok(Fields {
-        bucket,
-        width,
-        height,
-        start_x,
-        start_y,
-        goal_x,
-        goal_y,
+        bucket: number_in(w.bucket, 1)?,
+        width: number_in(w.width, 3)?,
+        height: number_in(w.height, 4)?,
+        start_x: number_in(w.start_x, 5)?,
+        start_y: number_in(w.start_y, 6)?,
+        goal_x: number_in(w.goal_x, 7)?,
+        goal_y: number_in(w.goal_y, 8)?,
     })
 }

@@ -85,11 +85,19 @@ pub record IsHeap (h : Heap) : Type 0 where
   pub ordered : IsOrdered h.keys.items h.len
   pub room : HasRoom h
 
--- the same cells with the same keys, in other places
+-- the same cells with the same keys, in other places, which they know
 pub record IsShuffled (old new : Heap) : Type 0 where
   pub size : new.size ≡ old.size
   pub len : new.len ≡ old.len
   pub keys : keys_in new ≡ keys_in old
+  pub synced : IsSyncedHeap new
+
+-- the cells and keys of old, in order but for the key at one place, which is on its way
+pub record IsMoving (Loose : List ℕ → ℕ → ℕ → Type 0) (old new : Heap) (at : ℕ) : Type 0 where
+  pub shuffled : IsShuffled old new
+  pub room : HasRoom new
+  pub inside : at < new.len
+  pub loose : Loose new.keys.items new.len at
 
 -- a heap as a queue
 abbrev pub queue_of : Heap → Queue

@@ -4,6 +4,7 @@ use Rattle.std.specs.List.{AllZip}
 use Rattle.std.proofs.lemmas.Bool.{cases_eq}
 use Rattle.std.proofs.Common.{◌≡◌, ℕ, ◌<◌, ◌≤◌, ◌⊎◌, List, [], ◌∷◌, Option, Some, None, length, map, get_or, refl, sym, ap, subst, ◌∙◌, inl, inr, arith}
 use Rattle.std.proofs.lemmas.List.{get_or-map}
+use Rattle.std.proofs.lemmas.List.Elements.{length_all_zip}
 use Rattle.std.proofs.lemmas.List.Edits.{length-insert}
 use Rattle.std.proofs.Math.ListN.{length-map}
 use Rattle.grid_cells.specs.Cell.{Point}
@@ -87,13 +88,19 @@ module _ (held : List Distances) (at : ℕ) (old new : Option Lifelong) (h : at 
       rest None left have = absurd (omega (arith, have, h))
       rest (Some room) left (_, on, all) = (left, on, All-remove (AreAtRest room.grid) held at h all)
 
--- the room's map becomes another one of that size, for all fields
-module _ (held : List Distances) (room : Lifelong) (have : HaveRoom held (Some room)) (grid : Chart) where
-  pub room_size : All (λ field. grid.size ≡ field.grid.size) (standings (Some room) held) → grid.size ≡ room.grid.size
-  room_size same = (of_one room.grid held (λ field. grid.size ≡ field.grid.size) have.0 same).1
+-- the room, which is there, gets another map of that size, for all fields
+module _ (held : List Distances) (inside : Option Lifelong) (room : Lifelong) (is : inside ≡ Some room) (kept : HaveRoom held inside) (grid : Chart) where
+  have : HaveRoom held (Some room)
+  have = subst (HaveRoom held) is kept
 
-  pub room_covered : (changed : List Point) → All (λ field. Covers changed field.grid grid) (standings (Some room) held) → Covers changed room.grid grid
-  room_covered changed covered = (of_one room.grid held (λ field. Covers changed field.grid grid) have.0 covered).1
+  pub AreAtRest-lent : All (AreAtRest room.grid) held
+  AreAtRest-lent = have.2
+
+  pub room_size : All (λ field. grid.size ≡ field.grid.size) (standings inside held) → grid.size ≡ room.grid.size
+  room_size same = (of_one room.grid held (λ field. grid.size ≡ field.grid.size) have.0 (rw is at same)).1
+
+  pub room_covered : (changed : List Point) → All (λ field. Covers changed field.grid grid) (standings inside held) → Covers changed room.grid grid
+  room_covered changed covered = (of_one room.grid held (λ field. Covers changed field.grid grid) have.0 (rw is at covered)).1
 
   pub IsRoomOn-adopt : grid.size ≡ room.grid.size → IsWhole grid → IsRoomOn grid (record room { grid = grid })
   IsRoomOn-adopt size whole =
@@ -107,16 +114,18 @@ module _ (held : List Distances) (room : Lifelong) (have : HaveRoom held (Some r
       }
 
   -- and they are repaired for it
-  pub HaveRoom-repaired : (new : List Distances) (now : Lifelong) → length new ≡ length held → All (AreAtRest grid) new → IsRoomOn grid now → HaveRoom new (Some now)
-  HaveRoom-repaired new now long rest on = (
-    omega (arith, have.0, long),
+  pub HaveRoom-repaired : (new : List Distances) (now : Lifelong) → AllZip (AreRepaired room.grid grid) held new → All (AreAtRest grid) new → IsRoomOn grid now → HaveRoom new (Some now)
+  HaveRoom-repaired new now each rest on = (
+    omega (arith, have.0, length_all_zip (AreRepaired room.grid grid) held new each),
     subst (λ (t : Chart). IsRoomOn t now) (sym on.map) on,
     subst (λ (t : Chart). All (AreAtRest t) new) (sym on.map) rest,
   )
 
--- distances that are repaired are fields that are repaired
-pub standings-repaired : (old grid : Chart) (before after : List Distances) → AllZip (AreRepaired old grid) before after → AllZip (IsRepaired grid) (map (standing_on old) before) (map (standing_on grid) after)
-standings-repaired old grid [] [] all = all
-standings-repaired old grid [] (y ∷ after) all = absurd all
-standings-repaired old grid (x ∷ before) [] all = absurd all
-standings-repaired old grid (x ∷ before) (y ∷ after) all = (all.0, standings-repaired old grid before after all.1)
+  pub standings-repaired : (new : List Distances) (now : Lifelong) → AllZip (AreRepaired room.grid grid) held new → IsRoomOn grid now → AllZip (IsRepaired grid) (standings inside held) (standings (Some now) new)
+  standings-repaired new now each on = rw (is, on.map) (go held new each)
+    where
+      go : (before after : List Distances) → AllZip (AreRepaired room.grid grid) before after → AllZip (IsRepaired grid) (map (standing_on room.grid) before) (map (standing_on grid) after)
+      go [] [] all = all
+      go [] (y ∷ after) all = absurd all
+      go (x ∷ before) [] all = absurd all
+      go (x ∷ before) (y ∷ after) all = (all.0, go before after all.1)

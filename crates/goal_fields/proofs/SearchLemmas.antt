@@ -1,4 +1,5 @@
 use Rattle.std.proofs.lemmas.Bool.Decides.{nat_tests}
+use Rattle.std.proofs.lemmas.Grind.{common_steps}
 use Rattle.std.specs.Prelude.{true, false, ◌==◌, slice_index, sum_by}
 use Rattle.std.proofs.lemmas.List.{get_or_read}
 use Rattle.std.proofs.Common.{get_or, ◌≡◌, ◌≢◌, ℕ, zero, suc, ◌+◌, ◌<◌, ◌≤◌, ◌⊎◌, List, [], ◌∷◌, length, refl, sym, ap, ◌∙◌, inl, inr, arith, get_or-set_same, get_or-set_other, add-one}
@@ -110,24 +111,8 @@ pub IsSearch-next : (grid : Chart) (goal : Point) (marks : List ℕ) (queue : Li
     ((c : Point) → IsAdjacent (slot queue goal head) c → IsOpen grid c → mark_at grid.size marks c ≤ mark_at grid.size marks (slot queue goal head) + 1) →
     IsSearch grid goal marks queue (head + 1) tail
 IsSearch-next grid goal marks queue head tail s lt near_front =
-    record {
-      sized = s.sized;
-      goal_held = s.goal_held;
-      whole = s.whole;
-      one_mark_each = s.one_mark_each;
-      one_slot_each = s.one_slot_each;
-      ordered = omega arith;
-      counted = s.counted;
-      inside = s.inside;
-      small = s.small;
-      sorted = s.sorted;
-      near = λ j h more. omega (arith, s.near j h lt, s.sorted head (head + 1) (omega arith) more);
-      placed = s.placed;
-      covered = below_more (λ i. (c : Point) → IsAdjacent (slot queue goal i) c → IsOpen grid c → mark_at grid.size marks c ≤ mark_at grid.size marks (slot queue goal i) + 1) head s.covered near_front;
-      walks = s.walks;
-      begun = s.begun;
-      bounded = s.bounded;
-    }
+    let covered = below_more (λ i. (c : Point) → IsAdjacent (slot queue goal i) c → IsOpen grid c → mark_at grid.size marks c ≤ mark_at grid.size marks (slot queue goal i) + 1) head s.covered near_front in
+    grind (arith, common_steps, covered, s.near, s.sorted head (head + 1))
 
 pub mark_of-front : (s : Search) → IsSearching s → s.head < s.tail → mark_of s (front_of s) + 1 < far
 mark_of-front s searching lt = grind (arith, searching.sized.cells_most, searching.small s.head lt, searching.counted)
@@ -176,24 +161,7 @@ pub IsSearch-closed : (grid : Chart) (goal : Point) (marks : List ℕ) (queue : 
 IsSearch-closed grid goal marks queue sized held whole m q all closed =
     let unmarked : (c : Point) → Holds grid.size c → mark_at grid.size marks c ≡ far =
     λ c h. all (flag_index grid.size c) (omega (arith, index_below grid.size c h, m)) in
-    record {
-      sized = sized;
-      goal_held = held;
-      whole = whole;
-      one_mark_each = m;
-      one_slot_each = q;
-      ordered = omega arith;
-      counted = omega (arith, sum_by-blank marks all);
-      inside = λ i h. absurd (omega arith);
-      small = λ i h. absurd (omega arith);
-      sorted = λ i j le h. absurd (omega arith);
-      near = λ j h lt. absurd (omega arith);
-      placed = λ c h below. absurd (omega (arith, unmarked c h));
-      covered = λ i h c adj o. absurd (omega arith);
-      walks = λ c h below. absurd (omega (arith, unmarked c h));
-      begun = λ o. absurd (closed o);
-      bounded = λ c h. omega (arith, unmarked c h);
-    }
+    grind (arith, common_steps, unmarked, sum_by-blank marks all, closed)
 
 -- a search that has begun at an open goal has the goal to deal with
 pub IsSearch-begin : (grid : Chart) (goal : Point) (marks : List ℕ) (queue : List Point) →

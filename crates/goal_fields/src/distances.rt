@@ -11,12 +11,10 @@ ghost use Rattle.goal_fields.specs.Rest.{IsAtRest, IsRoomOn};
 ghost use Rattle.goal_fields.specs.Standings.{AreAtRest, standing_on};
 
 use crate::lifelong::Lifelong;
+use crate::places::FAR;
 use crate::search::Search;
 use grid_cells::{Cell, Grid, OutOfMemory};
 use std::alloc::Global;
-
-// The number that is none.
-const FAR: u32 = u32::MAX;
 
 /// The distances to one goal on a map that stands elsewhere, and two counts of the cells that were taken
 /// for them: in the last repair, and in all.

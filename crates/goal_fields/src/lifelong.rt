@@ -12,14 +12,11 @@ ghost use Rattle.goal_fields.specs.Repair.{IsRhs};
 ghost use Rattle.goal_fields.specs.declared.lifelong.Lifelong.{Lifelong};
 ghost use Rattle.goal_fields.specs.Lifelong.{IsRoomy, IsGood, IsSameBut, IsInRepair, IsSettled, IsConsistent, IsTouched, KeepsTarget, g_of, count_over};
 
-use crate::places::{around, place_of};
+use crate::places::{FAR, around, place_of};
 use cell_queue::CellQueue;
 use grid_cells::{Cell, Grid, OutOfMemory};
 use std::alloc::Global;
 use std::mem;
-
-// The number that is none.
-const FAR: u32 = u32::MAX;
 
 // Distances to one goal that are mended by Lifelong Planning A* (Koenig, Likhachev, Furcy 2004), in
 // room that is made before.

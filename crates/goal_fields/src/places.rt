@@ -5,6 +5,9 @@ ghost use Rattle.cell_queue.specs.Queue.{area};
 
 use grid_cells::{Cell, Grid};
 
+// The number that is none: of a cell that no walk has come to.
+pub const FAR: u32 = u32::MAX;
+
 // Where the cell stands in a list of all cells of the grid, row by row.
 pub fn place_of(grid: &Grid, cell: Cell) -> usize
     requires { Holds grid.now.size cell }

@@ -4,12 +4,9 @@ ghost use Rattle.grid_cells.specs.Size.{Holds};
 ghost use Rattle.grid_cells.specs.Grid.{flag_index};
 ghost use Rattle.goal_fields.specs.Search.{IsSearching, IsMarking, IsReached, GoesOn, KeepsMap, HasRoom, IsBlank, IsFound, front_of, mark_of};
 
-use crate::places::place_of;
+use crate::places::{FAR, place_of};
 use grid_cells::{Cell, Grid, OutOfMemory};
 use std::alloc::Global;
-
-// The mark of a cell that no walk has come to.
-const FAR: u32 = u32::MAX;
 
 // A breadth-first search from the goal: the cells that it has come to stand in `queue` up to `tail`,
 // and those up to `head` are done.

@@ -10,11 +10,8 @@ ghost use Rattle.goal_fields.specs.Lifelong.{IsRoomy, IsGood, IsSameBut, KeepsKe
 ghost use Rattle.goal_fields.specs.Taking.{Advances, IsTaking, IsUnstirred};
 
 use crate::lifelong::Lifelong;
-use crate::places::{around, place_of};
+use crate::places::{FAR, around, place_of};
 use grid_cells::Cell;
-
-// The number that is none.
-const FAR: u32 = u32::MAX;
 
 impl Lifelong {
     // One more than the g of the neighbour, none where there is none or it is closed.

@@ -10,7 +10,6 @@ impl Heap {
         requires synced { IsSyncedHeap self.old }
         requires first { i < self.old.len }
         requires second { j < self.old.len }
-        ensures synced { IsSyncedHeap self.new }
         ensures shuffled { IsShuffled self.old self.new }
         ensures room { HasRoom self.old → HasRoom self.new }
         ensures moved { number_in self.new.size self.new.cells.items j ≡

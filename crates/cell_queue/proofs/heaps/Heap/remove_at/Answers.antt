@@ -19,12 +19,12 @@ returns-then-place-last-clause-keys c = grind (arith, nat_tests, common_steps, c
 pub returns-else-place-last-clause-heap : goal.returns-else-place-last-clause-heap
 returns-else-place-last-clause-heap c =
     let one : c.swap.new.self.len ≡ (c.args.self.now.len - 1) + 1 = omega (arith, c.swap.ensures.shuffled.len, c.requires.place) in
-    let last_in : c.args.self.now.len - 1 < length c.swap.new.self.cells.items = omega (arith, c.swap.ensures.synced.cells_far, c.swap.ensures.synced.within) in
+    let last_in : c.args.self.now.len - 1 < length c.swap.new.self.cells.items = omega (arith, c.swap.ensures.shuffled.synced.cells_far, c.swap.ensures.shuffled.synced.within) in
     let cell : c.index.result.now ≡ cell_in c.swap.new.self.cells.items (c.args.self.now.len - 1) = get_or_read c.swap.new.self.cells.items (c.args.self.now.len - 1) c.index.result.now last_in c.index.ensures (record { x = 0; y = 0 }) in
     let n : c.index-index.result ≡ number_in c.swap.new.self.size c.swap.new.self.cells.items (c.args.self.now.len - 1) = c.index-index.ensures.is ∙ ap (λ (v : Point). flag_index c.swap.new.self.size v) cell in
-    let synced : IsSynced c.swap.new.self.size c.swap.new.self.cells.items c.swap.new.self.keys.items (set c.swap.new.self.places.items c.index-index.result nowhere) (c.args.self.now.len - 1) = IsSynced-shrink c.swap.new.self.size c.swap.new.self.cells.items c.swap.new.self.keys.items c.swap.new.self.places.items c.swap.new.self.len (c.args.self.now.len - 1) c.index-index.result c.swap.ensures.synced one n in
+    let synced : IsSynced c.swap.new.self.size c.swap.new.self.cells.items c.swap.new.self.keys.items (set c.swap.new.self.places.items c.index-index.result nowhere) (c.args.self.now.len - 1) = IsSynced-shrink c.swap.new.self.size c.swap.new.self.cells.items c.swap.new.self.keys.items c.swap.new.self.places.items c.swap.new.self.len (c.args.self.now.len - 1) c.index-index.result c.swap.ensures.shuffled.synced one n in
     let shrunk : keys_of (set c.swap.new.self.places.items c.index-index.result nowhere) c.swap.new.self.keys.items (c.args.self.now.len - 1) ≡ set (keys_of c.swap.new.self.places.items c.swap.new.self.keys.items c.swap.new.self.len) c.index-index.result None =
-    keys_of-shrink c.swap.new.self.size c.swap.new.self.cells.items c.swap.new.self.keys.items c.swap.new.self.places.items c.swap.new.self.len (c.args.self.now.len - 1) c.index-index.result c.swap.ensures.synced one n in
+    keys_of-shrink c.swap.new.self.size c.swap.new.self.cells.items c.swap.new.self.keys.items c.swap.new.self.places.items c.swap.new.self.len (c.args.self.now.len - 1) c.index-index.result c.swap.ensures.shuffled.synced one n in
     let after : keys_of (set c.swap.new.self.places.items c.index-index.result nowhere) c.swap.new.self.keys.items (c.args.self.now.len - 1) ≡ set (keys_of c.args.self.now.places.items c.args.self.now.keys.items c.args.self.now.len) (number_in c.args.self.now.size c.args.self.now.cells.items c.args.place) None =
     rw (← c.swap.ensures.moved, ← n, ← c.swap.ensures.shuffled.keys) shrunk in
     record {

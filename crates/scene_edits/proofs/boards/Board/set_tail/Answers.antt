@@ -1,8 +1,5 @@
-use Rattle.std.proofs.Common.{◌≡◌, ◌≤◌, Some, List, subst, rules, arith}
+use Rattle.std.proofs.Common.{◌≡◌, List, subst, rules, arith}
 use Rattle.grid_cells.specs.Cell.{Point}
-use Rattle.plan_table.specs.Plans.{row_of}
-use Rattle.plan_table.specs.Path.{last_index}
-use Rattle.scene_edits.specs.Scene.{AreIn}
 use Rattle.scene_edits.specs.Edited.{continued}
 use Rattle.scene_edits.specs.Faults.{◌otherwise◌, too_long, jump}
 use Rattle.scene_edits.specs.Board.{scene_of, Follows}
@@ -11,16 +8,10 @@ use Rattle.scene_edits.proofs.boards.Board.set_tail.Goals as goal
 
 pub returns-in-Ok-clause-applied : goal.returns-in-Ok-clause-applied
 returns-in-Ok-clause-applied c =
-    let there : row_of c.args.self.now.plans.rows c.args.agent ≡ Some c.in-Some.row.now = search rules in
-    let inside : AreIn c.args.self.now.grid.size c.args.cells.now = search rules in
-    let early : c.args.from ≤ last_index c.in-Some.row.now.plan = omega (arith, c.last.ensures.is, c.number.ensures) in
     let cells : c.in_ok-cells.cells.items ≡ continued c.in-Some.row.now.plan c.args.from c.args.cells.now = search rules in
-    tail_applied (scene_of c.args.self.now) (scene_of c.follow.new.self) c.args.agent c.args.cells.now c.in-Some.row.now there inside c.args.from c.in-Ok.change early (subst (λ (list : List Point). Follows (scene_of c.args.self.now) c.args.agent list c.in-Ok.change (scene_of c.follow.new.self)) cells c.in-Ok.ensures.follows)
+    tail_applied (scene_of c.args.self.now) (scene_of c.follow.new.self) c.args.agent c.args.cells.now c.in-Some.row.now (search rules) (search rules) c.args.from c.in-Ok.change (omega (arith, c.last.ensures.is, c.number.ensures)) (subst (λ (list : List Point). Follows (scene_of c.args.self.now) c.args.agent list c.in-Ok.change (scene_of c.follow.new.self)) cells c.in-Ok.ensures.follows)
 
 pub returns-in-Err-clause-applied : goal.returns-in-Err-clause-applied
 returns-in-Err-clause-applied c =
-    let there : row_of c.args.self.now.plans.rows c.args.agent ≡ Some c.in-Some.row.now = search rules in
-    let inside : AreIn c.args.self.now.grid.size c.args.cells.now = search rules in
-    let early : c.args.from ≤ last_index c.in-Some.row.now.plan = omega (arith, c.last.ensures.is, c.number.ensures) in
     let cells : c.in_ok-cells.cells.items ≡ continued c.in-Some.row.now.plan c.args.from c.args.cells.now = search rules in
-    tail_refused (scene_of c.args.self.now) (scene_of c.follow.new.self) c.args.agent c.args.cells.now c.in-Some.row.now there inside c.args.from c.in-Err.fault early (subst (λ (list : List Point). (too_long list otherwise jump list) c.in-Err.fault) cells c.in-Err.ensures.fault) c.in-Err.ensures.unchanged
+    tail_refused (scene_of c.args.self.now) (scene_of c.follow.new.self) c.args.agent c.args.cells.now c.in-Some.row.now (search rules) (search rules) c.args.from c.in-Err.fault (omega (arith, c.last.ensures.is, c.number.ensures)) (subst (λ (list : List Point). (too_long list otherwise jump list) c.in-Err.fault) cells c.in-Err.ensures.fault) c.in-Err.ensures.unchanged
