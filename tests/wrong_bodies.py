@@ -60,7 +60,7 @@ BODIES = [
     ("reason_of_a_read_dropped", "streams.rt", "outlet.unread = ‹Some(why)›", "None", "reasons_of_streams"),
     ("report_that_is_not_taken_untold", "finishing.rt", "buffered.flush()",
      "{ let _sent = buffered.flush(); let done: std::io::Result<()> = Ok(()); done }", "no_audit_goes_out_whole"),
-    ("more_of_a_text_dropped", "finishing.rt", "more_of(alloc, fault, texts)", "None", "reason: audit --map map_letter"),
+    ("more_of_a_text_dropped", "finishing.rt", "fault.more(alloc, texts)", "None", "reason: audit --map map_letter"),
     ("line_of_another_text", "details.rt", "RunFault::Map(why) => line_of(alloc, ‹texts.map›", "texts.scen", "reason: serve --map map_octile"),
     # How a journal is saved
     ("saved_file_not_named", "saving.rt", "fs::rename(rt, beside, file)?", "()", "saved"),
@@ -73,7 +73,7 @@ BODIES = [
     ("yes_and_no_exchanged", "main.rt", "check_files(rt, check, stages, more)",
      "match check_files(rt, check, stages, more) { Ok(solved) => Ok(!solved), Err(fault) => Err(fault) }", "check_ring_by_session"),
     ("agents_of_a_check_need_no_scenario", "checking.rt", "words.agents.is_some() && words.scen.is_none()", "false", "check_other_faults"),
-    ("agents_of_a_check_not_handed_on", "checking.rt", "texts.scen,\n        ‹words.agents›", "None", "check_an_agent_without_a_path"),
+    ("agents_of_a_check_not_handed_on", "checking.rt", "problem_of(texts, ‹words.agents›", "None", "check_an_agent_without_a_path"),
     ("scen_of_a_check_dropped", "checking.rt", "read_files(rt, Some(words.map), ‹words.scen›, Some(words.paths), more)", "None", "check_not_at_the_goal_of_its_task"),
     ("mode_of_a_check_not_handed_on", "checking.rt", "words.mode", "plan_table::Mode::Stay", "check_left_before_it_comes"),
     ("form_not_handed_on", "checking.rt", "words.form", "None", "check_named_form"),
@@ -82,7 +82,7 @@ BODIES = [
     ("quiet_not_handed_on", "checking.rt", "words.quiet", "false", "check_ring_counted"),
     ("always_quiet", "checking.rt", "words.quiet", "true", "check_ring_by_session"),
     ("fault_of_paths_untold", "checking.rt", "Err(fault) => ‹Err(ProgramFault::Check(fault))›", "{ let _fault = fault; Ok(false) }", "check_are_faults"),
-    ("line_of_paths_dropped", "checking.rt", "more_of_check(alloc, &fault, texts, paths)", "None", "check_are_faults"),
+    ("line_of_paths_dropped", "details.rt", "line_of(alloc, texts.journal, paths_line(*why))", "None", "check_are_faults"),
     # Audits and drills
     ("agents_of_an_audit_need_no_scenario", "auditing.rt", "words.agents > 0 && words.scen.is_none()", "false", "agents_without_scen_in_an_audit"),
     ("mode_of_an_audit_not_handed_on", "auditing.rt", "words.mode", "plan_table::Mode::Stay", "audit_of_a_journal_in_mode_disappear"),
@@ -91,7 +91,7 @@ BODIES = [
     ("map_and_scen_of_an_audit_exchanged", "auditing.rt", 'texts.map.unwrap_or(b"")', 'texts.scen.unwrap_or(b"")', "audit_by_64_workers"),
     ("agents_of_a_drill_need_no_scenario", "drilling.rt", "words.agents > 0 && words.scen.is_none()", "false", "agents_without_scen_in_a_drill"),
     ("mode_of_a_drill_not_handed_on", "drilling.rt", "words.mode", "plan_table::Mode::Stay", "drill_where_agents_disappear"),
-    ("agents_of_a_drill_not_handed_on", "drilling.rt", "texts.scen,\n        ‹words.agents›", "0", "drill_of_a_scenario"),
+    ("agents_of_a_drill_not_handed_on", "drilling.rt", "problem_of(texts, ‹Some(words.agents)›", "Some(0)", "drill_of_a_scenario"),
     ("scripts_counted_unasked", "drilling.rt", "if ‹verbose›", "true", "drill_by_one_worker"),
     ("scripts_not_counted", "drilling.rt", "if ‹verbose›", "false", "scripts_counted"),
     ("fault_of_a_drill_untold", "drilling.rt", "Err(fault) => ‹Err(Fault::Run(fault))›", "{ let _fault = fault; Ok(true) }", "no_drill_goes_out_whole"),
@@ -116,11 +116,11 @@ BODIES = [
     ("paths_of_a_picture_dropped", "drawing.rt", "words.journal.or(words.paths)", "words.journal", "draw_forms_of_paths"),
     ("time_of_a_picture_dropped", "drawing.rt", "words.at.map(Step::new)", "None", "pictures_by_chance"),
     ("all_agents_shown", "drawing.rt", "shown: ‹words.shown›", "None", "draw_some_agents"),
-    ("agents_of_a_picture_dropped", "drawing.rt", "let (agents, mode) = (‹words.agents›", "None", "draw_agents_of_a_scenario"),
-    ("pictures_in_mode_stay", "drawing.rt", "let (agents, mode) = (words.agents, ‹words.mode›", "plan_table::Mode::Stay", "pictures_by_chance"),
-    ("line_of_a_picture_untold", "drawing.rt", "more_of_check(alloc, &fault, texts, text)", "None", "draw_faults"),
-    ("picture_left_in_the_buffer", "drawing.rt", "match ‹finish(alloc, Ok(()), texts, writer.into_inner(), more)›",
-     "{ let _left = (writer.into_inner(), &more); Ok::<(), RunFault>(()) }", "draw_full_device"),
+    ("agents_of_a_picture_dropped", "drawing.rt", "problem_of(texts, ‹words.agents›", "None", "draw_agents_of_a_scenario"),
+    ("pictures_in_mode_stay", "drawing.rt", "problem_of(texts, words.agents, ‹words.mode›", "plan_table::Mode::Stay", "pictures_by_chance"),
+    ("line_of_a_picture_untold", "details.rt", "line_of(alloc, texts.journal, paths_line(*why))", "None", "draw_faults"),
+    ("picture_left_in_the_buffer", "drawing.rt", "finish(alloc, ended, texts, writer, more)",
+     "{ let _left = (writer.into_inner(), &more); ended }", "draw_full_device"),
 ]
 
 # Those of the readers of words: a line of words as it is told then, and how crates/demo_words/data/words.txt has it.

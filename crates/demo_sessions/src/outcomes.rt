@@ -61,21 +61,6 @@ fn upgrades(alloc: Global, example: Example<'_>, text: &[u8]) -> Result<Option<b
     Ok(Some(same?))
 }
 
-// Whether a drill of the example's scripts prints that text.
-fn is_drilled<R: Threads + Wait + Sync>(
-    rt: &R,
-    alloc: Global,
-    example: Example<'_>,
-    opening: Opening<'_>,
-    text: &[u8],
-) -> Result<bool, AllocError> {
-    let scripts = example.texts(alloc, b"script")?;
-    let printed = drilled(rt, alloc, opening, scripts)?;
-    let same = printed.as_slice() == text;
-    drop(printed);
-    Ok(same)
-}
-
 // Whether the example's run over that map and scenario prints that text.
 fn is_printed<R: Threads + Wait + Sync>(
     rt: &R,
@@ -91,7 +76,11 @@ fn is_printed<R: Threads + Wait + Sync>(
         return Ok(same);
     }
     if example.section(b"script").is_some() {
-        return is_drilled(rt, alloc, example, opening, text);
+        let scripts = example.texts(alloc, b"script")?;
+        let printed = drilled(rt, alloc, opening, scripts)?;
+        let same = printed.as_slice() == text;
+        drop(printed);
+        return Ok(same);
     }
     let journal = example.text(alloc, b"journal")?;
     let same = is_audited(rt, alloc, opening, journal.as_deref(), text);

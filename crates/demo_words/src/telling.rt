@@ -60,22 +60,30 @@ fn put_desk(text: &mut String, words: &ServeWords<'_>) -> Result<(), AllocError>
     put_file(text, "save", words.save)
 }
 
+// What an audit and a drill begin with.
+fn put_opening(
+    text: &mut String,
+    map: &str,
+    scen: Option<&str>,
+    agents: u32,
+    mode: Mode,
+) -> Result<(), AllocError> {
+    put_file(text, "map", Some(map))?;
+    put_file(text, "scen", scen)?;
+    put_number(text, "agents", agents, 0)?;
+    put_mode(text, mode)
+}
+
 fn put_audit(text: &mut String, words: &AuditWords<'_>) -> Result<(), AllocError> {
     text.push_str("audit")?;
-    put_file(text, "map", Some(words.map))?;
-    put_file(text, "scen", words.scen)?;
-    put_number(text, "agents", words.agents, 0)?;
-    put_mode(text, words.mode)?;
+    put_opening(text, words.map, words.scen, words.agents, words.mode)?;
     put_file(text, "journal", words.journal)?;
     put_number(text, "workers", words.workers, 4)
 }
 
 fn put_drill(text: &mut String, words: &DrillWords<'_>) -> Result<(), AllocError> {
     text.push_str("drill")?;
-    put_file(text, "map", Some(words.map))?;
-    put_file(text, "scen", words.scen)?;
-    put_number(text, "agents", words.agents, 0)?;
-    put_mode(text, words.mode)?;
+    put_opening(text, words.map, words.scen, words.agents, words.mode)?;
     put_number(text, "workers", words.workers, 4)?;
     for script in words.scripts.as_slice() {
         put_file(text, "script", Some(*script))?;

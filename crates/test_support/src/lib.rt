@@ -1,11 +1,23 @@
 //! What tests of several crates share: values written as text, sources that fail or count their calls,
-//! and numbers that look like chance.
+//! gates, reports' texts, numbers that look like chance, and texts after edits of that kind.
 #![tactic(auto)]
 
 mod chance;
+mod gates;
+mod places;
+mod reports;
+mod sessions;
 mod streams;
+mod texts;
+mod tracks;
 mod values;
 
 pub use chance::Chain;
+pub use gates::{Meeting, Turnstile};
+pub use places::{are_at, cells_at, is_list};
+pub use reports::{KINDS, conflicts_alone, text_of};
+pub use sessions::{GATHERED_COMMIT, Line};
 pub use streams::{Repeated, Torn};
+pub use texts::{edited, number};
+pub use tracks::{since, stays};
 pub use values::{cells, edit, edits, open_grid, plan, row, scene, thing};

@@ -2,14 +2,13 @@
 //! all memory.
 use desk_audit::{AuditFault, Gate, audit};
 use desk_core::Scene;
-use desk_report::{Report, Spout, write_report};
+use desk_report::Report;
 use std::alloc::Global;
 use std::process::Abort;
-use std::sync::atomic::{AtomicU64, Ordering};
 use std::sync::{Mutex, Wait};
 use std::thread::Threads;
 use test_droughts::take_all;
-use test_support::scene;
+use test_support::{Turnstile, scene, text_of};
 
 // Each agent goes from its cell to the next one, which is its goal.
 const RING_OF_FOUR: &[&str] = &[
@@ -28,27 +27,13 @@ const TEXT: &str =
 
 // The report's text is that of the ring.
 fn is_ring(rt: &impl Abort, alloc: Global, report: &Report) {
-    let mut sink = Spout::new(Vec::new(alloc));
-    assert!(rt; write_report(report, &mut sink).is_ok());
-    let told: Vec<u8> = sink.into_inner();
+    let told = text_of(alloc, report).expect(rt, "memory");
     assert!(rt; told.as_slice() == TEXT.as_bytes(), "{told:?}");
     drop(told);
 }
 
 fn blocks(rt: &impl Abort, alloc: Global) -> Vec<Vec<u8>> {
     Vec::with_capacity(alloc, 1_000_000).expect(rt, "memory")
-}
-
-// Counts the pieces that begin.
-#[derive(Drop)]
-struct Turnstile {
-    begun: AtomicU64,
-}
-
-impl Gate for Turnstile {
-    fn begins(&self, _piece: u32) {
-        self.begun.fetch_add(1, Ordering::SeqCst);
-    }
 }
 
 // What an audit by so many workers answers, and how many pieces began.
@@ -58,11 +43,9 @@ fn audited<R: Threads + Wait>(
     scene: &Scene,
     workers: u32,
 ) -> (Result<Report, AuditFault>, u64) {
-    let gate = Turnstile {
-        begun: AtomicU64::new(0),
-    };
+    let gate = Turnstile::new();
     let answer = audit(rt, alloc, scene, workers, &gate);
-    (answer, gate.begun.load(Ordering::SeqCst))
+    (answer, gate.begun())
 }
 
 // Whether twenty thousand bytes can be had, which is more than the audit's growths take in all.

@@ -136,30 +136,8 @@ fn is_commit(call: &Call, commit: &Commit) -> bool {
     }
 }
 
-// What the desk answers to the commit. One that is refused comes back as it was, and changes
-// neither version nor journal.
-fn committed(
-    rt: &impl Abort,
-    drought: &mut Drought,
-    desk: &mut Desk,
-    commit: Commit,
-    same: &Call,
-) -> Told {
-    let version = desk.version();
-    let answer = desk.commit(commit);
-    drought.relieve();
-    match answer {
-        Ok(version) => Told::Done(version),
-        Err((why, back)) => {
-            assert!(rt; is_commit(same, &back));
-            assert!(rt; desk.version() == version && desk.journal().len() as u64 == version);
-            drop(back);
-            told_of_refusal(why)
-        }
-    }
-}
-
-/// What the desk answers to the call with so many bytes, or with ample memory.
+/// What the desk answers to the call with so many bytes, or with ample memory. A commit that is refused
+/// comes back as it was, and changes neither version nor journal.
 pub fn asked(
     rt: &impl Abort,
     alloc: Global,
@@ -170,27 +148,14 @@ pub fn asked(
 ) -> Told {
     let made = call(rt, alloc, ask);
     let same = call(rt, alloc, ask);
+    let version = desk.version();
     leave(rt, drought, bytes);
-    let answer = match made {
-        Call::Commit(commit) => {
-            let told = committed(rt, drought, desk, commit, &same);
-            drop(same);
-            return told;
-        }
-        Call::Read => match desk.reading() {
-            Ok(reading) => Answer::Shown(reading),
-            Err(_) => Answer::NoMemory,
-        },
-        Call::Distance(agent, cell) => match desk.distance(agent, cell) {
-            Ok(steps) => Answer::Far(steps),
-            Err(fault) => Answer::AskRefused(fault),
-        },
-        Call::Snapshot => match desk.snapshot() {
-            Ok(copy) => Answer::Copied(copy),
-            Err(_) => Answer::NoMemory,
-        },
-    };
+    let answer = desk.answer(made);
     drought.relieve();
+    if let Answer::Refused(_, back) = &answer {
+        assert!(rt; is_commit(&same, back));
+        assert!(rt; desk.version() == version && desk.journal().len() as u64 == version);
+    }
     drop(same);
     let told = told_of_answer(rt, &answer);
     drop(answer);

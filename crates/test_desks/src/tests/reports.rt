@@ -1,11 +1,10 @@
 //! The report of a ring with a second mover, and how often a desk builds its indexes for it.
 use super::build::{commit, drought, leave, planner};
 use desk_core::{Commit, Desk, EditFault, Limit, Refusal};
-use desk_report::{Spout, write_report};
 use std::alloc::Global;
 use std::process::Abort;
 use test_droughts::Drought;
-use test_support::scene;
+use test_support::{scene, text_of};
 
 // Agents 0 to 3 go round in step 0, and agent 4 goes along with agent 0. Each has the end of its
 // path as its goal.
@@ -32,10 +31,8 @@ const AFTER: &str =
 // The desk's report has that text.
 fn reads(rt: &impl Abort, alloc: Global, desk: &mut Desk, text: &str) {
     let reading = desk.reading().expect(rt, "memory");
-    let mut sink = Spout::new(Vec::new(alloc));
-    assert!(rt; write_report(&reading.report, &mut sink).is_ok());
+    let told = text_of(alloc, &reading.report).expect(rt, "memory");
     drop(reading);
-    let told: Vec<u8> = sink.into_inner();
     assert!(rt; told.as_slice() == text.as_bytes(), "{told:?}");
     drop(told);
 }

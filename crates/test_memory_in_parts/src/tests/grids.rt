@@ -1,10 +1,11 @@
 //! Grids, plans and tables of plans.
-use super::build::{are_at, at, plan, size_of};
+use super::build::{at, plan, size_of};
 use super::trials::Trial;
 use grid_cells::{Cell, Grid};
 use plan_table::Plans;
 use std::alloc::Global;
 use std::process::Abort;
+use test_support::are_at;
 
 /// Closes the cell, where the map has it.
 pub fn close(grid: &mut Grid, cell: Cell) {

@@ -1,10 +1,11 @@
 //! Indexes of who is where.
-use super::build::{agent, at, plan, stays};
+use super::build::{agent, at, plan};
 use super::trials::Trial;
 use grid_cells::{Agent, Cell, Step};
 use plan_table::Plan;
 use std::alloc::Global;
 use std::process::Abort;
+use test_support::stays;
 use where_index::{Move, WhereIndex};
 
 /// Puts the agent in, as one that stays; none for want of memory.

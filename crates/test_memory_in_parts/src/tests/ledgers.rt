@@ -1,5 +1,5 @@
 //! Ledgers of conflicts.
-use super::build::{agent, plan, since, stays};
+use super::build::{agent, plan};
 use super::told::are_told;
 use super::trials::Trial;
 use conflict_ledger::ConflictLedger;
@@ -7,6 +7,7 @@ use mapf_rules::Kind;
 use plan_table::Plan;
 use std::alloc::Global;
 use std::process::Abort;
+use test_support::{since, stays};
 use where_index::WhereIndex;
 
 /// An index, and the ledger of its agents.
@@ -31,19 +32,27 @@ fn joined(index: WhereIndex, ledger: Option<ConflictLedger>) -> Option<Both> {
     }
 }
 
-/// The ledger takes in an agent that stays; none for want of memory.
-pub fn admitted(
+/// The ledger takes in an agent that stays, or lets it go; none for want of memory.
+pub fn turned(
     rt: &impl Abort,
     trial: &mut Trial,
     both: Both,
-    number: u32,
-    plan: &Plan,
+    (number, plan): (u32, &Plan),
+    comes: bool,
 ) -> Option<Both> {
     let Both { index, ledger } = both;
     let (agent, track) = (agent(rt, number), stays(plan));
-    let index = index.put(agent, track).expect(rt, "memory");
+    let index = if comes {
+        index.put(agent, track).expect(rt, "memory")
+    } else {
+        index.take(agent, track)
+    };
     trial.leave(rt);
-    let ledger = ledger.admit(agent, track, &index);
+    let ledger = if comes {
+        ledger.admit(agent, track, &index)
+    } else {
+        ledger.retract(agent, track, &index)
+    };
     joined(index, trial.met(rt, ledger))
 }
 
@@ -56,22 +65,6 @@ fn alone(rt: &impl Abort, alloc: Global, trial: &mut Trial, number: u32, plan: &
     let ledger = ledger.admit(agent, track, &index).expect(rt, "no growth");
     trial.relieve();
     Both { index, ledger }
-}
-
-/// The ledger lets an agent go; none for want of memory.
-pub fn retracted(
-    rt: &impl Abort,
-    trial: &mut Trial,
-    both: Both,
-    number: u32,
-    plan: &Plan,
-) -> Option<Both> {
-    let Both { index, ledger } = both;
-    let (agent, track) = (agent(rt, number), stays(plan));
-    let index = index.take(agent, track);
-    trial.leave(rt);
-    let ledger = ledger.retract(agent, track, &index);
-    joined(index, trial.met(rt, ledger))
 }
 
 // The ledger gives agent 0 another path; none for want of memory.
@@ -131,10 +124,10 @@ fn exchanged(
     back: &Plan,
 ) -> Option<()> {
     let both = alone(rt, alloc, trial, 0, there);
-    let both = admitted(rt, trial, both, 1, back)?;
+    let both = turned(rt, trial, both, (1, back), true)?;
     assert!(rt; counts_a_swap(&both.ledger));
     assert!(rt; lists(rt, alloc, trial, &both.ledger, SWAP));
-    let both = retracted(rt, trial, both, 1, back)?;
+    let both = turned(rt, trial, both, (1, back), false)?;
     assert!(rt; lists_nothing(rt, &both.ledger));
     drop(both);
     Some(())
@@ -157,7 +150,7 @@ fn cut(
 ) -> Option<()> {
     let (through, cut, rest) = plans;
     let both = alone(rt, alloc, trial, 0, through);
-    let both = admitted(rt, trial, both, 1, rest)?;
+    let both = turned(rt, trial, both, (1, rest), true)?;
     assert!(rt; lists(rt, alloc, trial, &both.ledger, THROUGH));
     let both = revised(rt, trial, both, through, cut)?;
     let lines = b"conflicts 2\nparked 1 0 1 1,0\nfollow 0 0 1 1,0\n";

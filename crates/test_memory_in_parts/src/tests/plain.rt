@@ -1,4 +1,5 @@
 //! The plain programs, which go over all times and pairs.
+use super::rings::RING;
 use super::told::{are_told, is_told};
 use super::trials::Trial;
 use desk_report::plain_report;
@@ -9,7 +10,7 @@ use std::alloc::Global;
 use std::process::Abort;
 use test_support::scene;
 
-const RING: [&str; 8] = [
+const ROUND: [&str; 8] = [
     "agent 0 0,0 1,0",
     "path 0 0,0 1,0",
     "agent 1 1,0 1,1",
@@ -20,20 +21,17 @@ const RING: [&str; 8] = [
     "path 3 0,1 0,0",
 ];
 
-const RING_TOLD: &[u8] =
-    b"conflicts 5\nfollow 0 0 1 1,0\nfollow 0 1 2 1,1\nfollow 0 2 3 0,1\nfollow 0 3 0 0,0\ncycle 0 0 1 2 3\n";
-
 // The conflicts of the scene, which are those of a ring.
 fn found(rt: &impl Abort, alloc: Global, trial: &mut Trial, scene: &Scene) -> Option<()> {
     trial.leave(rt);
     let found = conflicts(alloc, scene.plans(), Mode::Stay);
     let found = trial.met(rt, found)?;
-    assert!(rt; are_told(rt, alloc, found, RING_TOLD));
+    assert!(rt; are_told(rt, alloc, found, RING));
     Some(())
 }
 
 pub fn ring_told(rt: &impl Abort, alloc: Global, trial: &mut Trial) -> Option<()> {
-    let scene = scene(alloc, 2, 2, &RING).expect(rt, "a scene");
+    let scene = scene(alloc, 2, 2, &ROUND).expect(rt, "a scene");
     let answer = found(rt, alloc, trial, &scene);
     drop(scene);
     answer

@@ -1,14 +1,16 @@
 //! Rings in a ledger of conflicts.
-use super::build::{agent, at, plan, stays};
-use super::ledgers::{Both, admitted, lists, nobody, retracted};
+use super::build::{agent, at, plan};
+use super::ledgers::{Both, lists, nobody, turned};
 use super::trials::Trial;
 use grid_cells::Step;
 use mapf_rules::Kind;
 use plan_table::Plan;
 use std::alloc::Global;
 use std::process::Abort;
+use test_support::stays;
 
-const RING: &[u8] =
+/// The lines of a ring of four.
+pub const RING: &[u8] =
     b"conflicts 5\nfollow 0 0 1 1,0\nfollow 0 1 2 1,1\nfollow 0 2 3 0,1\nfollow 0 3 0 0,0\ncycle 0 0 1 2 3\n";
 
 // The ledger takes in an agent, with ample memory.
@@ -45,9 +47,9 @@ fn with_second_mover(
     trial: &mut Trial,
     along: &Plan,
 ) -> Option<()> {
-    let both = admitted(rt, trial, round(rt, alloc), 4, along)?;
+    let both = turned(rt, trial, round(rt, alloc), (4, along), true)?;
     assert!(rt; both.ledger.count(Kind::Cycle) == 0 && both.ledger.count(Kind::Following) == 6);
-    let both = retracted(rt, trial, both, 4, along)?;
+    let both = turned(rt, trial, both, (4, along), false)?;
     assert!(rt; lists(rt, alloc, trial, &both.ledger, RING));
     drop(both);
     Some(())

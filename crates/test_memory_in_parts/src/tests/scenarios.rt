@@ -1,11 +1,12 @@
 //! Reading of scenarios.
-use super::build::{are_at, size_of};
+use super::build::size_of;
 use super::tasks::scene_of;
 use super::trials::Trial;
 use bench_reader::{ScenFault, Task, read_scen};
 use grid_cells::{List, OutOfMemory};
 use std::alloc::Global;
 use std::process::Abort;
+use test_support::are_at;
 
 const ONE: &[u8] = b"version 1\n0\tm.map\t3\t2\t0\t0\t2\t1\t3.00000000";
 

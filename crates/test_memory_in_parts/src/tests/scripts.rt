@@ -70,57 +70,29 @@ const SCRIPTS: [(Script, &str, usize); 21] = [
     ),
 ];
 
-fn run(rt: &impl Abort, alloc: Global, trial: &mut Trial, script: Script) {
+fn run(rt: &impl Abort, alloc: Global, trial: &mut Trial, script: Script) -> Option<()> {
     match script {
-        Script::Copies => grids::copies(rt, alloc, trial),
-        Script::CopyOfAScene => edits::copied(rt, alloc, trial),
-        Script::MapLetters => maps::letters(rt, alloc, trial),
-        Script::ScenarioLines => scenarios::tasks(rt, alloc, trial),
-        Script::SinceOfAPath => edits::since_of_a_path(rt, alloc, trial),
-        Script::TailCut => edits::cut(rt, alloc, trial),
-        Script::EditsInARow => edit_lists::in_a_row_and_none(rt, alloc, trial),
-        Script::IndexOfTwo => {
-            let _ = indexes::two_agents(rt, alloc, trial);
-        }
-        Script::PutAndSwap => {
-            let _ = swaps::put_and_swap(rt, alloc, trial);
-        }
-        Script::LongSwap => {
-            let _ = swaps::swap_for_a_long_path(rt, alloc, trial);
-        }
-        Script::CountsOfASwap => {
-            let _ = ledgers::swap_of_two(rt, alloc, trial);
-        }
-        Script::TailCutInALedger => {
-            let _ = ledgers::tail_cut(rt, alloc, trial);
-        }
-        Script::RingAgain => {
-            let _ = rings::ring_again(rt, alloc, trial);
-        }
-        Script::RingFound => {
-            let _ = rings::ring_found(rt, alloc, trial);
-        }
-        Script::AimAndFlip => {
-            let _ = prices::aim_and_flip(rt, alloc, trial);
-        }
-        Script::GoalClosed => {
-            let _ = prices::into_the_closed(rt, alloc, trial);
-        }
-        Script::QueueOfThree => {
-            let _ = fields::three_cells(rt, alloc, trial);
-        }
-        Script::Corridor => {
-            let _ = fields::corridor(rt, alloc, trial);
-        }
-        Script::GoalHeldTwice => {
-            let _ = fields::held_twice(rt, alloc, trial);
-        }
-        Script::RingByAllPairs => {
-            let _ = plain::ring_told(rt, alloc, trial);
-        }
-        Script::RestByAllPairs => {
-            let _ = plain::meeting_told(rt, alloc, trial);
-        }
+        Script::Copies => Some(grids::copies(rt, alloc, trial)),
+        Script::CopyOfAScene => Some(edits::copied(rt, alloc, trial)),
+        Script::MapLetters => Some(maps::letters(rt, alloc, trial)),
+        Script::ScenarioLines => Some(scenarios::tasks(rt, alloc, trial)),
+        Script::SinceOfAPath => Some(edits::since_of_a_path(rt, alloc, trial)),
+        Script::TailCut => Some(edits::cut(rt, alloc, trial)),
+        Script::EditsInARow => Some(edit_lists::in_a_row_and_none(rt, alloc, trial)),
+        Script::IndexOfTwo => indexes::two_agents(rt, alloc, trial),
+        Script::PutAndSwap => swaps::put_and_swap(rt, alloc, trial),
+        Script::LongSwap => swaps::swap_for_a_long_path(rt, alloc, trial),
+        Script::CountsOfASwap => ledgers::swap_of_two(rt, alloc, trial),
+        Script::TailCutInALedger => ledgers::tail_cut(rt, alloc, trial),
+        Script::RingAgain => rings::ring_again(rt, alloc, trial),
+        Script::RingFound => rings::ring_found(rt, alloc, trial),
+        Script::AimAndFlip => prices::aim_and_flip(rt, alloc, trial),
+        Script::GoalClosed => prices::into_the_closed(rt, alloc, trial),
+        Script::QueueOfThree => fields::three_cells(rt, alloc, trial),
+        Script::Corridor => fields::corridor(rt, alloc, trial),
+        Script::GoalHeldTwice => fields::held_twice(rt, alloc, trial),
+        Script::RingByAllPairs => plain::ring_told(rt, alloc, trial),
+        Script::RestByAllPairs => plain::meeting_told(rt, alloc, trial),
     }
 }
 
@@ -131,7 +103,7 @@ fn each_growth_is_refused_in_turn(rt: HostRuntime) {
     for (script, name, calls) in SCRIPTS {
         trial.start_anew();
         for _ in 0..100_000u32 {
-            run(&rt, rt.alloc(), &mut trial, script);
+            let _ = run(&rt, rt.alloc(), &mut trial, script);
             if !trial.goes_on(&rt, calls) {
                 break;
             }

@@ -1,12 +1,12 @@
 //! The scene of a scenario's tasks.
-use super::build::{are_at, at, size_of};
+use super::build::{at, size_of};
 use super::trials::Trial;
 use bench_reader::Task;
 use grid_cells::{Agent, Grid, OutOfMemory};
 use scene_edits::{Scene, TaskFault};
 use std::alloc::Global;
 use std::process::Abort;
-use test_support::open_grid;
+use test_support::{are_at, open_grid};
 
 // A scene, or a fault and the map, or want of memory and the map.
 type Made = Result<Scene, (TaskFault, Grid)>;

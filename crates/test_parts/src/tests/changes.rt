@@ -1,7 +1,4 @@
 //! What is kept of a fleet, and its changes by chance.
-ghost use Rattle.std.specs.Prelude.{◌≡◌, ◌<◌, ℕ};
-ghost use Rattle.plan_table.specs.Route.{route_of, position};
-
 use super::fleets::Fleet;
 use super::records::check_touched;
 use super::rows::{new_row, other_row};
@@ -9,11 +6,10 @@ use super::walks::any_cell;
 use conflict_ledger::ConflictLedger;
 use cost_ledger::CostLedger;
 use grid_cells::{Agent, Cell, Grid};
-use plan_table::{Mode, Row, Track};
-use scene_edits::first_difference;
+use plan_table::{Mode, Row};
 use std::alloc::Global;
 use std::process::Abort;
-use test_support::Chain;
+use test_support::{Chain, since};
 use where_index::WhereIndex;
 
 #[derive(Drop)]
@@ -25,20 +21,28 @@ pub struct Kept {
 
 impl Kept {
     pub fn new(alloc: Global) -> Kept {
+        Kept::of(
+            WhereIndex::new(alloc),
+            ConflictLedger::new(alloc),
+            CostLedger::new(alloc),
+        )
+    }
+
+    fn of(index: WhereIndex, ledger: ConflictLedger, costs: CostLedger) -> Kept {
         Kept {
-            index: WhereIndex::new(alloc),
-            ledger: ConflictLedger::new(alloc),
-            costs: CostLedger::new(alloc),
+            index,
+            ledger,
+            costs,
         }
+    }
+
+    fn parts(self) -> (WhereIndex, ConflictLedger, CostLedger) {
+        (self.index, self.ledger, self.costs)
     }
 }
 
 fn entered(rt: &impl Abort, kept: Kept, agent: Agent, row: &Row, mode: Mode, grid: &Grid) -> Kept {
-    let Kept {
-        index,
-        ledger,
-        mut costs,
-    } = kept;
+    let (index, ledger, mut costs) = kept.parts();
     let (track, touched) = (row.track(mode), index.touched());
     let index = index.put(agent, track).expect(rt, "memory");
     check_touched(rt, &index, touched, None, Some(track));
@@ -47,39 +51,17 @@ fn entered(rt: &impl Abort, kept: Kept, agent: Agent, row: &Row, mode: Mode, gri
     let costs = costs
         .put(agent, row.goal, &row.plan, grid)
         .expect(rt, "memory");
-    Kept {
-        index,
-        ledger,
-        costs,
-    }
+    Kept::of(index, ledger, costs)
 }
 
 fn left(rt: &impl Abort, kept: Kept, agent: Agent, row: &Row, mode: Mode) -> Kept {
-    let Kept {
-        index,
-        ledger,
-        mut costs,
-    } = kept;
+    let (index, ledger, mut costs) = kept.parts();
     let (track, touched) = (row.track(mode), index.touched());
     let index = index.take(agent, track);
     check_touched(rt, &index, touched, Some(track), None);
     let ledger = ledger.retract(agent, track, &index).expect(rt, "memory");
     costs.take(agent);
-    Kept {
-        index,
-        ledger,
-        costs,
-    }
-}
-
-/// A time below which the positions on the two tracks are equal.
-pub fn since(old: Track, new: Track) -> u32
-    ensures { (t : ℕ) → t < result → position (route_of old.entry) t ≡ position (route_of new.entry) t }
-{
-    match first_difference(old, new, 0) {
-        Some(time) => time,
-        None => 0,
-    }
+    Kept::of(index, ledger, costs)
 }
 
 fn revised(
@@ -91,11 +73,7 @@ fn revised(
     mode: Mode,
     grid: &Grid,
 ) -> Kept {
-    let Kept {
-        index,
-        ledger,
-        mut costs,
-    } = kept;
+    let (index, ledger, mut costs) = kept.parts();
     let (was, is) = (old.track(mode), new.track(mode));
     let (since, touched) = (since(was, is), index.touched());
     let index = index.swap(agent, was, is, since).expect(rt, "memory");
@@ -105,11 +83,7 @@ fn revised(
         .expect(rt, "memory");
     costs.aim(agent, new.goal);
     let costs = costs.set_plan(agent, &new.plan, grid).expect(rt, "memory");
-    Kept {
-        index,
-        ledger,
-        costs,
-    }
+    Kept::of(index, ledger, costs)
 }
 
 /// An agent comes that isn't there; one that is goes, or gets another row.
@@ -173,17 +147,9 @@ pub fn flip(
     }
     let (was, is) = (fleet.grid.is_open(cell), chain.roll(2) == 0);
     fleet.grid.set(cell, is);
-    let Kept {
-        index,
-        ledger,
-        costs,
-    } = kept;
+    let (index, ledger, costs) = kept.parts();
     let costs = priced_anew(rt, alloc, costs, cell, fleet);
-    let kept = Kept {
-        index,
-        ledger,
-        costs,
-    };
+    let kept = Kept::of(index, ledger, costs);
     let visitors = if was == is { 0 } else { fleet.visitors(cell) };
     (kept, visitors)
 }

@@ -12,14 +12,16 @@ use std::process::Abort;
 use test_support::Chain;
 use where_index::{Move, Passing, WhereIndex};
 
+// A time, and a cell.
+type Spot = (u32, Cell);
+
 // Who is in the cell at the time. The index tells of each agent whether it is there.
 fn standing_at(
     rt: &impl Abort,
     alloc: Global,
     index: &WhereIndex,
     fleet: &Fleet,
-    time: u32,
-    cell: Cell,
+    (time, cell): Spot,
 ) -> Vec<Agent> {
     let (plans, mode) = (&fleet.plans, fleet.mode);
     let mut standing = Vec::new(alloc);
@@ -40,8 +42,7 @@ fn moving_out(
     alloc: Global,
     standing: &[Agent],
     fleet: &Fleet,
-    time: u32,
-    cell: Cell,
+    (time, cell): Spot,
 ) -> Vec<Move> {
     let mut moving = Vec::new(alloc);
     for agent in standing {
@@ -57,35 +58,23 @@ fn moving_out(
 }
 
 // Compares who is in the cell at the time, and who moves out of it.
-fn compare_at(
-    rt: &impl Abort,
-    alloc: Global,
-    index: &WhereIndex,
-    fleet: &Fleet,
-    time: u32,
-    cell: Cell,
-) {
+fn compare_at(rt: &impl Abort, alloc: Global, index: &WhereIndex, fleet: &Fleet, spot: Spot) {
+    let (time, cell) = spot;
     let step = Step::new(time);
-    let standing = standing_at(rt, alloc, index, fleet, time, cell);
+    let standing = standing_at(rt, alloc, index, fleet, spot);
     let found = index.standing_at(step, cell).expect(rt, "memory");
     assert!(rt; found.items() == standing.as_slice());
     drop(found);
     let next = time.saturating_add(1);
-    let moving = moving_out(rt, alloc, standing.as_slice(), fleet, next, cell);
+    let moving = moving_out(rt, alloc, standing.as_slice(), fleet, (next, cell));
     assert!(rt; index.movers(step, cell) == moving.as_slice());
     drop(moving);
     drop(standing);
 }
 
 // Compares who comes through the cell from the time on.
-fn compare_coming(
-    rt: &impl Abort,
-    alloc: Global,
-    index: &WhereIndex,
-    fleet: &Fleet,
-    from: u32,
-    cell: Cell,
-) {
+fn compare_coming(rt: &impl Abort, alloc: Global, index: &WhereIndex, fleet: &Fleet, spot: Spot) {
+    let (from, cell) = spot;
     let (plans, mode) = (&fleet.plans, fleet.mode);
     let mut passing = Vec::new(alloc);
     for time in from..=index.horizon() {
@@ -109,8 +98,8 @@ fn compare_time(rt: &impl Abort, alloc: Global, index: &WhereIndex, fleet: &Flee
     for x in 0..size.width() {
         for y in 0..size.height() {
             let cell = Cell::new(x, y).expect(rt, "a cell");
-            compare_at(rt, alloc, index, fleet, time, cell);
-            compare_coming(rt, alloc, index, fleet, time, cell);
+            compare_at(rt, alloc, index, fleet, (time, cell));
+            compare_coming(rt, alloc, index, fleet, (time, cell));
         }
     }
 }

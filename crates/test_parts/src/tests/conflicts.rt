@@ -6,7 +6,7 @@ use grid_cells::{Agent, Step};
 use mapf_rules::{Conflict, Kind, Ring, conflicts, position};
 use std::alloc::Global;
 use std::process::Abort;
-use test_support::Chain;
+use test_support::{Chain, KINDS};
 
 // How many of the entries are of that kind.
 fn many(entries: &[Conflict], kind: Kind) -> u64 {
@@ -21,14 +21,7 @@ fn many(entries: &[Conflict], kind: Kind) -> u64 {
 
 // Compares how many entries there are of each kind, and whether there are any.
 fn compare_kinds(rt: &impl Abort, kept: &Kept, entries: &[Conflict]) {
-    for kind in [
-        Kind::Vertex,
-        Kind::Parked,
-        Kind::Edge,
-        Kind::Following,
-        Kind::Swapping,
-        Kind::Cycle,
-    ] {
+    for kind in KINDS {
         let count = many(entries, kind);
         assert!(rt; kept.ledger.count(kind) == count);
         assert!(rt; kept.ledger.has(kind) == (count > 0));

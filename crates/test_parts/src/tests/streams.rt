@@ -1,6 +1,7 @@
 //! Readers and writers that are interrupted, and that fail in the middle; lines of words.
 use desk_report::{ReadFailed, Sink, Source, Spout, Tap, Word, WriteFailed, put_all, put_line};
 use grid_cells::{Agent, Cell, Step};
+use std::alloc::Global;
 use std::io;
 
 // Reads and writes a byte at a time; each second call is interrupted, and after the room is used
@@ -13,6 +14,15 @@ struct Halting {
 }
 
 impl Halting {
+    // Holds nothing yet, and has that room.
+    fn new(alloc: Global, room: u32) -> Halting {
+        Halting {
+            held: Vec::new(alloc),
+            room,
+            interrupts: false,
+        }
+    }
+
     // How many bytes, at most one, there is room for.
     fn turn(&mut self) -> io::Result<usize> {
         self.interrupts = !self.interrupts;
@@ -63,11 +73,7 @@ fn reads_to_the_end(rt: HostRuntime) {
 
 #[test]
 fn reader_fails_in_the_middle(rt: HostRuntime) {
-    let mut source = Tap::new(Halting {
-        held: Vec::new(rt.alloc()),
-        room: 2,
-        interrupts: false,
-    });
+    let mut source = Tap::new(Halting::new(rt.alloc(), 2));
     assert!(rt; source.next_byte() == Ok(Some(b'x')));
     assert!(rt; source.next_byte() == Ok(Some(b'x')));
     assert!(rt; source.next_byte() == Err(ReadFailed));
@@ -76,11 +82,7 @@ fn reader_fails_in_the_middle(rt: HostRuntime) {
 
 #[test]
 fn writer_fails_in_the_middle(rt: HostRuntime) {
-    let mut sink = Spout::new(Halting {
-        held: Vec::new(rt.alloc()),
-        room: 12,
-        interrupts: false,
-    });
+    let mut sink = Spout::new(Halting::new(rt.alloc(), 12));
     assert!(rt; put_all(&mut sink, b"agents 0\nconflicts 0\n") == Err(WriteFailed));
     assert!(rt; sink.into_inner().held.as_slice() == b"agents 0\ncon".as_slice());
 }

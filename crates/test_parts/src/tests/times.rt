@@ -1,6 +1,5 @@
 //! How long many changes take of 4,096 agents, each with a path of 65 cells, and what a record of the
 //! index takes. The times are printed.
-use super::changes::since;
 use conflict_ledger::ConflictLedger;
 use cost_ledger::CostLedger;
 use grid_cells::{Agent, Cell, Grid, Step};
@@ -11,7 +10,7 @@ use std::fs;
 use std::process::Abort;
 use std::rt::{Clock, Files};
 use std::time::Instant;
-use test_support::open_grid;
+use test_support::{open_grid, since};
 use where_index::WhereIndex;
 
 fn now(rt: &(impl Abort + Clock)) -> Instant {

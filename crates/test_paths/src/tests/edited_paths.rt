@@ -1,8 +1,10 @@
 //! Edited files of paths.
-use super::chance::edited;
 use super::samples::{PLACES, TEXTS, compare};
 use desk_lines::solver_paths::Form;
-use test_support::Chain;
+use test_support::{Chain, edited};
+
+// What is put in most often: the bytes that files of paths are made of.
+const LIKELY: &[u8] = b" \t\r\n,,()()->:=#Apgsx0123456789";
 
 // No form more often than a named one.
 fn some_form(chain: &mut Chain) -> Option<Form> {
@@ -20,7 +22,8 @@ fn edited_files_of_paths(rt: HostRuntime) {
     let mut chain = Chain::new(29);
     let mut seen = [0u32; PLACES];
     for _ in 0..3_000 {
-        let text = edited(&rt, alloc, &mut chain, TEXTS);
+        let good = TEXTS[chain.roll(TEXTS.len())];
+        let text = edited(alloc, &mut chain, LIKELY, good).expect(&rt, "memory");
         let form = some_form(&mut chain);
         let place = compare(&rt, alloc, text.as_slice(), form);
         if place < PLACES {

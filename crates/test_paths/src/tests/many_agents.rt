@@ -4,38 +4,33 @@ use grid_cells::Cell;
 use std::alloc::Global;
 use std::process::Abort;
 
-// The text, with the piece behind it so many times.
-fn repeated(rt: &impl Abort, alloc: Global, text: &[u8], piece: &[u8], count: usize) -> Vec<u8> {
-    let mut whole = Vec::from_slice(alloc, text).expect(rt, "memory");
-    for _ in 0..count {
-        whole.extend_from_slice(piece).expect(rt, "memory");
-    }
-    whole
+// What a text goes on with: a piece, or lines, each of its number between a front and a tail.
+#[derive(Clone, Copy)]
+enum Rest {
+    Pieces(&'static str),
+    Lines(&'static str, &'static str),
 }
 
-// So many lines, each of its number between a front and a tail.
-fn numbered(
+// The number of paths that are read of the text with so much of the rest behind it, or the fault. Each
+// path has so many cells.
+fn read(
     rt: &impl Abort,
     alloc: Global,
-    text: &[u8],
-    front: &str,
-    tail: &str,
-    count: usize,
-) -> Vec<u8> {
-    let mut whole = Vec::from_slice(alloc, text).expect(rt, "memory");
+    text: &str,
+    (rest, count): (Rest, usize),
+    cells: usize,
+) -> Result<usize, PathsFault> {
+    let mut whole = String::new(alloc);
+    whole.push_str(text).expect(rt, "memory");
     for number in 0..count {
-        let line = format!(in alloc; "{front}{number}{tail}\n").expect(rt, "memory");
-        whole
-            .extend_from_slice(line.as_bytes())
-            .expect(rt, "memory");
+        let added = match rest {
+            Rest::Pieces(piece) => whole.push_str(piece),
+            Rest::Lines(front, tail) => write!(whole, "{front}{number}{tail}\n"),
+        };
+        added.expect(rt, "memory");
     }
-    whole
-}
-
-// The number of paths that are read, each of so many cells, or the fault.
-fn read(rt: &impl Abort, alloc: Global, text: &[u8], cells: usize) -> Result<usize, PathsFault> {
     let corner = Cell::new(3, 4).expect(rt, "a cell");
-    let read = read_paths(alloc, text, None)?;
+    let read = read_paths(alloc, whole.as_bytes(), None)?;
     for path in read.paths.items() {
         assert!(rt; path.items().len() == cells);
         assert!(rt; path.items().iter().all(|cell| *cell == corner));
@@ -45,97 +40,63 @@ fn read(rt: &impl Abort, alloc: Global, text: &[u8], cells: usize) -> Result<usi
     Ok(count)
 }
 
-// One cell for each of so many agents, by time, in the line behind that text.
-fn read_row(
-    rt: &impl Abort,
-    alloc: Global,
-    text: &[u8],
-    count: usize,
-) -> Result<usize, PathsFault> {
-    let text = repeated(rt, alloc, text, b"(3,4),", count);
-    read(rt, alloc, text.as_slice(), 1)
+// There may be 8,192 agents, of whom each has one cell, and no more: the line of the next is refused.
+fn most_agents(rt: &impl Abort, alloc: Global, text: &str, rest: Rest, line: usize) {
+    let fault = Err(PathsFault::TooManyAgents { line });
+    for (count, told) in [(8_192, Ok(8_192)), (8_193, fault), (10_000, fault)] {
+        assert_eq!(rt; read(rt, alloc, text, (rest, count), 1), told);
+    }
 }
 
-// One cell for each of so many agents, by agent.
-fn read_agents(rt: &impl Abort, alloc: Global, count: usize) -> Result<usize, PathsFault> {
-    let text = numbered(rt, alloc, b"", "Agent ", ": (4,3)->", count);
-    read(rt, alloc, text.as_slice(), 1)
-}
-
-// So many times of one agent, by time.
-fn read_times(rt: &impl Abort, alloc: Global, count: usize) -> Result<usize, PathsFault> {
-    let text = numbered(rt, alloc, b"solution=\n", "", ":(3,4)", count);
-    read(rt, alloc, text.as_slice(), count)
-}
-
-// So many times of one agent, by agent.
-fn read_path(rt: &impl Abort, alloc: Global, count: usize) -> Result<usize, PathsFault> {
-    let text = repeated(rt, alloc, b"Agent 0:", b"(4,3)->", count);
-    read(rt, alloc, text.as_slice(), count)
-}
-
-// One cell for each of so many agents, in lines of a session.
-fn read_lines(rt: &impl Abort, alloc: Global, count: usize) -> Result<usize, PathsFault> {
-    let text = numbered(rt, alloc, b"", "path ", " 3,4", count);
-    read(rt, alloc, text.as_slice(), 1)
-}
-
-// So many times of one agent, in a line of a session.
-fn read_line(rt: &impl Abort, alloc: Global, count: usize) -> Result<usize, PathsFault> {
-    let text = repeated(rt, alloc, b"path 0", b" 3,4", count);
-    read(rt, alloc, text.as_slice(), count)
+// One agent's path may have 131,072 cells, and no more: the line of the next is refused.
+fn longest_path(rt: &impl Abort, alloc: Global, text: &str, rest: Rest, line: usize) {
+    let fault = Err(PathsFault::TooLong { line });
+    for (count, told) in [(131_072, Ok(1)), (131_073, fault)] {
+        assert_eq!(rt; read(rt, alloc, text, (rest, count), count), told);
+    }
 }
 
 #[test]
 fn ten_thousand_agents_by_time(rt: HostRuntime) {
-    let alloc = rt.alloc();
-    let front = b"solution=\n0:";
-    let fault = Err(PathsFault::TooManyAgents { line: 2 });
-    assert_eq!(rt; read_row(&rt, alloc, front, 8_192), Ok(8_192));
-    assert_eq!(rt; read_row(&rt, alloc, front, 8_193), fault);
-    assert_eq!(rt; read_row(&rt, alloc, front, 10_000), fault);
+    let cells = Rest::Pieces("(3,4),");
+    most_agents(&rt, rt.alloc(), "solution=\n0:", cells, 2);
     let fault = Err(PathsFault::TooManyAgents { line: 1 });
-    assert_eq!(rt; read_row(&rt, alloc, b"starts=", 10_000), fault);
+    assert_eq!(rt; read(&rt, rt.alloc(), "starts=", (cells, 10_000), 1), fault);
 }
 
 #[test]
 fn ten_thousand_agents_by_agent(rt: HostRuntime) {
-    let alloc = rt.alloc();
-    let fault = Err(PathsFault::TooManyAgents { line: 8_193 });
-    assert_eq!(rt; read_agents(&rt, alloc, 8_192), Ok(8_192));
-    assert_eq!(rt; read_agents(&rt, alloc, 8_193), fault);
-    assert_eq!(rt; read_agents(&rt, alloc, 10_000), fault);
+    most_agents(
+        &rt,
+        rt.alloc(),
+        "",
+        Rest::Lines("Agent ", ": (4,3)->"),
+        8_193,
+    );
 }
 
 #[test]
 fn ten_thousand_agents_by_session(rt: HostRuntime) {
-    let alloc = rt.alloc();
-    let fault = Err(PathsFault::TooManyAgents { line: 8_193 });
-    assert_eq!(rt; read_lines(&rt, alloc, 8_192), Ok(8_192));
-    assert_eq!(rt; read_lines(&rt, alloc, 8_193), fault);
-    assert_eq!(rt; read_lines(&rt, alloc, 10_000), fault);
+    most_agents(&rt, rt.alloc(), "", Rest::Lines("path ", " 3,4"), 8_193);
 }
 
 #[test]
 fn longest_paths_by_time(rt: HostRuntime) {
-    let alloc = rt.alloc();
-    let fault = Err(PathsFault::TooLong { line: 131_074 });
-    assert_eq!(rt; read_times(&rt, alloc, 131_072), Ok(1));
-    assert_eq!(rt; read_times(&rt, alloc, 131_073), fault);
+    longest_path(
+        &rt,
+        rt.alloc(),
+        "solution=\n",
+        Rest::Lines("", ":(3,4)"),
+        131_074,
+    );
 }
 
 #[test]
 fn longest_paths_by_agent(rt: HostRuntime) {
-    let alloc = rt.alloc();
-    let fault = Err(PathsFault::TooLong { line: 1 });
-    assert_eq!(rt; read_path(&rt, alloc, 131_072), Ok(1));
-    assert_eq!(rt; read_path(&rt, alloc, 131_073), fault);
+    longest_path(&rt, rt.alloc(), "Agent 0:", Rest::Pieces("(4,3)->"), 1);
 }
 
 #[test]
 fn longest_paths_by_session(rt: HostRuntime) {
-    let alloc = rt.alloc();
-    let fault = Err(PathsFault::TooLong { line: 1 });
-    assert_eq!(rt; read_line(&rt, alloc, 131_072), Ok(1));
-    assert_eq!(rt; read_line(&rt, alloc, 131_073), fault);
+    longest_path(&rt, rt.alloc(), "path 0", Rest::Pieces(" 3,4"), 1);
 }

@@ -1,7 +1,5 @@
-mod chance;
 mod edited_paths;
 mod many_agents;
 mod path_fronts;
 mod plain;
 mod samples;
-mod told_paths;

@@ -1,9 +1,9 @@
 //! Files of paths that are cut off and edited, and their two readings.
 use super::plain::paths::{Told, read};
-use super::told_paths::{are_cells, is_list};
 use desk_lines::solver_paths::{Form, PathsFault, SolverPaths, read_paths};
 use std::alloc::Global;
 use std::process::Abort;
+use test_support::{are_at, is_list};
 
 /// Files of paths, and one that tells its starts twice.
 pub const TEXTS: &[&[u8]] = &[
@@ -34,10 +34,10 @@ fn is_told(read: &SolverPaths, told: &Told) -> bool {
         )
         && is_list(&read.goals, told.goals.as_ref().map(|list| list.as_slice()))
         && found.len() == told.paths.len()
-        && found.iter().zip(told.paths.as_slice()).all(|(cells, places)| are_cells(
-            cells.items(),
-            places.as_slice(),
-        ))
+        && found
+            .iter()
+            .zip(told.paths.as_slice())
+            .all(|(cells, places)| are_at(cells.items(), places.as_slice()))
 }
 
 /// The number of answers that `place` tells apart.

@@ -10,35 +10,15 @@ fn texts_of_faults(rt: HostRuntime) {
         (Fault::AgentsWithoutScen, "--agents needs --scen"),
         (Fault::CannotRead { file: "a.map" }, "can't read a.map"),
         (
-            Fault::Run(RunFault::from(TaskFault::TooManyAgents)),
+            Fault::Run(RunFault::Tasks(TaskFault::TooManyAgents)),
             "scen: too many agents",
         ),
         (
-            Fault::Run(RunFault::from(TaskFault::OutOfMap { task: 4 })),
+            Fault::Run(RunFault::Tasks(TaskFault::OutOfMap { task: 4 })),
             "scen: task 4 out of map",
         ),
         (
-            Fault::Run(RunFault::from(TaskFault::OutOfMemory)),
-            "out of memory",
-        ),
-        (
-            Fault::Run(RunFault::from(ServeFault::ReadFailed)),
-            "read failed",
-        ),
-        (
-            Fault::Run(RunFault::from(ServeFault::WriteFailed)),
-            "write failed",
-        ),
-        (
-            Fault::Run(RunFault::from(ServeFault::TooManyLines)),
-            "too many lines",
-        ),
-        (
-            Fault::Run(RunFault::from(ServeFault::TooManyBytes)),
-            "too many bytes",
-        ),
-        (
-            Fault::Run(RunFault::from(ServeFault::OutOfMemory)),
+            Fault::Run(RunFault::Tasks(TaskFault::OutOfMemory).as_told()),
             "out of memory",
         ),
         (Fault::Run(RunFault::PassLost), "pass lost"),
@@ -55,8 +35,10 @@ fn texts_of_faults(rt: HostRuntime) {
         (ServeFault::TooManyBytes, "too many bytes"),
         (ServeFault::OutOfMemory, "out of memory"),
     ] {
-        let text = format!(in rt.alloc(); "{fault}").expect(&rt, "a text");
-        assert!(rt; text.as_str() == wanted, "{text}");
+        let run = Fault::Run(RunFault::from(fault));
+        let texts = format!(in rt.alloc(); "{fault}; {run}").expect(&rt, "texts");
+        let wanted = format!(in rt.alloc(); "{wanted}; {wanted}").expect(&rt, "texts");
+        assert_eq!(rt; texts, wanted);
     }
     for (fault, wanted) in [
         (AuditFault::BadWorkers, "bad workers"),

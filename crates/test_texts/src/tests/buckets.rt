@@ -1,10 +1,10 @@
 //! Buckets of the tasks of edited scenarios.
-use super::chance::edited;
+use super::samples::LIKELY;
 use bench_reader::{Task, read_scen};
 use grid_cells::Size;
 use std::alloc::Global;
 use std::process::Abort;
-use test_support::Chain;
+use test_support::{Chain, edited, number};
 
 const GOOD: &[&str] = &[
     "version 1\n0 m 12 3 11 2 11 2 0\n",
@@ -17,18 +17,6 @@ const GOOD: &[&str] = &[
 fn first_word(line: &[u8]) -> Option<&[u8]> {
     let mut words = line.split(|byte| *byte == b' ' || *byte == b'\t' || *byte == b'\r');
     words.find(|word| !word.is_empty())
-}
-
-// The number that decimal digits write, if it is below 2^32.
-fn number(word: &[u8]) -> Option<u32> {
-    let mut value: u32 = 0;
-    for byte in word {
-        if !byte.is_ascii_digit() {
-            return None;
-        }
-        value = value.checked_mul(10)?.checked_add(u32::from(*byte - b'0'))?;
-    }
-    Some(value)
 }
 
 // The first numbers of the lines behind the first one.
@@ -59,7 +47,8 @@ fn buckets_of_edited_scenarios(rt: HostRuntime) {
     let mut chain = Chain::new(2);
     let mut count = 0u32;
     for _ in 0..2_500 {
-        let text = edited(&rt, alloc, &mut chain, GOOD);
+        let good = GOOD[chain.roll(GOOD.len())].as_bytes();
+        let text = edited(alloc, &mut chain, LIKELY, good).expect(&rt, "memory");
         if let Ok(tasks) = read_scen(alloc, text.as_slice(), size) {
             let wanted = buckets(&rt, alloc, text.as_slice());
             assert!(rt; are_of(tasks.items(), wanted.as_slice()), "{text:?}");

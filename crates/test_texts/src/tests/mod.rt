@@ -1,5 +1,4 @@
 mod buckets;
-mod chance;
 mod journals;
 mod readers;
 mod samples;

@@ -5,28 +5,14 @@ use desk_session::{Bounds, ServeFault, StartFault, serve_with_map};
 use plan_table::Mode;
 use std::alloc::Global;
 use std::process::Abort;
-use test_support::Torn;
+use test_support::{GATHERED_COMMIT, Torn};
 
 const MAP: &str = "type octile\nheight 1\nwidth 3\nmap\n...\n";
-
-/// Lines behind the map, each with its answer.
-const LINES: [(&str, &str); 10] = [
-    ("agent 0 0,0 2,0\n", "version 1\n"),
-    ("begin\n", "base 1\n"),
-    ("watch map\n", "kept\n"),
-    ("path 0 0,0 1,0 2,0\n", "kept\n"),
-    ("commit\n", "version 2\n"),
-    ("jump 1\n", "bad 6 word\n"),
-    ("commit\n", "bad 7 notbegun\n"),
-    ("path 0 0,0 2,0\n", "refused faulty 0 not-a-step 1\n"),
-    ("distance 0 0,0\n", "distance 2\n"),
-    ("solves vertex edge\n", "solves yes\n"),
-];
 
 // The text of the map and the lines.
 fn session(rt: &impl Abort, alloc: Global) -> Vec<u8> {
     let mut text = Vec::from_slice(alloc, MAP.as_bytes()).expect(rt, "memory");
-    for (line, _answer) in LINES {
+    for (line, _answer) in GATHERED_COMMIT {
         text.extend_from_slice(line.as_bytes()).expect(rt, "memory");
     }
     text
@@ -36,7 +22,7 @@ fn session(rt: &impl Abort, alloc: Global) -> Vec<u8> {
 fn answers(rt: &impl Abort, alloc: Global, bytes: usize) -> Vec<u8> {
     let mut text = Vec::new(alloc);
     let mut end = MAP.len();
-    for (line, answer) in LINES {
+    for (line, answer) in GATHERED_COMMIT {
         end = end.saturating_add(line.len());
         if end <= bytes {
             text.extend_from_slice(answer.as_bytes())

@@ -1,10 +1,14 @@
-//! Journals, and their texts.
+//! Journals, their texts, and the bytes of edits.
 use desk_core::{Commit, Edit, Thing};
 use desk_session::Journal;
 use grid_cells::{Agent, Cell, List, Planner, Step};
 use plan_table::Mode;
 use std::alloc::Global;
 use std::process::Abort;
+use test_support::cells_at;
+
+/// What edits put in most often: the bytes that the grammars are made of.
+pub const LIKELY: &[u8] = b" \t\r\n,#-.@Gxey0123456789";
 
 /// One entry, in both versions: planner 1 moves agent 3 from (0,0) to (1,0).
 pub const FIRST: &str = "journal 1\nentry 1 0 0 1\npath 3 0,0 1,0\nend 1\n";
@@ -24,11 +28,7 @@ fn cell(rt: &impl Abort, x: u32, y: u32) -> Cell {
 }
 
 fn cells(rt: &impl Abort, alloc: Global, path: &[(u32, u32)]) -> List<Cell> {
-    let mut cells = Vec::new(alloc);
-    for (x, y) in path {
-        cells.push(cell(rt, *x, *y)).expect(rt, "memory");
-    }
-    List::new(cells)
+    List::new(cells_at(alloc, path).expect(rt, "cells"))
 }
 
 // The edits of ALL, and that of FIRST and SECOND as the last.

@@ -1,9 +1,9 @@
 //! Files of paths as they are read: their form, their lists, and each cell with the waits at a path's
 //! end.
 use desk_lines::solver_paths::{Form, SolverPaths, read_paths};
-use grid_cells::{Cell, List};
 use std::alloc::Global;
 use std::process::Abort;
+use test_support::{are_at, is_list};
 
 type Places = &'static [(u32, u32)];
 
@@ -97,30 +97,13 @@ const BY_SESSION: &[Told] = &[
     ),
 ];
 
-fn are_cells(cells: &[Cell], places: &[(u32, u32)]) -> bool {
-    cells.len() == places.len()
-        && cells
-            .iter()
-            .zip(places)
-            .all(|(cell, place)| (cell.x(), cell.y()) == *place)
-}
-
-// Whether the list is told as these cells, or isn't told.
-fn is_list(list: &Option<List<Cell>>, places: Option<&[(u32, u32)]>) -> bool {
-    match (list, places) {
-        (Some(cells), Some(places)) => are_cells(cells.items(), places),
-        (None, None) => true,
-        _ => false,
-    }
-}
-
 fn are_paths(read: &SolverPaths, paths: &[Places]) -> bool {
     let found = read.paths.items();
     found.len() == paths.len()
         && found
             .iter()
             .zip(paths)
-            .all(|(cells, places)| are_cells(cells.items(), places))
+            .all(|(cells, places)| are_at(cells.items(), places))
 }
 
 // The texts tell these paths in that form, whether or not it is named.

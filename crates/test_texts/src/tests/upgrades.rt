@@ -1,11 +1,10 @@
 //! Journals that are upgraded where they are read, and refused for the same line where they aren't.
-use super::chance::edited;
-use super::samples::{ALL, FIRST, SECOND};
+use super::samples::{ALL, FIRST, LIKELY, SECOND};
 use desk_session::{JournalFault, read_journal, upgrade_journal};
 use plan_table::Mode;
 use std::alloc::Global;
 use std::process::Abort;
-use test_support::Chain;
+use test_support::{Chain, edited};
 
 const GOOD: &[&str] = &[
     FIRST,
@@ -110,7 +109,8 @@ fn journals_upgraded_as_they_are_read(rt: HostRuntime) {
     let mut chain = Chain::new(3);
     let mut seen = [0u32; 16];
     for _ in 0..2_500 {
-        let text = edited(&rt, alloc, &mut chain, GOOD);
+        let good = GOOD[chain.roll(GOOD.len())].as_bytes();
+        let text = edited(alloc, &mut chain, LIKELY, good).expect(&rt, "memory");
         let line = upgraded(&rt, alloc, text.as_slice());
         if line < 16 {
             seen[line] = seen[line].saturating_add(1);

@@ -22,31 +22,8 @@ fn is_journal(rt: &impl Abort, alloc: Global, read: Result<Journal, JournalFault
     }
 }
 
-// Whether the text is read with so many bytes, as the journal of both.
-fn is_read(
-    rt: &impl Abort,
-    alloc: Global,
-    drought: &mut Drought,
-    text: &str,
-    bytes: usize,
-) -> bool {
-    drought.leave(bytes).expect(rt, "memory");
-    let read = read_journal(alloc, text.as_bytes());
-    drought.relieve();
-    is_journal(rt, alloc, read)
-}
-
-// Whether the text is upgraded with so many bytes, to the second text.
-fn is_upgraded(
-    rt: &impl Abort,
-    alloc: Global,
-    drought: &mut Drought,
-    text: &str,
-    bytes: usize,
-) -> bool {
-    drought.leave(bytes).expect(rt, "memory");
-    let upgraded = upgrade_journal(alloc, text.as_bytes());
-    drought.relieve();
+// Whether the text was upgraded to the second text; or else there was want of memory.
+fn is_second(rt: &impl Abort, upgraded: Result<Vec<u8>, JournalFault>) -> bool {
     match upgraded {
         Ok(upgraded) => {
             assert!(rt; upgraded.as_slice() == SECOND.as_bytes());
@@ -59,20 +36,44 @@ fn is_upgraded(
     }
 }
 
+// Whether the text is read, or upgraded, with so many bytes.
+fn is_done(
+    rt: &impl Abort,
+    alloc: Global,
+    drought: &mut Drought,
+    text: &str,
+    upgrades: bool,
+    bytes: usize,
+) -> bool {
+    drought.leave(bytes).expect(rt, "memory");
+    if upgrades {
+        let upgraded = upgrade_journal(alloc, text.as_bytes());
+        drought.relieve();
+        is_second(rt, upgraded)
+    } else {
+        let read = read_journal(alloc, text.as_bytes());
+        drought.relieve();
+        is_journal(rt, alloc, read)
+    }
+}
+
 // Each is refused at first, with 16 bytes more each time until it isn't.
 #[test]
 fn journals_read_and_upgraded(rt: HostRuntime) {
     let alloc = rt.alloc();
     let mut drought = Drought::begin(alloc).expect(&rt, "memory");
-    for text in [FIRST, SECOND] {
-        assert!(rt; !is_read(&rt, alloc, &mut drought, text, 0));
-        assert!(rt; !is_upgraded(&rt, alloc, &mut drought, text, 0));
-        let (mut read, mut upgraded) = (false, false);
+    for (text, upgrades) in [
+        (FIRST, false),
+        (FIRST, true),
+        (SECOND, false),
+        (SECOND, true),
+    ] {
+        assert!(rt; !is_done(&rt, alloc, &mut drought, text, upgrades, 0));
+        let mut done = false;
         for step in 0..1_000 {
-            read = read || is_read(&rt, alloc, &mut drought, text, 16 * step);
-            upgraded = upgraded || is_upgraded(&rt, alloc, &mut drought, text, 16 * step);
+            done = done || is_done(&rt, alloc, &mut drought, text, upgrades, 16 * step);
         }
-        assert!(rt; read && upgraded, "refused with 16,000 bytes");
+        assert!(rt; done, "refused with 16,000 bytes");
     }
     drop(drought);
     let line = JournalFault::BadLine { line: 3 };

@@ -1,7 +1,5 @@
 //! Worked sessions, line by line.
-
-/// A line with its answer.
-pub type Line = (&'static str, &'static str);
+use test_support::{GATHERED_COMMIT, Line};
 
 /// A session over an open map of 3 x 1 cells: whether the map comes first in its text or is a desk's,
 /// its lines, and the numbers of the text's lines that take memory.
@@ -13,18 +11,7 @@ pub struct Session {
 
 pub const GATHERED_COMMIT_IN_A_SESSION: Session = Session {
     map: false,
-    lines: &[
-        ("agent 0 0,0 2,0\n", "version 1\n"),
-        ("begin\n", "base 1\n"),
-        ("watch map\n", "kept\n"),
-        ("path 0 0,0 1,0 2,0\n", "kept\n"),
-        ("commit\n", "version 2\n"),
-        ("jump 1\n", "bad 6 word\n"),
-        ("commit\n", "bad 7 notbegun\n"),
-        ("path 0 0,0 2,0\n", "refused faulty 0 not-a-step 1\n"),
-        ("distance 0 0,0\n", "distance 2\n"),
-        ("solves vertex edge\n", "solves yes\n"),
-    ],
+    lines: GATHERED_COMMIT,
     takes: &[1, 3, 4, 5, 8, 9],
 };
 

@@ -1,10 +1,12 @@
 //! Calls of a shared desk, each with so many bytes or with ample memory.
+ghost use Rattle.std.specs.Prelude.{◌≡◌};
 ghost use Rattle.desk_shared.specs.Passes.{Owns};
 
 use super::super::build::{agent, cell, commit, desk, leave};
 use super::super::scenes::is_scene;
-use desk_core::{AskFault, Refusal};
+use desk_core::{AskFault, Commit, Reading, Refusal, Snapshot};
 use desk_shared::{Pass, ShareFault, SharedDesk};
+use grid_cells::OutOfMemory;
 use std::alloc::Global;
 use std::process::Abort;
 use std::sync::Wait;
@@ -42,103 +44,67 @@ pub fn opens(
     }
 }
 
-// Call 1, a path of agent 3 to (1,0). Tells whether there was memory for it.
-fn commits<R: Wait + Abort>(
+// What a call answers.
+#[derive(Drop)]
+enum Answer {
+    Done(Result<u64, (Refusal, Commit)>),
+    Far(Result<Option<u32>, AskFault>),
+    Shown(Result<Reading, OutOfMemory>),
+    Copied(Result<Snapshot, OutOfMemory>),
+}
+
+// Makes the call of that number, of which 1 alone takes the commit. Call 2 asks for the distance from
+// (0,0) to the goal at (2,0): where nobody has read before, it builds the indexes. Call 3 is a
+// reading, call 4 a snapshot.
+fn answered<R: Wait + Abort>(
     rt: &R,
-    alloc: Global,
-    drought: &mut Drought,
     shared: &SharedDesk,
     pass: &mut Pass,
-    bytes: Option<usize>,
-) -> bool
-    requires { Owns shared.now pass.old }
+    number: u32,
+    commit: Commit,
+) -> Answer
+    requires owned { Owns shared.now pass.old }
+    requires planner { commit.planner ≡ pass.old.known.planner }
     ensures { Owns shared.now pass.new }
 {
-    let commit = commit(rt, alloc, pass.planner(), 0, &["path 3 0,0 1,0"]);
-    leave(rt, drought, bytes);
-    let answer = shared.commit(rt, pass, commit);
-    drought.relieve();
-    match answer {
-        Ok(version) => {
-            assert!(rt; version == 1);
-            true
-        }
-        Err((why, back)) => {
-            assert!(rt; why == Refusal::OutOfMemory);
-            drop(back);
-            false
-        }
+    match number {
+        1 => Answer::Done(shared.commit(rt, pass, commit)),
+        2 => Answer::Far(shared.distance(rt, pass, agent(rt, 3), cell(rt, 0, 0))),
+        3 => Answer::Shown(shared.reading(rt, pass)),
+        _ => Answer::Copied(shared.snapshot(rt, pass)),
     }
 }
 
-// Call 2, the distance from (0,0) to the goal at (2,0). Where nobody has read before, it builds the
-// indexes.
-fn asks<R: Wait + Abort>(
-    rt: &R,
-    drought: &mut Drought,
-    shared: &SharedDesk,
-    pass: &mut Pass,
-    bytes: Option<usize>,
-) -> bool
-    requires { Owns shared.now pass.old }
-    ensures { Owns shared.now pass.new }
-{
-    let three = agent(rt, 3);
-    let corner = cell(rt, 0, 0);
-    leave(rt, drought, bytes);
-    let answer = shared.distance(rt, pass, three, corner);
-    drought.relieve();
-    assert!(rt; matches!(answer, Ok(Some(2)) | Err(AskFault::OutOfMemory)));
-    answer.is_ok()
-}
-
-// Call 3, a reading: version 1, and agent 3 is at rest after one step.
-fn reads<R: Wait + Abort>(
-    rt: &R,
-    drought: &mut Drought,
-    shared: &SharedDesk,
-    pass: &mut Pass,
-    bytes: Option<usize>,
-) -> bool
-    requires { Owns shared.now pass.old }
-    ensures { Owns shared.now pass.new }
-{
-    leave(rt, drought, bytes);
-    let answer = shared.reading(rt, pass);
-    drought.relieve();
-    let Ok(reading) = answer else {
-        return false;
-    };
-    let line = reading.report.lines.items().first().expect(rt, "a line");
-    assert!(rt; reading.version == 1 && line.settle == 1);
-    drop(reading);
+// Whether there was memory for the call. Then the commit made version 1, agent 3 is 2 steps from its
+// goal, the reading tells that it is at rest after one step, and the copy is of its scene then.
+fn is_answered(rt: &impl Abort, alloc: Global, answer: Answer) -> bool {
+    match answer {
+        Answer::Done(Ok(version)) => assert!(rt; version == 1),
+        Answer::Done(Err((why, back))) => {
+            assert!(rt; why == Refusal::OutOfMemory);
+            drop(back);
+            return false;
+        }
+        Answer::Far(far) => {
+            assert!(rt; matches!(far, Ok(Some(2)) | Err(AskFault::OutOfMemory)));
+            return far.is_ok();
+        }
+        Answer::Shown(Ok(reading)) => {
+            let line = reading.report.lines.items().first().expect(rt, "a line");
+            assert!(rt; reading.version == 1 && line.settle == 1);
+            drop(reading);
+        }
+        Answer::Copied(Ok(copy)) => {
+            assert!(rt; copy.version == 1 && is_scene(rt, alloc, &copy.scene, AFTER));
+            drop(copy);
+        }
+        Answer::Shown(Err(_)) | Answer::Copied(Err(_)) => return false,
+    }
     true
 }
 
-// Call 4, a snapshot.
-fn copies<R: Wait + Abort>(
-    rt: &R,
-    alloc: Global,
-    drought: &mut Drought,
-    shared: &SharedDesk,
-    pass: &mut Pass,
-    bytes: Option<usize>,
-) -> bool
-    requires { Owns shared.now pass.old }
-    ensures { Owns shared.now pass.new }
-{
-    leave(rt, drought, bytes);
-    let answer = shared.snapshot(rt, pass);
-    drought.relieve();
-    let Ok(copy) = answer else {
-        return false;
-    };
-    assert!(rt; copy.version == 1 && is_scene(rt, alloc, &copy.scene, AFTER));
-    drop(copy);
-    true
-}
-
-/// Makes the call of that number, 1 to 4. Tells whether there was memory for it.
+/// Makes the call of that number, 1 to 4: a path of agent 3 to (1,0), its distance, a reading or a
+/// snapshot. Tells whether there was memory for it.
 pub fn calls<R: Wait + Abort>(
     rt: &R,
     alloc: Global,
@@ -151,10 +117,9 @@ pub fn calls<R: Wait + Abort>(
     requires { Owns shared.now pass.old }
     ensures { Owns shared.now pass.new }
 {
-    match number {
-        1 => commits(rt, alloc, drought, shared, pass, bytes),
-        2 => asks(rt, drought, shared, pass, bytes),
-        3 => reads(rt, drought, shared, pass, bytes),
-        _ => copies(rt, alloc, drought, shared, pass, bytes),
-    }
+    let commit = commit(rt, alloc, pass.planner(), 0, &["path 3 0,0 1,0"]);
+    leave(rt, drought, bytes);
+    let answer = answered(rt, shared, pass, number, commit);
+    drought.relieve();
+    is_answered(rt, alloc, answer)
 }

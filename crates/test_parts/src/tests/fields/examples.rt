@@ -8,6 +8,7 @@ use goal_fields::{Field, Fields};
 use grid_cells::{Cell, Grid, Size};
 use std::alloc::Global;
 use std::process::Abort;
+use test_support::cells_at;
 
 // Whether cells open or close in one repair, which ones, how many cells it takes, and the distances
 // after it in the two upper rows.
@@ -81,15 +82,6 @@ const EXAMPLES: &[Example] = &[
     },
 ];
 
-// The cells at the places.
-fn cells_at(rt: &impl Abort, alloc: Global, places: &[(u32, u32)]) -> Vec<Cell> {
-    let mut cells = Vec::new(alloc);
-    for (x, y) in places {
-        cells.push(at(rt, *x, *y)).expect(rt, "memory");
-    }
-    cells
-}
-
 // Makes one repair of that example.
 fn repair(
     rt: &impl Abort,
@@ -103,7 +95,7 @@ fn repair(
     ensures { field.new.grid ≡ grid.new }
 {
     let (free, places, count, rows) = repair;
-    let cells = cells_at(rt, alloc, places);
+    let cells = cells_at(alloc, places).expect(rt, "cells");
     let taken = change(field, grid, cells.as_slice(), free);
     drop(cells);
     assert!(rt; taken == count, "{name}");

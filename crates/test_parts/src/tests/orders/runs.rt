@@ -1,12 +1,11 @@
 //! Runs of the examples in all orders of their agents.
 use super::examples::{EXAMPLES, Example, Path};
 use conflict_ledger::ConflictLedger;
-use desk_report::{Report, Spout, write_report};
-use grid_cells::{Agent, Cell, List};
-use mapf_rules::Kind;
+use grid_cells::Agent;
 use plan_table::{Plan, Track};
 use std::alloc::Global;
 use std::process::Abort;
+use test_support::{KINDS, cells_at, conflicts_alone, text_of};
 use where_index::WhereIndex;
 
 // An agent with its plan.
@@ -50,12 +49,7 @@ fn retracted(rt: &impl Abort, both: Both, walker: &Walker) -> Both {
 }
 
 fn plan(rt: &impl Abort, alloc: Global, path: Path) -> Plan {
-    let mut cells = Vec::new(alloc);
-    for (x, y) in path {
-        let cell = Cell::new(*x, *y).expect(rt, "a cell");
-        cells.push(cell).expect(rt, "memory");
-    }
-    match Plan::new(cells) {
+    match Plan::new(cells_at(alloc, path).expect(rt, "cells")) {
         Ok(plan) => plan,
         Err(_) => panic!(rt; "no plan"),
     }
@@ -104,33 +98,20 @@ fn order(rt: &impl Abort, alloc: Global, many: usize, mut code: usize) -> Vec<us
     order
 }
 
-// The numbers of entries, kind by kind.
-fn counts(ledger: &ConflictLedger) -> [u64; 6] {
-    [
-        ledger.count(Kind::Vertex),
-        ledger.count(Kind::Parked),
-        ledger.count(Kind::Edge),
-        ledger.count(Kind::Following),
-        ledger.count(Kind::Swapping),
-        ledger.count(Kind::Cycle),
-    ]
+// Whether there are so many entries of each kind.
+fn are_counted(ledger: &ConflictLedger, counts: &[u64; 6]) -> bool {
+    KINDS
+        .iter()
+        .zip(counts)
+        .all(|(kind, count)| ledger.count(*kind) == *count)
 }
 
 // The text of a report that has the ledger's entries and nothing more.
 fn told(rt: &impl Abort, alloc: Global, ledger: &ConflictLedger) -> Vec<u8> {
-    let report = Report {
-        conflicts: ledger.listed().expect(rt, "memory"),
-        visits: List::new(Vec::new(alloc)),
-        lines: List::new(Vec::new(alloc)),
-        sum: None,
-        makespan: None,
-        bounds: None,
-        total_gap: None,
-    };
-    let mut sink = Spout::new(Vec::new(alloc));
-    assert!(rt; write_report(&report, &mut sink).is_ok());
+    let report = conflicts_alone(alloc, ledger.listed().expect(rt, "memory"));
+    let text = text_of(alloc, &report).expect(rt, "memory");
     drop(report);
-    sink.into_inner()
+    text
 }
 
 // The text of a report with those lines of conflicts.
@@ -164,11 +145,11 @@ fn come_and_go(
         both = admitted(rt, both, walkers.get(*place).expect(rt, "a walker"));
     }
     assert!(rt; told(rt, alloc, &both.ledger) == wanted(rt, alloc, example));
-    assert!(rt; counts(&both.ledger) == example.counts);
+    assert!(rt; are_counted(&both.ledger, &example.counts));
     for place in order {
         both = retracted(rt, both, walkers.get(*place).expect(rt, "a walker"));
     }
-    assert!(rt; counts(&both.ledger) == [0; 6]);
+    assert!(rt; are_counted(&both.ledger, &[0; 6]));
     drop(both);
 }
 

@@ -1,8 +1,9 @@
 //! Lists of cells.
-use super::lines::{behind, number, parted};
+use super::lines::{behind, parted};
 use desk_lines::solver_paths::{Form, PathsFault};
 use std::alloc::Global;
 use std::process::Abort;
+use test_support::number;
 
 /// A cell's column and row.
 pub type Place = (u32, u32);

@@ -1,6 +1,7 @@
-//! Lines, prefixes and numbers.
+//! Lines and prefixes.
 use std::alloc::Global;
 use std::process::Abort;
+use test_support::number;
 
 /// A line's number, and the line without the blanks at its ends.
 pub type Line<'a> = (usize, &'a [u8]);
@@ -53,21 +54,6 @@ pub fn behind<'a>(prefix: &[u8], text: &'a [u8]) -> Option<&'a [u8]> {
 pub fn parted(text: &[u8], mark: u8) -> Option<(&[u8], &[u8])> {
     let place = text.iter().position(|byte| *byte == mark)?;
     Some((text.get(..place)?, text.get(place.saturating_add(1)..)?))
-}
-
-/// The number that decimal digits write, if it is below 2^32.
-pub fn number(word: &[u8]) -> Option<u32> {
-    if word.is_empty() {
-        return None;
-    }
-    let mut value: u32 = 0;
-    for byte in word {
-        if !byte.is_ascii_digit() {
-            return None;
-        }
-        value = value.checked_mul(10)?.checked_add(u32::from(*byte - b'0'))?;
-    }
-    Some(value)
 }
 
 /// What stands behind that number and a colon.

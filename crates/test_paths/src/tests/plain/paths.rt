@@ -16,6 +16,21 @@ pub struct Told {
     pub paths: Vec<Vec<Place>>,
 }
 
+impl Told {
+    /// What a file of paths alone tells.
+    pub fn of(form: Form, paths: Vec<Vec<Place>>) -> Result<Told, PathsFault> {
+        if paths.is_empty() {
+            return Err(PathsFault::NoPaths);
+        }
+        Ok(Told {
+            form,
+            starts: None,
+            goals: None,
+            paths,
+        })
+    }
+}
+
 // The path in the line of that agent.
 fn path(
     rt: &impl Abort,
@@ -43,15 +58,7 @@ fn by_agent(rt: &impl Abort, alloc: Global, lines: &[Line]) -> Result<Told, Path
         let path = path(rt, alloc, agent, *line, text)?;
         paths.push(path).expect(rt, "memory");
     }
-    if paths.is_empty() {
-        return Err(PathsFault::NoPaths);
-    }
-    Ok(Told {
-        form: Form::ByAgent,
-        starts: None,
-        goals: None,
-        paths,
-    })
+    Told::of(Form::ByAgent, paths)
 }
 
 // The form that the first line tells.

@@ -1,10 +1,11 @@
 //! Paths as lines of a session.
 use super::cells::{Place, pair};
-use super::lines::{Line, behind, is_blank, number, without_front};
+use super::lines::{Line, behind, is_blank, without_front};
 use super::paths::Told;
 use desk_lines::solver_paths::{Form, PathsFault};
 use std::alloc::Global;
 use std::process::Abort;
+use test_support::number;
 
 // The first word of a line, and what stands behind it.
 fn first_word(line: &[u8]) -> Option<(&[u8], &[u8])> {
@@ -83,13 +84,5 @@ pub fn by_session(rt: &impl Abort, alloc: Global, lines: &[Line]) -> Result<Told
             paths.push(path).expect(rt, "memory");
         }
     }
-    if paths.is_empty() {
-        return Err(PathsFault::NoPaths);
-    }
-    Ok(Told {
-        form: Form::BySession,
-        starts: None,
-        goals: None,
-        paths,
-    })
+    Told::of(Form::BySession, paths)
 }

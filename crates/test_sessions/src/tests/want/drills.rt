@@ -1,16 +1,12 @@
 //! Drills while memory comes back block by block.
-use crate::tests::drills::texts;
-use crate::tests::worked::MAP;
-use desk_audit::Gate;
-use desk_report::Spout;
-use desk_runs::{RunFault, run_drill};
-use plan_table::Mode;
+use crate::tests::drills::{drilled, texts};
+use desk_runs::RunFault;
 use std::alloc::Global;
 use std::process::Abort;
 use std::sync::Wait;
-use std::sync::atomic::{AtomicU64, Ordering};
 use std::thread::Threads;
 use test_droughts::take_all;
+use test_support::Turnstile;
 
 // The drill's text where both scripts' edits were accepted, where one was and the other found no
 // memory, and where neither found any.
@@ -21,46 +17,10 @@ const TEXTS: [&str; 4] = [
     "version 0\nagents 0\nconflicts 0\nblocked 0\nsum 0\nmakespan 0\nbounds 0\ngap 0\nend\naudit same\n",
 ];
 
-// Counts the scripts that begin.
-#[derive(Drop)]
-struct Turnstile {
-    begun: AtomicU64,
-}
-
-impl Gate for Turnstile {
-    fn begins(&self, _script: u32) {
-        self.begun.fetch_add(1, Ordering::SeqCst);
-    }
-}
-
 // Whether a hundred thousand bytes can be had, which is more than the drill's growths take in all.
 fn is_ample(alloc: Global) -> bool {
     let block: Result<Vec<u8>, _> = Vec::with_capacity(alloc, 100_000);
     block.is_ok()
-}
-
-// What `run_drill` answers, and what it writes. The writer has room.
-fn drilled<R: Threads + Wait + Sync>(
-    rt: &R,
-    alloc: Global,
-    scripts: Vec<Vec<u8>>,
-    gate: &Turnstile,
-    room: Vec<u8>,
-) -> (Result<bool, RunFault>, Vec<u8>) {
-    let mut writer = Spout::new(room);
-    let ended = run_drill(
-        rt,
-        alloc,
-        MAP.as_bytes(),
-        None,
-        0,
-        Mode::Stay,
-        4,
-        scripts,
-        gate,
-        &mut writer,
-    );
-    (ended, writer.into_inner())
 }
 
 // How a drill of two scripts ended: the text that it wrote, if it did, and how many scripts began.
@@ -77,11 +37,9 @@ fn end_of<R: Threads + Wait + Sync + Abort>(
     scripts: Vec<Vec<u8>>,
     room: Vec<u8>,
 ) -> (Ended, Vec<u8>) {
-    let gate = Turnstile {
-        begun: AtomicU64::new(0),
-    };
+    let gate = Turnstile::new();
     let (ended, mut written) = drilled(rt, alloc, scripts, &gate, room);
-    let begun = gate.begun.load(Ordering::SeqCst);
+    let begun = gate.begun();
     let place = TEXTS
         .iter()
         .position(|text| text.as_bytes() == written.as_slice());
