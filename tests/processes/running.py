@@ -4,9 +4,24 @@ import os
 import resource
 import select
 import subprocess
+import time
 
 TOP = os.path.dirname(os.path.dirname(os.path.dirname(os.path.abspath(__file__))))
 PATIENCE = int(os.environ.get("PATIENCE", 60))  # seconds that one run may take
+
+
+def processor_time():
+    """The seconds that the runs so far took of all processors together, so that other work beside them counts little."""
+    used = resource.getrusage(resource.RUSAGE_CHILDREN)
+    return used.ru_utime + used.ru_stime
+
+
+def second():
+    """A second for the limits of time, or on a slow machine what a loop takes here and now that took a second where they were set."""
+    began, total = time.process_time(), 0
+    for it in range(7_000_000):
+        total += it
+    return max(1, time.process_time() - began) * PATIENCE / 60
 
 
 class Program:
