@@ -6,9 +6,9 @@ use Rattle.std.proofs.lemmas.List.Elements.{Contains-append_left, Contains-appen
 use Rattle.plan_table.specs.Order.{ListsAll}
 use Rattle.plan_table.specs.Route.{Fleet, last_of}
 use Rattle.mapf_rules.specs.ConflictList.{Stands, listing_key}
-use Rattle.mapf_rules.specs.Naming.{IsOfPair}
+use Rattle.mapf_rules.specs.Naming.{IsOfPair, first_agent}
 use Rattle.mapf_rules.specs.declared.entries.Conflict.{Conflict}
-use Rattle.desk_audit.specs.Parts.{IsRanked, first_agent, AreEntriesOf}
+use Rattle.desk_audit.specs.Parts.{IsRanked, AreEntriesOf}
 use Rattle.desk_audit.specs.Seeking.{Finds, IsOfMet, IsOfPassed}
 use Rattle.std.specs.List.{slice_get}
 use Rattle.std.proofs.lemmas.Bool.{cases_lt}

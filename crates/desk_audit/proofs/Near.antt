@@ -6,11 +6,10 @@ use Rattle.grid_cells.specs.Cell.{Point}
 use Rattle.plan_table.specs.Route.{Fleet, position_of, last_of, Leaves}
 use Rattle.plan_table.proofs.Fleets.{changes_early, leaver_early, position_rests}
 use Rattle.mapf_rules.specs.ConflictList.{Stands}
-use Rattle.mapf_rules.specs.Naming.{IsOfPair}
+use Rattle.mapf_rules.specs.Naming.{IsOfPair, time_of, first_agent}
 use Rattle.mapf_rules.specs.declared.entries.Conflict.{Conflict}
 use Rattle.mapf_rules.specs.declared.entries.Conflict.TheVariants.{Vertex, Parked, Edge, Following, Swapping, Cycle}
-use Rattle.desk_audit.specs.Parts.{first_agent}
-use Rattle.desk_audit.specs.Seeking.{time_of, IsRingFrom, Leads, IsAhead, HasMet, IsOfMet, IsOfPassed}
+use Rattle.desk_audit.specs.Seeking.{IsRingFrom, Leads, IsAhead, HasMet, IsOfMet, IsOfPassed}
 use Rattle.desk_audit.specs.Filing.{Files}
 use Rattle.desk_audit.specs.Index.{IsIndexOf, pass}
 use Rattle.desk_audit.specs.declared.tables.Pass.{Pass}

@@ -9,16 +9,15 @@ use Rattle.plan_table.specs.declared.plans.Row.{Row}
 use Rattle.plan_table.specs.declared.tracks.Mode.{Mode}
 use Rattle.scene_edits.specs.Scene.{SceneState}
 use Rattle.mapf_rules.specs.ConflictList.{Stands, AreConflicts, listing_key}
-use Rattle.mapf_rules.specs.declared.entries.Conflict.TheVariants.{Vertex, Parked, Edge, Following, Swapping, Cycle}
-use Rattle.mapf_rules.proofs.Live.{stands_live}
-use Rattle.mapf_rules.proofs.RoundTrips.{ring_live}
+use Rattle.mapf_rules.proofs.Live.{stands_first}
 use Rattle.plan_table.proofs.Fleets.{tracks_live}
 use Rattle.std.specs.Prelude.{IsSome}
 use Rattle.std.proofs.lemmas.List.{take_rest}
 use Rattle.mapf_rules.specs.declared.entries.Conflict.{Conflict}
 use Rattle.mapf_rules.specs.Visits.{visit_key}
 use Rattle.desk_report.specs.Report.{IsLine, AreLines}
-use Rattle.desk_audit.specs.Parts.{IsPart, IsVisitOf, AreEntriesOf, first_agent}
+use Rattle.mapf_rules.specs.Naming.{first_agent}
+use Rattle.desk_audit.specs.Parts.{IsPart, IsVisitOf, AreEntriesOf}
 use Rattle.desk_audit.specs.Pieces.{Tiles}
 use Rattle.desk_audit.specs.declared.parts.Part.{Part}
 use Rattle.desk_audit.specs.declared.threads.Piece.{Piece}
@@ -49,15 +48,6 @@ part_join grid mode rows by_agent at to le whole part new left right conflicts v
       (subst (λ (r : List (ℕ × Row)). AreLines grid r (whole.lines.items ++ part.lines.items)) (range_step rows 0 at to (omega arith) le)
       (EachOf-append (IsLine grid) (slice_range rows 0 at) (slice_range rows at to) whole.lines.items part.lines.items left.lines right.lines));
 }
-
--- whoever an entry names first has a row
-stands_first : (fleet : Fleet) (entry : Conflict) → Stands fleet entry → IsSome (fleet (first_agent entry))
-stands_first fleet (Vertex x a b c) is = (stands_live fleet (Vertex x a b c) x a b is (refl, refl, refl)).0
-stands_first fleet (Parked x a b c) is = (stands_live fleet (Parked x a b c) x a b is (refl, refl, refl)).0
-stands_first fleet (Edge x a b c n) is = (stands_live fleet (Edge x a b c n) x a b is (refl, refl, refl)).0
-stands_first fleet (Following x a b c) is = (stands_live fleet (Following x a b c) x a b is (refl, refl, refl)).0
-stands_first fleet (Swapping x a b c n) is = (stands_live fleet (Swapping x a b c n) x a b is (refl, refl, refl)).0
-stands_first fleet (Cycle x r) is = ring_live fleet x r is
 
 -- the entries of all agents, in order and each once, are the conflict list
 pub all_entries : (mode : Mode) (rows : List (ℕ × Row)) (entries list : List Conflict) → AreEntriesOf (tracks_of mode rows) rows 0 (length rows) entries → ListsAll listing_key (Contains entries) list → AreConflicts (tracks_of mode rows) list

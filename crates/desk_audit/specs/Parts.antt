@@ -1,5 +1,5 @@
 -- The parts of a report: each piece tells of the agents at ranks from one on and before another (this project's choice).
-use Rattle.std.specs.Prelude.{◌≡◌, ◌↔◌, ℕ, ◌+◌, ◌*◌, ◌/◌, ◌<◌, ◌≤◌, Option, Some, None, List, Contains, slice_get, slice_index, slice_index_or, slice_range}
+use Rattle.std.specs.Prelude.{◌≡◌, ◌↔◌, ℕ, ◌+◌, ◌*◌, ◌/◌, ◌<◌, ◌≤◌, Option, Some, None, List, Contains, slice_get, slice_index_or, slice_range}
 use Rattle.grid_cells.specs.Grid.{Chart}
 use Rattle.plan_table.specs.Order.{ListsAll}
 use Rattle.plan_table.specs.Plans.{agents_of, row_of}
@@ -7,13 +7,13 @@ use Rattle.plan_table.specs.Route.{Fleet, tracks_of}
 use Rattle.plan_table.specs.declared.tracks.Mode.{Mode}
 use Rattle.scene_edits.specs.Scene.{IsRowOn}
 use Rattle.mapf_rules.specs.ConflictList.{Stands}
+use Rattle.mapf_rules.specs.Naming.{first_agent}
 use Rattle.mapf_rules.specs.Visits.{IsVisit, visit_key}
 use Rattle.mapf_rules.specs.declared.visits.Visit.{Visit}
 use Rattle.desk_report.specs.Report.{IsBound, AreLines}
 use Rattle.desk_audit.specs.declared.parts.Part.{Part}
 use Rattle.plan_table.specs.declared.plans.Row.{Row}
 use Rattle.mapf_rules.specs.declared.entries.Conflict.{Conflict}
-use Rattle.mapf_rules.specs.declared.entries.Conflict.TheVariants.{Vertex, Parked, Edge, Following, Swapping, Cycle}
 
 -- the agent has a rank from one on and before another
 pub record IsRanked (rows : List (ℕ × Row)) (from to agent : ℕ) : Type 0 where
@@ -21,15 +21,6 @@ pub record IsRanked (rows : List (ℕ × Row)) (from to agent : ℕ) : Type 0 wh
   pub late : from ≤ rank
   pub early : rank < to
   pub at : slice_get (agents_of rows) rank ≡ Some agent
-
--- the agent that an entry names first: of a ring it is the least one
-abbrev pub first_agent : Conflict → ℕ
-first_agent (Vertex time first second cell) = first
-first_agent (Parked time first second cell) = first
-first_agent (Edge time first second cell next) = first
-first_agent (Following time follower leader cell) = follower
-first_agent (Swapping time first second cell other) = first
-first_agent (Cycle time ring) = slice_index ring 0
 
 -- where the piece of that number begins, of that many pieces of that many agents
 abbrev pub edge : ℕ → ℕ → ℕ → ℕ

@@ -6,20 +6,10 @@ use Rattle.plan_table.specs.Route.{Fleet, position_of, last_of, tracks_of}
 use Rattle.plan_table.specs.declared.plans.Row.{Row}
 use Rattle.plan_table.specs.declared.tracks.Mode.{Mode}
 use Rattle.mapf_rules.specs.ConflictList.{Stands}
-use Rattle.mapf_rules.specs.Naming.{IsOfPair}
+use Rattle.mapf_rules.specs.Naming.{IsOfPair, time_of, first_agent}
 use Rattle.mapf_rules.specs.declared.entries.Conflict.{Conflict}
-use Rattle.mapf_rules.specs.declared.entries.Conflict.TheVariants.{Vertex, Parked, Edge, Following, Swapping, Cycle}
-use Rattle.desk_audit.specs.Parts.{first_agent}
+use Rattle.mapf_rules.specs.declared.entries.Conflict.TheVariants.{Cycle}
 use Rattle.desk_audit.specs.declared.tables.Pass.{Pass}
-
--- when an entry stands
-abbrev pub time_of : Conflict → ℕ
-time_of (Vertex time first second cell) = time
-time_of (Parked time first second cell) = time
-time_of (Edge time first second cell next) = time
-time_of (Following time follower leader cell) = time
-time_of (Swapping time first second cell other) = time
-time_of (Cycle time ring) = time
 
 -- new has the entries of old and each entry that is sought, and no others but entries that name the agent first
 pub record Finds (fleet : Fleet) (agent : ℕ) (old new : List Conflict) (Sought : Conflict → Type 0) : Type 0 where

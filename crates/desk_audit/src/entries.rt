@@ -107,7 +107,8 @@ fn add_rest(
 {
     let mut passes = Vec::new(alloc);
     index.passes.add_others(&mut passes, cell, 0, agent)?;
-    add_passed(alloc, entries, plans, mode, end, agent, &passes)
+    add_passed(alloc, entries, plans, mode, end, agent, &passes)?;
+    Ok(())
 }
 
 // Adds the entries that name the agent at that rank first.
@@ -135,7 +136,8 @@ fn add_agent(
         add_step(alloc, entries, plans, mode, index, time, here, ahead, agent)?;
     }
     let cell = plan.at(Step::new(end));
-    add_rest(alloc, entries, plans, mode, index, end, cell, agent)
+    add_rest(alloc, entries, plans, mode, index, end, cell, agent)?;
+    Ok(())
 }
 
 /// The entries whose first written agent has a rank from one on and before another.

@@ -1,7 +1,7 @@
 pub mod Orders
 pub mod Copies
 pub mod Live
-pub mod PairEntries
+pub mod Adds
 pub mod LawsHold
 pub mod RoundTrips
 pub mod Sets

@@ -1,5 +1,6 @@
 -- Which agents an entry names, and when (words for the entries of Stern et al. 2019).
-use Rattle.std.specs.Prelude.{◌≡◌, ◌⊎◌, ℕ, Contains}
+use Rattle.std.specs.Prelude.{◌≡◌, ◌⊎◌, ℕ, Contains, slice_index}
+use Rattle.mapf_rules.specs.ConflictList.{listing_key}
 use Rattle.mapf_rules.specs.declared.entries.Conflict.{Conflict}
 use Rattle.mapf_rules.specs.declared.entries.Conflict.TheVariants.{Vertex, Parked, Edge, Following, Swapping, Cycle}
 
@@ -42,3 +43,7 @@ time_of (Edge time first second cell next) = time
 time_of (Following time follower leader cell) = time
 time_of (Swapping time first second cell other) = time
 time_of (Cycle time ring) = time
+
+-- the agent that an entry names first, by which it is listed after its kind and time: of a ring it is the least one
+abbrev pub first_agent : Conflict → ℕ
+first_agent entry = slice_index (listing_key entry) 2

@@ -2,7 +2,6 @@
 //! closed cells, with plain programs that find them.
 #![tactic(auto)]
 
-mod cycles;
 mod entries;
 mod laws;
 mod movers;

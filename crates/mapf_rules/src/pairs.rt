@@ -1,11 +1,12 @@
 ghost use Rattle.std.specs.Prelude.{◌≡◌, ◌+◌, ◌<◌, ◌≤◌, Some, None, IfSome, IsTrue, ◌↔◌};
+ghost use Rattle.grid_cells.specs.Cell.{Point};
 ghost use Rattle.plan_table.specs.Route.{position_of, last_of, leaves_of, tracks_of};
 ghost use Rattle.mapf_rules.specs.Entries.{OnePasses, both_end_by};
-ghost use Rattle.mapf_rules.specs.Finding.{FindsVertex, FindsParked, FindsEdge, FindsFollowing, FindsSwapping};
-ghost use Rattle.mapf_rules.specs.ConflictList.{Stands};
-ghost use Rattle.mapf_rules.specs.Naming.{IsOfPair};
+ghost use Rattle.mapf_rules.specs.Finding.{fleet_of, Finds, StandsOfPair};
+ghost use Rattle.mapf_rules.specs.declared.entries.Conflict.TheVariants.{Vertex, Parked, Edge, Following, Swapping};
 
 use crate::entries::Conflict;
+use crate::movers::Table;
 use grid_cells::{Agent, Cell, Step};
 use plan_table::{MOST_LAST_INDEX, Mode, Plans};
 
@@ -59,140 +60,95 @@ fn passes(plans: &Plans, mode: Mode, time: u32, first: Agent, second: Agent) -> 
         || leaves(plans, mode, second)
 }
 
-pub(crate) fn vertex(
-    plans: &Plans,
-    mode: Mode,
-    time: u32,
-    first: Agent,
-    second: Agent,
-) -> Option<Conflict>
-    ensures stands { IfSome result (Stands (tracks_of mode plans.now.rows)) }
-    ensures pair { IfSome result (λ entry. IsOfPair entry time first second) }
-    ensures found { FindsVertex (tracks_of mode plans.now.rows) time first second result }
+// The entry of the two agents where they are in one cell at the time.
+pub(crate) fn meeting(table: &Table<'_>, time: u32, first: Agent, second: Agent) -> Option<Conflict>
+    ensures only { IfSome result (StandsOfPair (fleet_of table.now) time first second) }
+    ensures vertex { (cell : Point) → Finds (fleet_of table.now) result (Vertex time first second cell) }
+    ensures parked { (cell : Point) → Finds (fleet_of table.now) result (Parked time first second cell) }
 {
-    let there = position(plans, mode, first, time)?;
-    let other = position(plans, mode, second, time)?;
-    if first < second && there == other && passes(plans, mode, time, first, second) {
-        Some(Conflict::Vertex {
-            time: Step::new(time),
-            first,
-            second,
-            cell: there,
-        })
-    } else {
-        None
+    let cell = position(table.plans, table.mode, first, time)?;
+    let other = position(table.plans, table.mode, second, time)?;
+    let passes = passes(table.plans, table.mode, time, first, second);
+    let rests = time == both_end(table.plans, table.mode, first, second);
+    if first >= second || cell != other || !(passes || rests) {
+        return None;
     }
-}
-
-pub(crate) fn parked(
-    plans: &Plans,
-    mode: Mode,
-    time: u32,
-    first: Agent,
-    second: Agent,
-) -> Option<Conflict>
-    ensures stands { IfSome result (Stands (tracks_of mode plans.now.rows)) }
-    ensures pair { IfSome result (λ entry. IsOfPair entry time first second) }
-    ensures found { FindsParked (tracks_of mode plans.now.rows) time first second result }
-{
-    let there = position(plans, mode, first, time)?;
-    let other = position(plans, mode, second, time)?;
-    let rests = time == both_end(plans, mode, first, second);
-    let stay = !leaves(plans, mode, first) && !leaves(plans, mode, second);
-    if first < second && there == other && rests && stay {
-        Some(Conflict::Parked {
-            time: Step::new(time),
-            first,
-            second,
-            cell: there,
-        })
-    } else {
-        None
-    }
-}
-
-pub(crate) fn edge(
-    plans: &Plans,
-    mode: Mode,
-    time: u32,
-    first: Agent,
-    second: Agent,
-) -> Option<Conflict>
-    requires { time ≤ MOST_LAST_INDEX }
-    ensures stands { IfSome result (Stands (tracks_of mode plans.now.rows)) }
-    ensures pair { IfSome result (λ entry. IsOfPair entry time first second) }
-    ensures found { FindsEdge (tracks_of mode plans.now.rows) time first second result }
-{
-    let cell = position(plans, mode, first, time)?;
-    let other = position(plans, mode, second, time)?;
-    let next = position(plans, mode, first, time + 1)?;
-    let other_next = position(plans, mode, second, time + 1)?;
-    if first < second && cell == other && next == other_next && cell != next {
-        Some(Conflict::Edge {
+    Some(if passes {
+        Conflict::Vertex {
             time: Step::new(time),
             first,
             second,
             cell,
-            next,
-        })
+        }
     } else {
-        None
-    }
+        Conflict::Parked {
+            time: Step::new(time),
+            first,
+            second,
+            cell,
+        }
+    })
 }
 
+// The entry of the two agents where they make the same move in the step, or change places.
+pub(crate) fn moving(table: &Table<'_>, time: u32, first: Agent, second: Agent) -> Option<Conflict>
+    requires { time ≤ MOST_LAST_INDEX }
+    ensures only { IfSome result (StandsOfPair (fleet_of table.now) time first second) }
+    ensures edge { (cell next : Point) → Finds (fleet_of table.now) result (Edge time first second cell next) }
+    ensures swapping { (cell other : Point) → Finds (fleet_of table.now) result (Swapping time first second cell other) }
+{
+    let cell = position(table.plans, table.mode, first, time)?;
+    let other = position(table.plans, table.mode, second, time)?;
+    let next = position(table.plans, table.mode, first, time + 1)?;
+    let other_next = position(table.plans, table.mode, second, time + 1)?;
+    let alike = other == cell && other_next == next;
+    let changed = other == next && other_next == cell;
+    if first >= second || cell == next || !(alike || changed) {
+        return None;
+    }
+    let begins = Step::new(time);
+    Some(if alike {
+        Conflict::Edge {
+            time: begins,
+            first,
+            second,
+            cell,
+            next,
+        }
+    } else {
+        Conflict::Swapping {
+            time: begins,
+            first,
+            second,
+            cell,
+            other,
+        }
+    })
+}
+
+// The entry of the two agents where the one follows the other in the step.
 pub(crate) fn following(
-    plans: &Plans,
-    mode: Mode,
+    table: &Table<'_>,
     time: u32,
     follower: Agent,
     leader: Agent,
 ) -> Option<Conflict>
     requires { time ≤ MOST_LAST_INDEX }
-    ensures stands { IfSome result (Stands (tracks_of mode plans.now.rows)) }
-    ensures pair { IfSome result (λ entry. IsOfPair entry time follower leader) }
-    ensures found { FindsFollowing (tracks_of mode plans.now.rows) time follower leader result }
+    ensures only { IfSome result (StandsOfPair (fleet_of table.now) time follower leader) }
+    ensures found { (cell : Point) → Finds (fleet_of table.now) result (Following time follower leader cell) }
 {
-    let cell = position(plans, mode, leader, time)?;
-    let from = position(plans, mode, follower, time);
-    let to = position(plans, mode, follower, time + 1)?;
-    let _goes_on = position(plans, mode, leader, time + 1)?;
-    if follower != leader && to == cell && from != Some(cell) {
-        Some(Conflict::Following {
-            time: Step::new(time),
-            follower,
-            leader,
-            cell,
-        })
-    } else {
-        None
+    let cell = position(table.plans, table.mode, leader, time)?;
+    let from = position(table.plans, table.mode, follower, time);
+    let to = position(table.plans, table.mode, follower, time + 1)?;
+    let _goes_on = position(table.plans, table.mode, leader, time + 1)?;
+    if follower == leader || to != cell || from == Some(cell) {
+        return None;
     }
-}
-
-pub(crate) fn swapping(
-    plans: &Plans,
-    mode: Mode,
-    time: u32,
-    first: Agent,
-    second: Agent,
-) -> Option<Conflict>
-    requires { time ≤ MOST_LAST_INDEX }
-    ensures stands { IfSome result (Stands (tracks_of mode plans.now.rows)) }
-    ensures pair { IfSome result (λ entry. IsOfPair entry time first second) }
-    ensures found { FindsSwapping (tracks_of mode plans.now.rows) time first second result }
-{
-    let cell = position(plans, mode, first, time)?;
-    let other = position(plans, mode, second, time)?;
-    let next = position(plans, mode, first, time + 1)?;
-    let other_next = position(plans, mode, second, time + 1)?;
-    if first < second && next == other && other_next == cell && cell != other {
-        Some(Conflict::Swapping {
-            time: Step::new(time),
-            first,
-            second,
-            cell,
-            other,
-        })
-    } else {
-        None
-    }
+    let time = Step::new(time);
+    Some(Conflict::Following {
+        time,
+        follower,
+        leader,
+        cell,
+    })
 }

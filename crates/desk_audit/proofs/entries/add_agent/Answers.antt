@@ -2,9 +2,7 @@ use Rattle.std.proofs.Common.{◌≡◌, ◌+◌, Some, sym, ap, ◌∙◌, arit
 use Rattle.std.proofs.lemmas.Option.{same_Some}
 use Rattle.plan_table.specs.Route.{tracks_of}
 use Rattle.plan_table.proofs.Fleets.{row_here}
-use Rattle.mapf_rules.proofs.PairEntries.{OnOk_then}
-use Rattle.desk_audit.specs.Parts.{first_agent}
-use Rattle.desk_audit.specs.Seeking.{Finds, IsFirstAfter}
+use Rattle.mapf_rules.specs.Naming.{first_agent}
 use Rattle.desk_audit.proofs.Finding.{finds_then}
 use Rattle.desk_audit.proofs.Places.{on_path, last_of_row, place_of_position, same_cell}
 use Rattle.desk_audit.proofs.entries.add_agent.Goals as goal
@@ -42,11 +40,7 @@ pub loop-time-preserved : goal.loop-time-preserved
 loop-time-preserved c = finds_then _ _ _ _ _ _ _ _ c.loop-time.invariant c.in_ok-add_step.ensures (λ e stands named. grind arith)
 
 pub returns : goal.returns
-returns c =
+returns c a at =
     let here = row_here _ c.count-agents.ensures.by_agent c.args.rank _ _ c.entry_at-entry.ensures in
-    OnOk_then c.add_rest.result _ _
-    (λ (rest : Finds (tracks_of c.args.mode c.args.plans.now.rows) c.entry_at-entry.result.0 c.loop-time.entries.items c.add_rest.new.entries.items
-    (IsFirstAfter c.last-end.result c.entry_at-entry.result.0)) a at.
     rw (same_Some c.entry_at-entry.result.0 a (sym here.1 ∙ at)) at (finds_then _ _ _ _ _ _ _
-    (λ entry. first_agent entry ≡ c.entry_at-entry.result.0) c.loop-time.invariant rest (λ e stands named. grind arith)))
-    c.add_rest.ensures
+    (λ entry. first_agent entry ≡ c.entry_at-entry.result.0) c.loop-time.invariant c.in_ok-add_rest.ensures (λ e stands named. grind arith))

@@ -1,7 +1,7 @@
 use Rattle.std.proofs.Common.{◌≡◌, ◌<◌}
 use Rattle.plan_table.specs.Route.{tracks_of}
-use Rattle.desk_audit.specs.Parts.{first_agent}
-use Rattle.desk_audit.specs.Seeking.{Finds, time_of}
+use Rattle.mapf_rules.specs.Naming.{time_of, first_agent}
+use Rattle.desk_audit.specs.Seeking.{Finds}
 use Rattle.desk_audit.proofs.entries.add_agent.Given as goal
 
 abbrev pub invariant-loop-time : goal.invariant-loop-time

@@ -1,13 +1,10 @@
 use Rattle.plan_table.specs.Route.{tracks_of}
-use Rattle.mapf_rules.proofs.PairEntries.{OnOk_then}
 use Rattle.desk_audit.proofs.Finding.{finds_as}
 use Rattle.desk_audit.proofs.Near.{late_splits}
 use Rattle.desk_audit.proofs.entries.add_rest.Goals as goal
 
 pub returns : goal.returns
 returns c =
-    OnOk_then c.add_passed.result _ _
-    (finds_as (tracks_of c.args.mode c.args.plans.now.rows) c.args.agent _ _ _ _
+    finds_as (tracks_of c.args.mode c.args.plans.now.rows) c.args.agent _ _ _ _
     (late_splits _ c.args.index.now c.args.end c.args.agent c.args.cell c.deref.result.now c.requires.index c.requires.end c.requires.there
-    (rw c.deref.ensures.value c.in_ok-add_others.ensures.has)))
-    c.add_passed.ensures
+    (rw c.deref.ensures.value c.in_ok-add_others.ensures.has)) c.in_ok-add_passed.ensures

@@ -1,29 +1,11 @@
-use Rattle.std.proofs.Common.{inl, inr}
-use Rattle.plan_table.specs.Route.{tracks_of}
-use Rattle.mapf_rules.specs.ConflictList.{Stands}
-use Rattle.mapf_rules.specs.Naming.{IsOfPair}
-use Rattle.mapf_rules.specs.declared.entries.Conflict.{Conflict}
-use Rattle.mapf_rules.proofs.PairEntries.{five_keep, five_have, five_only, one_of_five}
+use Rattle.mapf_rules.specs.Finding.{fleet_of}
+use Rattle.mapf_rules.proofs.Adds.{adds_as, adds_both, one_of_three, pair_found}
 use Rattle.mapf_rules.proofs.plain.add_pair.Goals as goal
 
-pub returns-clause-found : goal.returns-clause-found
-returns-clause-found c entry h =
-    elim (five_only c.in_ok-offer.ensures c.in_ok-offer-2.ensures c.in_ok-offer-3.ensures c.in_ok-offer-4.ensures c.in_ok-offer-5.ensures
-    (Stands (tracks_of c.args.mode c.args.plans.now.rows)) c.vertex.ensures.stands c.parked.ensures.stands c.edge.ensures.stands c.following.ensures.stands c.swapping.ensures.stands entry h) [
-      | inl old ↦ c.requires.found entry old
-      | inr stands ↦ stands
-    ]
-
-pub returns-clause-keeps : goal.returns-clause-keeps
-returns-clause-keeps c = five_keep c.in_ok-offer.ensures c.in_ok-offer-2.ensures c.in_ok-offer-3.ensures c.in_ok-offer-4.ensures c.in_ok-offer-5.ensures
-
-pub returns-clause-has : goal.returns-clause-has
-returns-clause-has c entry stands of =
-    let which = one_of_five (tracks_of c.args.mode c.args.plans.now.rows) c.args.time c.args.first c.args.second _ _ _ _ _ c.vertex.ensures.found c.parked.ensures.found
-    c.edge.ensures.found c.following.ensures.found c.swapping.ensures.found entry stands of in
-    five_have c.in_ok-offer.ensures c.in_ok-offer-2.ensures c.in_ok-offer-3.ensures c.in_ok-offer-4.ensures c.in_ok-offer-5.ensures entry which
-
-pub returns-clause-only : goal.returns-clause-only
-returns-clause-only c =
-    five_only c.in_ok-offer.ensures c.in_ok-offer-2.ensures c.in_ok-offer-3.ensures c.in_ok-offer-4.ensures c.in_ok-offer-5.ensures
-    (λ (e : Conflict). IsOfPair e c.args.time c.args.first c.args.second) c.vertex.ensures.pair c.parked.ensures.pair c.edge.ensures.pair c.following.ensures.pair c.swapping.ensures.pair
+pub returns : goal.returns
+returns c =
+    let fleet = fleet_of c.args.table.now in
+    adds_as (adds_both (adds_both c.in_ok-offer.ensures c.in_ok-offer-2.ensures) c.in_ok-offer-3.ensures) (λ e. (
+      one_of_three fleet c.args.time c.args.first c.args.second _ _ _ c.meeting.ensures.only c.moving.ensures.only c.following.ensures.only e,
+      pair_found fleet c.args.time c.args.first c.args.second _ _ _ c.meeting.ensures.vertex c.meeting.ensures.parked c.moving.ensures.edge c.moving.ensures.swapping c.following.ensures.found e,
+    ))

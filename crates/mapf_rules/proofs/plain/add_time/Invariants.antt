@@ -1,13 +1,6 @@
-use Rattle.std.proofs.Common.{◌≡◌, ℕ, ◌<◌, Some}
-use Rattle.std.specs.List.{slice_get}
-use Rattle.plan_table.specs.Plans.{agents_of}
-use Rattle.plan_table.specs.Route.{tracks_of}
-use Rattle.mapf_rules.specs.Finding.{AllStand, KeepsAll, HasPair}
+use Rattle.mapf_rules.specs.Finding.{fleet_of, Adds, StandsFirst}
+use Rattle.mapf_rules.proofs.Adds.{SoughtBelow}
 use Rattle.mapf_rules.proofs.plain.add_time.Given as goal
 
 abbrev pub invariant-loop-rank : goal.invariant-loop-rank
-invariant-loop-rank l = record {
-  found : AllStand (tracks_of l.mode l.plans.rows) l.entries.items;
-  keeps : KeepsAll l.initial.entries.items l.entries.items;
-  has : (agent k : ℕ) → k < l.rank → slice_get (agents_of l.plans.rows) k ≡ Some agent → (second : ℕ) → HasPair (tracks_of l.mode l.plans.rows) l.time agent second l.entries.items;
-}
+invariant-loop-rank l = Adds (SoughtBelow l.table.plans.now.rows (StandsFirst (fleet_of l.table) l.time) l.rank) l.initial.entries.items l.entries.items

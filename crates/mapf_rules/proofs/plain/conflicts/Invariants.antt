@@ -1,11 +1,11 @@
-use Rattle.std.proofs.Common.{ℕ, ◌<◌}
-use Rattle.plan_table.specs.Route.{tracks_of}
-use Rattle.mapf_rules.specs.Finding.{AllStand, HasPair, HasRing}
+use Rattle.std.proofs.Common.{◌<◌}
+use Rattle.std.specs.List.{Contains}
+use mathlib.Core.Logic.{◌↔◌}
+use Rattle.mapf_rules.specs.ConflictList.{Stands}
+use Rattle.mapf_rules.specs.Naming.{time_of}
+use Rattle.mapf_rules.specs.Finding.{fleet_of}
+use Rattle.mapf_rules.specs.declared.entries.Conflict.{Conflict}
 use Rattle.mapf_rules.proofs.plain.conflicts.Given as goal
 
 abbrev pub invariant-loop-time : goal.invariant-loop-time
-invariant-loop-time l = record {
-  found : AllStand (tracks_of l.mode l.plans.rows) l.entries.items;
-  pairs : (time first second : ℕ) → time < l.time → HasPair (tracks_of l.mode l.plans.rows) time first second l.entries.items;
-  rings : (time first : ℕ) → time < l.time → HasRing (tracks_of l.mode l.plans.rows) time first l.entries.items;
-}
+invariant-loop-time l = (entry : Conflict) → Contains l.entries.items entry ↔ (Stands (fleet_of l.table) entry × (time_of entry < l.time))

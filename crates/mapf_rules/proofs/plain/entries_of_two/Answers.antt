@@ -1,22 +1,8 @@
-use Rattle.std.proofs.Common.{inl, inr}
-use Rattle.plan_table.proofs.Order.{Contains-nil}
+use Rattle.std.proofs.Common.{arith}
+use Rattle.mapf_rules.proofs.Adds.{adds_as, adds_both, lists_added}
 use Rattle.mapf_rules.proofs.plain.entries_of_two.Goals as goal
 
 pub returns : goal.returns
-returns c = record {
-  ascending = c.sorted.ensures.ascending;
-  exact = λ entry. (
-    λ h.
-        let found = (c.sorted.ensures.exact entry).0 h in (
-          c.in_ok-add_pair-2.ensures.found entry found,
-          elim (c.in_ok-add_pair-2.ensures.only entry found) [
-            | inl old ↦ elim (c.in_ok-add_pair.ensures.only entry old) [ inl older ↦ absurd (Contains-nil entry (rw c.new-entries.ensures.items at older)) | inr of ↦ inl of ]
-            | inr of ↦ inr of
-          ],
-        ),
-    λ h. (c.sorted.ensures.exact entry).1 (elim h.1 [
-      | inl of ↦ c.in_ok-add_pair-2.ensures.keeps entry (c.in_ok-add_pair.ensures.has entry h.0 of)
-      | inr of ↦ c.in_ok-add_pair-2.ensures.has entry h.0 of
-    ]),
-  );
-}
+returns c =
+    let both = adds_both (rw c.new-entries.ensures.items at c.in_ok-add_pair.ensures) c.in_ok-add_pair-2.ensures in
+    lists_added _ _ _ (adds_as both (λ e. grind arith)) c.sorted.ensures
