@@ -1,10 +1,9 @@
 ghost use Rattle.std.specs.Prelude.{◌≡◌, ◌⊎◌, ◌↔◌, ℕ, [], ◌∷◌, IfOk, OnOk, Contains};
-ghost use Rattle.std.specs.Ordering.{nat_cmp};
 ghost use Rattle.std.specs.List.Sorted.{IsStrictlySortedBy};
 ghost use Rattle.plan_table.specs.Order.{ListsAll};
 ghost use Rattle.where_index.specs.declared.passings.Passing.{Passing};
 ghost use Rattle.where_index.specs.Spots.{AreRising};
-ghost use Rattle.where_index.specs.Shown.{HasAgentBy, AreAgentsBy, HasPassing, passing_cmp};
+ghost use Rattle.where_index.specs.Shown.{HasAgentBy, AreAgentsBy, HasPassing};
 
 use crate::passings::Passing;
 use crate::spot_sets::Spot;
@@ -25,7 +24,7 @@ pub fn agents_of(
     let mut found = BTreeSet::new(alloc);
     gather_agents(&mut found, stands, time)?;
     gather_agents(&mut found, tails, time)?;
-    listed_agents(alloc, &found)
+    listed(alloc, &found)
 }
 
 /// Whom the spots in either list show at which times, by time, then agent.
@@ -39,7 +38,7 @@ pub fn passings_of(
     let mut found = BTreeSet::new(alloc);
     gather_passings(&mut found, stands)?;
     gather_passings(&mut found, tails)?;
-    listed_passings(alloc, &found)
+    listed(alloc, &found)
 }
 
 // Puts the agents of the spots up to the time into the set. It stops at the first one after it.
@@ -70,28 +69,11 @@ fn gather_passings(found: &mut BTreeSet<Passing>, spots: Range<'_, Spot>) -> Res
     Ok(())
 }
 
-// The agents of the set, ascending.
-fn listed_agents(alloc: Global, found: &BTreeSet<Agent>) -> Result<List<Agent>, OutOfMemory>
-    ensures is { IfOk result (λ agents. agents ≡ found.now.keys) }
-    ensures ascending { IsStrictlySortedBy nat_cmp found.now.keys }
+// The keys of the set, in their order.
+fn listed<T: Copy + Ord>(alloc: Global, found: &BTreeSet<T>) -> Result<List<T>, OutOfMemory>
+    ensures is { IfOk result (λ keys. keys ≡ found.now.keys) }
+    ensures ascending { IsStrictlySortedBy T.cmp found.now.keys }
 {
     let _len = found.len();
-    let mut agents = Vec::new(alloc);
-    for agent in found {
-        agents.push(*agent)?;
-    }
-    Ok(List::new(agents))
-}
-
-// The passings of the set, ascending.
-fn listed_passings(alloc: Global, found: &BTreeSet<Passing>) -> Result<List<Passing>, OutOfMemory>
-    ensures is { IfOk result (λ passings. passings ≡ found.now.keys) }
-    ensures ascending { IsStrictlySortedBy passing_cmp found.now.keys }
-{
-    let _len = found.len();
-    let mut passings = Vec::new(alloc);
-    for passing in found {
-        passings.push(*passing)?;
-    }
-    Ok(List::new(passings))
+    Ok(List::new(found.iter().copied().collect(alloc)?))
 }

@@ -5,10 +5,10 @@ use Rattle.where_index.proofs.Gathered.{gathers_two, agents_ascend}
 use Rattle.where_index.proofs.gathering.agents_of.Goals as goal
 
 pub returns : goal.returns
-returns c = IfOk-weaker c.listed_agents.result _ _
+returns c = IfOk-weaker c.listed.result _ _
     (λ agents is stand tail. subst (AreAgentsBy c.args.time c.args.stands c.args.tails) (sym is)
     (record {
-      ascending = agents_ascend _ c.listed_agents.ensures.ascending;
+      ascending = agents_ascend _ c.listed.ensures.ascending;
       exact = gathers_two (IsBy c.args.time) c.new-found.result.keys _ _ c.args.stands c.args.tails c.new-found.ensures.empty (c.in_ok-gather_agents.ensures stand) (c.in_ok-gather_agents-2.ensures tail);
     }))
-    c.listed_agents.ensures.is
+    c.listed.ensures.is

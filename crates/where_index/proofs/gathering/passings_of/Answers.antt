@@ -7,10 +7,10 @@ use Rattle.where_index.proofs.Gathered.{gathers_two, passings_ascend}
 use Rattle.where_index.proofs.gathering.passings_of.Goals as goal
 
 pub returns : goal.returns
-returns c = IfOk-weaker c.listed_passings.result _ _
+returns c = IfOk-weaker c.listed.result _ _
     (λ passings is. subst (ListsAll (λ (p : Passing). p.time ∷ p.agent ∷ []) (λ p. HasPassing c.args.stands p ⊎ HasPassing c.args.tails p)) (sym is)
     (record {
-      ascending = passings_ascend _ c.listed_passings.ensures.ascending;
+      ascending = passings_ascend _ c.listed.ensures.ascending;
       exact = gathers_two IsPassing c.new-found.result.keys _ _ c.args.stands c.args.tails c.new-found.ensures.empty c.in_ok-gather_passings.ensures c.in_ok-gather_passings-2.ensures;
     }))
-    c.listed_passings.ensures.is
+    c.listed.ensures.is
