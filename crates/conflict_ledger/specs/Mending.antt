@@ -46,3 +46,13 @@ MendsAsGoes index agent route span old new =
 -- of the entries at other times both have the same
 abbrev pub LeavesBeside : Contents → ℕ → Route → Span → List Conflict → List Conflict → Type 0
 LeavesBeside index agent route span old new = (fleet : Fleet) → Shows index agent (Some route) fleet → Fits span (last_index route.path) → SameBeside span old new
+
+-- new is old with what comes with the agent whose share it is
+abbrev pub Enters : Share → List Conflict → List Conflict → Type 0
+Enters share old new =
+    (index : Contents) (agent : ℕ) (route : Route) (span : Span) → TellsShare index agent route span share → MendsAsComes index agent route span old new × LeavesBeside index agent route span old new
+
+-- new is old without what goes with the agent whose share it is
+abbrev pub Leaves : Share → List Conflict → List Conflict → Type 0
+Leaves share old new =
+    (index : Contents) (agent : ℕ) (route : Route) (span : Span) → TellsShare index agent route span share → MendsAsGoes index agent route span old new × LeavesBeside index agent route span old new

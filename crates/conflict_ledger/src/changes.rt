@@ -1,10 +1,9 @@
-ghost use Rattle.std.specs.Prelude.{Some, None, IfOk, OnOk};
-ghost use Rattle.plan_table.specs.Path.{last_index};
-ghost use Rattle.plan_table.specs.Route.{Fleet, route_of};
-ghost use Rattle.conflict_ledger.specs.Mending.{LeavesBeside, MendsAsComes, MendsAsGoes, TellsShare};
+ghost use Rattle.std.specs.Prelude.{IfOk, OnOk};
+ghost use Rattle.plan_table.specs.Route.{route_of};
+ghost use Rattle.conflict_ledger.specs.Kept.{GainsAll, LosesAll};
+ghost use Rattle.conflict_ledger.specs.Mending.{Enters, Leaves, TellsShare};
 
 use crate::gather::gather;
-use crate::kept::KeptEntries;
 use crate::sight::Sight;
 use crate::spans::Span;
 use crate::turns::{Turn, rings_left};
@@ -12,18 +11,20 @@ use grid_cells::{Agent, OutOfMemory};
 use mapf_rules::Conflict;
 use plan_table::Track;
 use std::alloc::Global;
+use std::collections::BTreeSet;
 use where_index::WhereIndex;
 
 // What an agent has to do with the entries of a fleet: the entries that name it, the rings of the
 // others that its moves break, and those that it joins.
-struct Share {
+#[derive(Drop)]
+pub struct Share {
     entries: Vec<Conflict>,
     broken: Vec<Conflict>,
     joined: Vec<Conflict>,
 }
 
 // The share of the agent with the track at the span's times, beside the others of the index.
-fn share_of<'x>(
+pub fn share_of<'x>(
     alloc: Global,
     agent: Agent,
     track: Track<'x>,
@@ -52,50 +53,39 @@ fn share_of<'x>(
     })
 }
 
-impl KeptEntries {
-    // Puts in what comes with the agent's track at the span's times, beside the others of the index.
-    pub fn enter<'x>(
-        &mut self,
-        alloc: Global,
-        agent: Agent,
-        track: Track<'x>,
-        span: &Span<'x>,
-        index: &'x WhereIndex,
-    ) -> Result<(), OutOfMemory>
-        ensures mends { OnOk result (MendsAsComes index.now agent (route_of track.entry) span.now self.old self.new) }
-        ensures beside { OnOk result (LeavesBeside index.now agent (route_of track.entry) span.now self.old self.new) }
-    {
-        let Share {
-            entries,
-            broken,
-            joined,
-        } = share_of(alloc, agent, track, span, index)?;
-        self.lose_all(&broken);
-        self.put_all(joined)?;
-        self.put_all(entries)?;
-        Ok(())
-    }
+// Puts in what comes with the agent whose share it is.
+pub fn enter(kept: &mut BTreeSet<Conflict>, share: Share) -> Result<(), OutOfMemory>
+    ensures { OnOk result (Enters share kept.old.keys kept.new.keys) }
+{
+    lose_all(kept, &share.broken);
+    put_all(kept, share.joined)?;
+    put_all(kept, share.entries)
+}
 
-    // Takes out what goes with the agent's track at the span's times, beside the others of the index.
-    pub fn leave<'x>(
-        &mut self,
-        alloc: Global,
-        agent: Agent,
-        track: Track<'x>,
-        span: &Span<'x>,
-        index: &'x WhereIndex,
-    ) -> Result<(), OutOfMemory>
-        ensures mends { OnOk result (MendsAsGoes index.now agent (route_of track.entry) span.now self.old self.new) }
-        ensures beside { OnOk result (LeavesBeside index.now agent (route_of track.entry) span.now self.old self.new) }
-    {
-        let Share {
-            entries,
-            broken,
-            joined,
-        } = share_of(alloc, agent, track, span, index)?;
-        self.lose_all(&joined);
-        self.lose_all(&entries);
-        self.put_all(broken)?;
-        Ok(())
+// Takes out what goes with the agent whose share it is.
+pub fn leave(kept: &mut BTreeSet<Conflict>, share: Share) -> Result<(), OutOfMemory>
+    ensures { OnOk result (Leaves share kept.old.keys kept.new.keys) }
+{
+    lose_all(kept, &share.joined);
+    lose_all(kept, &share.entries);
+    put_all(kept, share.broken)
+}
+
+// Puts in all the entries.
+fn put_all(kept: &mut BTreeSet<Conflict>, entries: Vec<Conflict>) -> Result<(), OutOfMemory>
+    ensures { OnOk result (GainsAll kept.old.keys kept.new.keys entries.items) }
+{
+    for entry in entries {
+        kept.insert(entry)?;
+    }
+    Ok(())
+}
+
+// Takes out all the entries.
+fn lose_all(kept: &mut BTreeSet<Conflict>, entries: &[Conflict])
+    ensures { LosesAll kept.old.keys kept.new.keys entries.now }
+{
+    for entry in entries {
+        kept.remove(entry);
     }
 }

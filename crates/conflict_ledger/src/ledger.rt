@@ -6,13 +6,15 @@ ghost use Rattle.mapf_rules.specs.Cycles.{IsRingAt};
 ghost use Rattle.conflict_ledger.specs.Kept.{HasEntries, HasKind, many_of};
 ghost use Rattle.conflict_ledger.specs.Mending.{KeepsUp};
 
-use crate::kept::KeptEntries;
+use crate::changes::{enter, leave, share_of};
+use crate::least::least_of;
 use crate::movers::Whole;
 use crate::spans::Span;
 use grid_cells::{Agent, Cell, List, OutOfMemory, Step};
 use mapf_rules::{Conflict, Kind, Ring, ring_out_of};
 use plan_table::Track;
 use std::alloc::Global;
+use std::collections::BTreeSet;
 use std::marker::Model;
 use where_index::WhereIndex;
 
@@ -20,7 +22,7 @@ use where_index::WhereIndex;
 #[derive(Drop)]
 pub struct ConflictLedger {
     alloc: Global,
-    kept: KeptEntries,
+    kept: BTreeSet<Conflict>,
 }
 
 impl Model for ConflictLedger {
@@ -29,7 +31,7 @@ impl Model for ConflictLedger {
 
     ghost Value = { List Conflict };
 
-    ghost view = { λ l. l.kept };
+    ghost view = { λ l. l.kept.keys };
 }
 
 impl ConflictLedger {
@@ -39,7 +41,7 @@ impl ConflictLedger {
     {
         ConflictLedger {
             alloc,
-            kept: KeptEntries::new(alloc),
+            kept: BTreeSet::new(alloc),
         }
     }
 
@@ -57,8 +59,8 @@ impl ConflictLedger {
     ) -> Result<ConflictLedger, OutOfMemory>
         ensures { IfOk result (λ ledger. KeepsUp index.now agent None (Some (route_of track.entry)) self ledger) }
     {
-        self.kept
-            .enter(self.alloc, agent, track, &Span::whole(), index)?;
+        let share = share_of(self.alloc, agent, track, &Span::whole(), index)?;
+        enter(&mut self.kept, share)?;
         Ok(self)
     }
 
@@ -76,8 +78,8 @@ impl ConflictLedger {
     ) -> Result<ConflictLedger, OutOfMemory>
         ensures { IfOk result (λ ledger. KeepsUp index.now agent (Some (route_of track.entry)) None self ledger) }
     {
-        self.kept
-            .leave(self.alloc, agent, track, &Span::whole(), index)?;
+        let share = share_of(self.alloc, agent, track, &Span::whole(), index)?;
+        leave(&mut self.kept, share)?;
         Ok(self)
     }
 
@@ -101,8 +103,10 @@ impl ConflictLedger {
         ensures { IfOk result (λ ledger. KeepsUp index.now agent (Some (route_of old.entry)) (Some (route_of new.entry)) self ledger) }
     {
         let span = Span::apart(old, new, since);
-        self.kept.leave(self.alloc, agent, old, &span, index)?;
-        self.kept.enter(self.alloc, agent, new, &span, index)?;
+        let gone = share_of(self.alloc, agent, old, &span, index)?;
+        leave(&mut self.kept, gone)?;
+        let come = share_of(self.alloc, agent, new, &span, index)?;
+        enter(&mut self.kept, come)?;
         Ok(self)
     }
 
@@ -114,7 +118,11 @@ impl ConflictLedger {
     pub fn listed(&self) -> Result<List<Conflict>, OutOfMemory>
         ensures { IfOk result (λ entries. (fleet : Fleet) → HasEntries self.now fleet → AreConflicts fleet entries) }
     {
-        self.kept.listed(self.alloc)
+        let mut entries = Vec::new(self.alloc);
+        for entry in self.kept.iter() {
+            entries.push(entry.clone()?)?;
+        }
+        Ok(List::new(entries))
     }
 
     /// The ring at that step with a member that moves out of that cell, in the fleet of the index.
@@ -142,7 +150,10 @@ impl ConflictLedger {
         ensures kept { result ≡ many_of kind self.now }
         ensures listed { (fleet : Fleet) (entries : List Conflict) → HasEntries self.now fleet → AreConflicts fleet entries → result ≡ many_of kind entries }
     {
-        self.kept.count(kind)
+        self.kept
+            .iter()
+            .filter(|entry| entry.kind() == kind)
+            .count() as u64
     }
 
     /// Whether it has an entry of that kind. No other entry is looked at.
@@ -150,6 +161,9 @@ impl ConflictLedger {
         ensures has { IsTrue result ↔ HasKind kind self.now }
         ensures once { IsListed self.now }
     {
-        self.kept.has(self.alloc, kind)
+        match self.kept.range(least_of(self.alloc, kind)..).next() {
+            Some(entry) => entry.kind() == kind,
+            None => false,
+        }
     }
 }

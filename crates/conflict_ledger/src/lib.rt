@@ -4,7 +4,6 @@
 mod changes;
 mod closing;
 mod gather;
-mod kept;
 mod least;
 mod ledger;
 mod movers;

@@ -10,6 +10,6 @@ use Rattle.conflict_ledger.proofs.ledger.ConflictLedger.retract.Goals as goal
 pub returns : goal.returns
 returns c fleet stands own has =
     let had = with_route fleet c.args.agent (Some (route_of c.args.track)) in
-    whole_after c.whole.result c.whole.ensures.from c.whole.ensures.tracks c.leave.new.self fleet (c.in_ok-leave.ensures.mends had fleet (with_shows _ fleet c.args.agent (Some (route_of c.args.track)) stands) (itself_shows _ fleet c.args.agent None stands own)
+    whole_after c.whole.result c.whole.ensures.from c.whole.ensures.tracks c.leave.new.kept.keys fleet ((c.in_ok-leave.ensures _ _ _ _ c.in_ok-share.ensures).0 had fleet (with_shows _ fleet c.args.agent (Some (route_of c.args.track)) stands) (itself_shows _ fleet c.args.agent None stands own)
     (with_other fleet c.args.agent (Some (route_of c.args.track))) (whole_fits c.whole.result c.whole.ensures.from c.whole.ensures.tracks _)
-    (whole_before c.whole.result c.whole.ensures.from c.whole.ensures.tracks c.self.inside.kept had (subst (λ (kept : List Conflict). HasEntries kept had) (sym c.self.view_is) has)))
+    (whole_before c.whole.result c.whole.ensures.from c.whole.ensures.tracks c.self.inside.kept.keys had (subst (λ (kept : List Conflict). HasEntries kept had) (sym c.self.view_is) has)))

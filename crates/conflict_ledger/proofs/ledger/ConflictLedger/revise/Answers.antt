@@ -17,7 +17,9 @@ returns c fleet stands own has =
     let showed = with_shows _ fleet agent old stands in
     let hides = with_shows _ fleet agent None stands in
     let shows = itself_shows _ fleet agent (Some (route_of c.args.new)) stands own in
-    let left = c.in_ok-leave.ensures.mends before none showed hides (λ a apart. sym (with_other fleet agent None a apart) ∙ with_other fleet agent old a apart) c.apart-span.ensures.old (λ entry inside. held entry) in
+    let goes = c.in_ok-leave.ensures _ _ _ _ c.in_ok-gone.ensures in
+    let comes = c.in_ok-enter.ensures _ _ _ _ c.in_ok-come.ensures in
+    let left = goes.0 before none showed hides (λ a apart. sym (with_other fleet agent None a apart) ∙ with_other fleet agent old a apart) c.apart-span.ensures.old (λ entry inside. held entry) in
     mended before fleet agent (λ a apart. sym (with_other fleet agent old a apart)) (route_of c.args.old) (route_of c.args.new) (with_own fleet agent old) own c.apart-span.result c.apart-span.ensures.beside
-    c.self.inside.kept c.leave.new.self c.enter.new.self held (c.in_ok-leave.ensures.beside before showed c.apart-span.ensures.old) (c.in_ok-enter.ensures.beside fleet shows c.apart-span.ensures.new)
-    (c.in_ok-enter.ensures.mends none fleet hides shows (but_hidden fleet agent) c.apart-span.ensures.new left)
+    c.self.inside.kept.keys c.leave.new.kept.keys c.enter.new.kept.keys held (goes.1 before showed c.apart-span.ensures.old) (comes.1 fleet shows c.apart-span.ensures.new)
+    (comes.0 none fleet hides shows (but_hidden fleet agent) c.apart-span.ensures.new left)
