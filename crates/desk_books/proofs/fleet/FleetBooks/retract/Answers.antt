@@ -10,5 +10,5 @@ returns-clause-books c = λ fleet are own.
     let stands = c.take-index.ensures.stands fleet was.index own in
     record {
       index = stands;
-      entries = c.in-Ok.ensures (with_route fleet c.args.agent None) stands (with_own fleet c.args.agent None) (entries_back _ fleet c.args.agent None (Some (route_of c.args.track)) own was.entries);
+      entries = c.in_ok-conflicts.ensures (with_route fleet c.args.agent None) stands (with_own fleet c.args.agent None) (entries_back _ fleet c.args.agent None (Some (route_of c.args.track)) own was.entries);
     }

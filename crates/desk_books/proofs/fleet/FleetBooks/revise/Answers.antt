@@ -8,11 +8,11 @@ use Rattle.desk_books.proofs.fleet.FleetBooks.revise.Goals as goal
 pub returns-clause-books : goal.returns-clause-books
 returns-clause-books c = λ fleet are own.
     let was = rw (← c.self.view_is) at are in
-    let stands = c.in-Ok.ensures.stands fleet was.index own in
+    let stands = c.in_ok-index.ensures.stands fleet was.index own in
     let route = Some (route_of c.args.new) in
     record {
       index = stands;
-      entries = c.in-Ok-revise.ensures (with_route fleet c.args.agent route) stands (with_own fleet c.args.agent route) (entries_back _ fleet c.args.agent route (Some (route_of c.args.old)) own was.entries);
+      entries = c.in_ok-conflicts.ensures (with_route fleet c.args.agent route) stands (with_own fleet c.args.agent route) (entries_back _ fleet c.args.agent route (Some (route_of c.args.old)) own was.entries);
     }
 
 pub returns-in_default-clause-books : goal.returns-in_default-clause-books
