@@ -2,7 +2,7 @@
 use Rattle.std.proofs.Common.{◌≡◌, ◌≢◌, ℕ, inl, inr, List, [], Option, Some, None, sym, ap, ◌∙◌, subst, arith}
 use Rattle.std.proofs.lemmas.Bool.Decides.{eqb_tells, nat_tests}
 use Rattle.std.proofs.lemmas.Option.{MatchOption-at_some, gets}
-use Rattle.std.specs.Prelude.{IfSome, ⊤}
+use Rattle.std.specs.Prelude.{◌↔◌, IfSome, ⊤}
 use Rattle.std.proofs.lemmas.Grind.{common_steps}
 use Rattle.grid_cells.specs.Cell.{Point}
 use Rattle.grid_cells.specs.Grid.{Chart}
@@ -11,7 +11,7 @@ use Rattle.plan_table.specs.declared.plans.Row.{Row}
 use Rattle.cost_ledger.specs.Ledger.{Ledger, StandsFor}
 use Rattle.where_index.specs.Spots.{Gains, Loses}
 use Rattle.goal_fields.specs.Target.{Standing}
-use Rattle.goal_fields.specs.Held.{StandFor}
+use Rattle.goal_fields.specs.Held.{HasGoal, StandFor}
 use Rattle.desk_books.specs.Aims.{aim}
 use Rattle.desk_books.specs.Goals.{HoldAimed}
 use Rattle.desk_books.specs.Prices.{Rows, with_row, AimsAt, Prices, AreOf}
@@ -46,6 +46,13 @@ held_of grid fleet books are goal = (
   (λ one. (are.goals goal).1 (one.0, (are.aims (aim goal one.0)).0 one.1)),
 )
 
+-- and those that agents aim at are held
+goals_aimed : (fleet : Rows) (aims : List Aim) (fields : List Standing) → AreAims fleet aims → HoldAimed aims fields → (goal : Point) → HasGoal fields goal ↔ ((agent : ℕ) × AimsAt fleet agent goal)
+goals_aimed fleet aims fields are held goal = (
+  (λ h. let one = (held goal).0 h in (one.0, (are (aim goal one.0)).0 one.1)),
+  (λ one. (held goal).1 (one.0, (are (aim goal one.0)).1 one.1)),
+)
+
 -- books in which one agent's row has changed
 module _ (grid : Chart) (fleet : Rows) (old : Prices) (agent : ℕ) (changed : Option Row) (costs : Ledger) (are : AreOf grid fleet old) (change : ChangesRow old.costs.rows costs.rows agent changed) (by_agent : IsByAgent costs.rows) (stands : StandsFor costs grid) where
   books_changed : (aims : List Aim) (fields : List Standing) → AreAims (with_row fleet agent changed) aims → StandFor grid fields → HoldAimed aims fields → AreOf grid (with_row fleet agent changed) (record { costs = costs; aims = aims; fields = fields })
@@ -55,10 +62,7 @@ module _ (grid : Chart) (fleet : Rows) (old : Prices) (agent : ℕ) (changed : O
     costs = stands;
     aims = are_aims;
     fields = stand;
-    goals = λ goal. (
-      (λ h. let one = (held goal).0 h in (one.0, (are_aims (aim goal one.0)).0 one.1)),
-      (λ one. (held goal).1 (one.0, (are_aims (aim goal one.0)).1 one.1)),
-    );
+    goals = goals_aimed (with_row fleet agent changed) aims fields are_aims held;
   }
 
 -- a row has come
@@ -107,10 +111,7 @@ books_flipped old new fleet books costs aims fields are rows stands same stand h
   costs = stands;
   aims = are_aims;
   fields = stand;
-  goals = λ goal. (
-    (λ h. let one = (held goal).0 h in (one.0, (are_aims (aim goal one.0)).0 one.1)),
-    (λ one. (held goal).1 (one.0, (are_aims (aim goal one.0)).1 one.1)),
-  );
+  goals = goals_aimed fleet aims fields are_aims held;
 }
   where
     are_aims : AreAims fleet aims

@@ -5,8 +5,9 @@ use Rattle.std.proofs.lemmas.Bool.Decides.{nat_tests}
 use Rattle.std.proofs.lemmas.Grind.{common_steps}
 use Rattle.std.proofs.lemmas.Option.{gets}
 use Rattle.plan_table.specs.Route.{Route, Fleet}
-use Rattle.where_index.specs.Index.{with_route}
+use Rattle.where_index.specs.Index.{Contents, StandsFor, ChangesRoute, with_route}
 use Rattle.conflict_ledger.specs.Kept.{HasEntries}
+use Rattle.conflict_ledger.specs.Mending.{KeepsUp}
 use Rattle.mapf_rules.specs.declared.entries.Conflict.{Conflict}
 use Rattle.desk_books.specs.Fleet.{FleetState, AreOf}
 use Rattle.desk_books.specs.FleetLaws.{RoutesFixBooks}
@@ -19,7 +20,7 @@ pub routes_fix : RoutesFixBooks
 routes_fix one other books same are = subst (λ (fleet : Fleet). AreOf fleet books) (same_fleet one other same) are
 
 -- an agent's route put in place of another is the one that it has then
-pub with_own : (fleet : Fleet) (agent : ℕ) (route : Option Route) → with_route fleet agent route agent ≡ route
+with_own : (fleet : Fleet) (agent : ℕ) (route : Option Route) → with_route fleet agent route agent ≡ route
 with_own fleet agent route = ap (λ (b : Bool). cond b route (fleet agent)) (eq-eqb agent agent refl)
 
 -- a route that is taken back leaves the fleet as it was
@@ -31,9 +32,15 @@ pub with_same : (fleet : Fleet) (agent : ℕ) (route : Option Route) → fleet a
 with_same fleet agent route is = grind (arith, nat_tests, common_steps, gets)
 
 -- the entries of a fleet are those of the same fleet after a route was given and taken back
-pub entries_back : (kept : List Conflict) (fleet : Fleet) (agent : ℕ) (route was : Option Route) → fleet agent ≡ was → HasEntries kept fleet → HasEntries kept (with_route (with_route fleet agent route) agent was)
+entries_back : (kept : List Conflict) (fleet : Fleet) (agent : ℕ) (route was : Option Route) → fleet agent ≡ was → HasEntries kept fleet → HasEntries kept (with_route (with_route fleet agent route) agent was)
 entries_back kept fleet agent route was is has = subst (λ (f : Fleet). HasEntries kept f) (sym (with_back fleet agent route was is)) has
 
 -- books of a fleet are those of the fleet with the route that an agent has
 pub are_same : (books : FleetState) (fleet : Fleet) (agent : ℕ) (route : Option Route) → fleet agent ≡ route → AreOf fleet books → AreOf (with_route fleet agent route) books
 are_same books fleet agent route is are = subst (λ (f : Fleet). AreOf f books) (sym (with_same fleet agent route is)) are
+
+-- books follow an agent to another route where their index does, and then their entries
+pub follow_route : (agent : ℕ) (before after : Option Route) (index moved : Contents) (kept mended : List Conflict) → ChangesRoute index moved agent before after → KeepsUp moved agent before after kept mended → (fleet : Fleet) → StandsFor index fleet → HasEntries kept fleet → fleet agent ≡ before → AreOf (with_route fleet agent after) (record { index = moved; conflicts = mended })
+follow_route agent before after index moved kept mended moves keeps fleet stands has is =
+    let there = moves fleet stands is in
+    record { index = there; entries = keeps (with_route fleet agent after) there (with_own fleet agent after) (entries_back kept fleet agent after before is has) }

@@ -99,16 +99,11 @@ pub fn line(agent: Agent, row: &Row, fields: &Fields) -> AgentLine
     let settle = settle_time(&row.plan);
     let finished = is_finished(row);
     let bound = bound(fields, row);
-    let gap = if finished {
-        Some(settle.saturating_sub(bound.unwrap_or(0)))
-    } else {
-        None
-    };
     AgentLine {
         agent,
         settle,
         finished,
         bound,
-        gap,
+        gap: finished.then_some(settle.saturating_sub(bound.unwrap_or(0))),
     }
 }
