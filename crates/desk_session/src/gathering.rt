@@ -1,5 +1,5 @@
 //! Watches and edits that are kept, and commits that are made.
-ghost use Rattle.std.specs.Prelude.{◌≡◌, ◌⊎◌, [], ◌∷◌};
+ghost use Rattle.std.specs.Prelude.{◌≡◌, ◌⊎◌, ◌<◌, ◌≤◌, [], ◌∷◌, ◌++◌, length};
 ghost use Rattle.desk_session.specs.Table.{FindsNoMemory, KeepsWatch, KeepsEdit, Commits, CommitsAlone};
 ghost use Rattle.desk_session.specs.Tellings.{after_commit};
 
@@ -10,14 +10,16 @@ use desk_core::{Commit, Edit, MOST_EDITS, MOST_WATCHES, Thing};
 use grid_cells::List;
 use std::alloc::Global;
 
-// One more watch.
-pub(crate) fn keep_watch(number: u32, gathered: Gathered, thing: Thing) -> (Reply, Session)
-    ensures { KeepsWatch number gathered thing result.0 result.1 ⊎ ((result.0 ≡ Reply.NoMemory) × (result.1 ≡ Session.Gathering gathered)) }
+// One more item of a list that has at most that many.
+fn keep<T: Drop>(number: u32, list: List<T>, most: usize, item: T) -> (Reply, List<T>)
+    requires { length list ≤ most }
+    ensures { ((length list < most) × (result.0 ≡ Reply.Kept) × (result.1 ≡ list ++ item ∷ []))
+        ⊎ ((length list ≡ most) × (result.0 ≡ Reply.Bad number BadLine.Full) × (result.1 ≡ list))
+        ⊎ ((result.0 ≡ Reply.NoMemory) × (result.1 ≡ list)) }
 {
-    let Gathered { base, watch, edits } = gathered;
-    let mut watch = watch.into_items();
-    let reply = if watch.len() < MOST_WATCHES {
-        match watch.push(thing) {
+    let mut items = list.into_items();
+    let reply = if items.len() < most {
+        match items.push(item) {
             Ok(()) => Reply::Kept,
             Err(_) => Reply::NoMemory,
         }
@@ -27,7 +29,15 @@ pub(crate) fn keep_watch(number: u32, gathered: Gathered, thing: Thing) -> (Repl
             why: BadLine::Full,
         }
     };
-    let watch = List::new(watch);
+    (reply, List::new(items))
+}
+
+// One more watch.
+pub(crate) fn keep_watch(number: u32, gathered: Gathered, thing: Thing) -> (Reply, Session)
+    ensures { KeepsWatch number gathered thing result.0 result.1 ⊎ ((result.0 ≡ Reply.NoMemory) × (result.1 ≡ Session.Gathering gathered)) }
+{
+    let Gathered { base, watch, edits } = gathered;
+    let (reply, watch) = keep(number, watch, MOST_WATCHES, thing);
     (reply, Session::Gathering(Gathered { base, watch, edits }))
 }
 
@@ -36,19 +46,7 @@ pub(crate) fn keep_edit(number: u32, gathered: Gathered, edit: Edit) -> (Reply, 
     ensures { KeepsEdit number gathered edit result.0 result.1 ⊎ ((result.0 ≡ Reply.NoMemory) × (result.1 ≡ Session.Gathering gathered)) }
 {
     let Gathered { base, watch, edits } = gathered;
-    let mut edits = edits.into_items();
-    let reply = if edits.len() < MOST_EDITS {
-        match edits.push(edit) {
-            Ok(()) => Reply::Kept,
-            Err(_) => Reply::NoMemory,
-        }
-    } else {
-        Reply::Bad {
-            line: number,
-            why: BadLine::Full,
-        }
-    };
-    let edits = List::new(edits);
+    let (reply, edits) = keep(number, edits, MOST_EDITS, edit);
     (reply, Session::Gathering(Gathered { base, watch, edits }))
 }
 
