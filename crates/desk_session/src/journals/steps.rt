@@ -1,5 +1,5 @@
 //! Where a line of a journal leads.
-ghost use Rattle.std.specs.Prelude.{◌≡◌, ◌<◌, ◌≤◌, length, IfOk};
+ghost use Rattle.std.specs.Prelude.{◌≡◌, [], ◌∷◌, ◌++◌, IfOk};
 ghost use Rattle.desk_session.specs.JournalText.Begun.{fresh, IsBegun};
 ghost use Rattle.desk_session.specs.JournalText.Places.{settled, IsPlace, LeadsTo};
 
@@ -10,6 +10,15 @@ use crate::journals::spelling::is_end;
 use desk_core::{Commit, MOST_ENTRIES};
 use grid_cells::{List, OutOfMemory};
 use std::alloc::Global;
+
+// The list, and one more item.
+fn pushed<T: Drop>(list: List<T>, item: T) -> Result<List<T>, OutOfMemory>
+    ensures { IfOk result (λ longer. longer ≡ list ++ item ∷ []) }
+{
+    let mut items = list.into_items();
+    items.push(item)?;
+    Ok(List::new(items))
+}
 
 // Inside the entry, or behind it where it lacks nothing.
 fn settled(heading: Heading, entries: List<Commit>, entry: Begun) -> Result<Place, OutOfMemory>
@@ -36,15 +45,8 @@ fn settled(heading: Heading, entries: List<Commit>, entry: Begun) -> Result<Plac
         Ok(commit) => commit,
         Err(_) => unreachable!(),
     };
-    let mut entries = entries.into_items();
-    match entries.push(commit) {
-        Ok(()) => {}
-        Err(_) => return Err(OutOfMemory),
-    }
-    Ok(Place::Between {
-        heading,
-        entries: List::new(entries),
-    })
+    let entries = pushed(entries, commit)?;
+    Ok(Place::Between { heading, entries })
 }
 
 // An entry of which no watch and no edit is read.
@@ -84,62 +86,30 @@ fn between(
     }
 }
 
-// One more watch.
-fn watched(
+// From inside an entry: one more watch, or one more edit.
+fn inside(
     alloc: Global,
     heading: Heading,
     entries: List<Commit>,
     entry: Begun,
     line: &[u8],
 ) -> Result<Option<Place>, OutOfMemory>
-    requires place { IsPlace (Place.Inside heading entries entry) }
-    requires due { length entry.watch < entry.head.watches }
+    requires { IsPlace (Place.Inside heading entries entry) }
     ensures { IfOk result (LeadsTo (Place.Inside heading entries entry) line.now) }
 {
-    let Some(thing) = thing_of(alloc, line)? else {
-        return Ok(None);
-    };
     let Begun { head, watch, edits } = entry;
-    let mut watch = watch.into_items();
-    match watch.push(thing) {
-        Ok(()) => {}
-        Err(_) => return Err(OutOfMemory),
+    if watch.items().len() < head.watches {
+        let Some(thing) = thing_of(alloc, line)? else {
+            return Ok(None);
+        };
+        let watch = pushed(watch, thing)?;
+        return Ok(Some(settled(heading, entries, Begun { head, watch, edits })?));
     }
-    let entry = Begun {
-        head,
-        watch: List::new(watch),
-        edits,
-    };
-    Ok(Some(settled(heading, entries, entry)?))
-}
-
-// One more edit.
-fn edited(
-    alloc: Global,
-    heading: Heading,
-    entries: List<Commit>,
-    entry: Begun,
-    line: &[u8],
-) -> Result<Option<Place>, OutOfMemory>
-    requires place { IsPlace (Place.Inside heading entries entry) }
-    requires done { entry.head.watches ≤ length entry.watch }
-    ensures { IfOk result (LeadsTo (Place.Inside heading entries entry) line.now) }
-{
     let Some(edit) = edit_of(alloc, line)? else {
         return Ok(None);
     };
-    let Begun { head, watch, edits } = entry;
-    let mut edits = edits.into_items();
-    match edits.push(edit) {
-        Ok(()) => {}
-        Err(_) => return Err(OutOfMemory),
-    }
-    let entry = Begun {
-        head,
-        watch,
-        edits: List::new(edits),
-    };
-    Ok(Some(settled(heading, entries, entry)?))
+    let edits = pushed(edits, edit)?;
+    Ok(Some(settled(heading, entries, Begun { head, watch, edits })?))
 }
 
 /// Where the line leads, if it fits.
@@ -155,13 +125,7 @@ pub(crate) fn next(alloc: Global, place: Place, line: &[u8]) -> Result<Option<Pl
             heading,
             entries,
             entry,
-        } => {
-            if entry.watch.items().len() < entry.head.watches {
-                watched(alloc, heading, entries, entry, line)
-            } else {
-                edited(alloc, heading, entries, entry, line)
-            }
-        }
+        } => inside(alloc, heading, entries, entry, line),
         Place::Over { .. } => Ok(None),
     }
 }
