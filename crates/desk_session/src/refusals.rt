@@ -54,15 +54,15 @@ fn put_fault<W: Sink>(sink: &mut W, index: u64, name: &[u8]) -> Result<(), Write
 fn put_faulty<W: Sink>(sink: &mut W, index: u64, why: EditFault) -> Result<(), WriteFailed>
     ensures { Puts W.held W.broken sink.old sink.new result (refused_line (codes "faulty" ∷ decimal index ∷ fault_words why)) }
 {
-    match why {
-        EditFault::UnknownAgent => put_fault(sink, index, b"unknown-agent"),
-        EditFault::AgentTaken => put_fault(sink, index, b"agent-taken"),
-        EditFault::TooManyAgents => put_fault(sink, index, b"too-many-agents"),
-        EditFault::OutOfMap => put_fault(sink, index, b"out-of-map"),
-        EditFault::EmptyPath => put_fault(sink, index, b"empty-path"),
-        EditFault::NotFromStart => put_fault(sink, index, b"not-from-start"),
-        EditFault::NoSuchTime => put_fault(sink, index, b"no-such-time"),
-        EditFault::TooLong => put_fault(sink, index, b"too-long"),
+    let name = match why {
+        EditFault::UnknownAgent => b"unknown-agent".as_slice(),
+        EditFault::AgentTaken => b"agent-taken",
+        EditFault::TooManyAgents => b"too-many-agents",
+        EditFault::OutOfMap => b"out-of-map",
+        EditFault::EmptyPath => b"empty-path",
+        EditFault::NotFromStart => b"not-from-start",
+        EditFault::NoSuchTime => b"no-such-time",
+        EditFault::TooLong => b"too-long",
         EditFault::NotAStep { at } => {
             let words = [
                 Word::Text(b"faulty"),
@@ -70,9 +70,10 @@ fn put_faulty<W: Sink>(sink: &mut W, index: u64, why: EditFault) -> Result<(), W
                 Word::Text(b"not-a-step"),
                 Word::Number(u64::from(at)),
             ];
-            put_line(sink, b"refused", &words)
+            return put_line(sink, b"refused", &words);
         }
-    }
+    };
+    put_fault(sink, index, name)
 }
 
 // Why a commit is refused.
