@@ -1,5 +1,5 @@
 -- How the lines of a map are counted while they come.
-use Rattle.std.proofs.Common.{◌≡◌, ℕ, ◌+◌, ◌<◌, ◌≤◌, List, [], ◌∷◌, ◌++◌, length, refl, ap, sym, ◌∙◌, append-nil, arith, length-append}
+use Rattle.std.proofs.Common.{◌≡◌, ℕ, ◌+◌, ◌<◌, ◌≤◌, List, [], ◌∷◌, ◌++◌, length, nat_eq, false, refl, ap, sym, ◌∙◌, append-nil, arith, length-append}
 use Rattle.std.proofs.Common.{subst, inl, inr}
 use Rattle.std.specs.Prelude.{Option}
 use Rattle.std.specs.Io.KnownBytes.{Consumes}
@@ -9,9 +9,9 @@ use Rattle.std.proofs.lemmas.Bool.{cases_lt}
 use Rattle.bench_reader.specs.Announced.{rows_announced}
 use Rattle.bench_reader.specs.Lines.{lines_of}
 use Rattle.desk_session.specs.LinesOf.{complete_lines, last_piece}
-use Rattle.desk_session.specs.Start.{HearsMap, Stops, IsFinished}
+use Rattle.desk_session.specs.Start.{Told, HearsMap, Stops, IsFinished}
 use Rattle.desk_session.proofs.AllLines.{piece_lines, lines_of-split}
-use Rattle.desk_session.proofs.Pieces.{complete-feed, piece-feed}
+use Rattle.desk_session.proofs.Pieces.{complete-byte, complete-feed, piece-feed}
 
 -- after a line feed, the complete lines are all lines
 pub all_complete : (text : List ℕ) → lines_of (text ++ 10 ∷ []) ≡ complete_lines (text ++ 10 ∷ [])
@@ -49,43 +49,42 @@ unchanged text other = elim (cases_lt (length (complete_lines text) + 1) 4) [
   | inr g ↦ elim (eq-or-lt_of_le g) [ inl e ↦ absurd (other (sym e)) | inr l ↦ late text (omega (arith, l)) ]
 ]
 
--- how many lines the map takes, as far as the lines tell
-pub record Told (text : List ℕ) (lines wanted : ℕ) : Type 0 where
-  pub counted : length (complete_lines text) ≡ lines
-  pub is : 4 + rows_announced (complete_lines text) ≡ wanted
-  pub few : wanted ≤ 2052
-  pub enough : lines ≤ wanted
-
-pub told-fourth : (text : List ℕ) (lines rows wanted : ℕ) → length (complete_lines text) ≡ lines → lines + 1 ≡ 4 → rows ≡ rows_announced (lines_of (text ++ 10 ∷ [])) → rows ≤ 2048 → wanted ≡ 4 + rows → Told (text ++ 10 ∷ []) (lines + 1) wanted
-told-fourth text lines rows wanted n four r b w = record {
-  counted = lines_more text ∙ ap (λ k. k + 1) n;
-  is = sym (w ∙ ap (λ k. 4 + k) (r ∙ ap rows_announced (all_complete text)));
-  few = omega (arith, b, w);
-  enough = omega (arith, four, w);
+pub told-fourth : (text : List ℕ) (lines old rows : ℕ) → Told text lines old → lines + 1 ≡ 4 → rows ≡ rows_announced (lines_of (text ++ 10 ∷ [])) → rows ≤ 2048 → Told (text ++ 10 ∷ []) (lines + 1) (4 + rows)
+told-fourth text lines old rows told four r b = record {
+  counted = lines_more text ∙ ap (λ k. k + 1) told.counted;
+  is = sym (ap (λ k. 4 + k) (r ∙ ap rows_announced (all_complete text)));
+  few = omega (arith, b);
 }
 
-pub told-other : (text : List ℕ) (lines old wanted : ℕ) → length (complete_lines text) ≡ lines → (lines + 1 ≡ 4 → ⊥) → 4 + rows_announced (complete_lines text) ≡ old → lines < old → old ≤ 2052 → wanted ≡ old → Told (text ++ 10 ∷ []) (lines + 1) wanted
-told-other text lines old wanted n other t l b w = record {
-  counted = lines_more text ∙ ap (λ k. k + 1) n;
-  is = ap (λ k. 4 + k) (unchanged text (λ four. other (sym (ap (λ k. k + 1) n) ∙ four))) ∙ t ∙ sym w;
-  few = omega (arith, b, w);
-  enough = omega (arith, l, w);
+pub told-other : (text : List ℕ) (lines wanted : ℕ) → Told text lines wanted → (lines + 1 ≡ 4 → ⊥) → Told (text ++ 10 ∷ []) (lines + 1) wanted
+told-other text lines wanted told other = record {
+  counted = lines_more text ∙ ap (λ k. k + 1) told.counted;
+  is = ap (λ k. 4 + k) (unchanged text (λ four. other (sym (ap (λ k. k + 1) told.counted) ∙ four))) ∙ told.is;
+  few = told.few;
+}
+
+-- a byte within a line tells nothing more
+pub told-byte : (text : List ℕ) (byte lines wanted : ℕ) → Told text lines wanted → nat_eq byte 10 ≡ false → Told (text ++ byte ∷ []) lines wanted
+told-byte text byte lines wanted told other = let same = complete-byte text byte other in record {
+  counted = ap length same ∙ told.counted;
+  is = ap (λ (ls : List (List ℕ)). 4 + rows_announced ls) same ∙ told.is;
+  few = told.few;
 }
 
 -- the last line that the map takes came to its end
-pub hears-whole : (left0 left1 left2 : Option (List ℕ)) (most : ℕ) (text : List ℕ) (byte lines wanted : ℕ) → Consumes left0 left1 text → Consumes left1 left2 (byte ∷ []) → byte ≡ 10 → length text < most → Told (text ++ 10 ∷ []) lines wanted → wanted ≤ lines
+pub hears-whole : (left0 left1 left2 : Option (List ℕ)) (most : ℕ) (text : List ℕ) (byte lines wanted : ℕ) → Consumes left0 left1 text → Consumes left1 left2 (byte ∷ []) → byte ≡ 10 → length text < most → Told (text ++ 10 ∷ []) lines wanted → lines ≤ wanted → wanted ≤ lines
     → HearsMap left0 left2 most (text ++ byte ∷ [])
-hears-whole left0 left1 left2 most text byte lines wanted before took feed low told full =
+hears-whole left0 left1 left2 most text byte lines wanted before took feed low told few full =
     let same : text ++ byte ∷ [] ≡ text ++ 10 ∷ [] = ap (λ (b : ℕ). text ++ b ∷ []) feed in
     record {
       taken = Consumes-trans left0 left1 left2 text (byte ∷ []) before took;
       within = rw (length-append text (byte ∷ [])) (omega (arith, low));
-      whole = inl (subst (λ (t : List ℕ). IsFinished t) (sym same) (record { ended = piece-feed text; lines = omega (arith, told.counted, told.is, told.enough, full) }));
+      whole = inl (subst (λ (t : List ℕ). IsFinished t) (sym same) (record { ended = piece-feed text; lines = omega (arith, told.counted, told.is, few, full) }));
     }
 
-pub stops-over : (left0 left1 left2 : Option (List ℕ)) (text : List ℕ) (byte lines wanted : ℕ) → Consumes left0 left1 text → Consumes left1 left2 (byte ∷ []) → length (complete_lines text) ≡ lines → 4 + rows_announced (complete_lines text) ≡ wanted → lines < wanted
+pub stops-over : (left0 left1 left2 : Option (List ℕ)) (text : List ℕ) (byte lines wanted : ℕ) → Consumes left0 left1 text → Consumes left1 left2 (byte ∷ []) → Told text lines wanted → lines < wanted
     → Stops left0 left2 text (byte ∷ [])
-stops-over left0 left1 left2 text byte lines wanted before took n t l = record {
+stops-over left0 left1 left2 text byte lines wanted before took told l = record {
   taken = Consumes-trans left0 left1 left2 text (byte ∷ []) before took;
-  unfinished = omega (arith, n, t, l);
+  unfinished = omega (arith, told.counted, told.is, l);
 }

@@ -24,6 +24,12 @@ use Rattle.desk_session.specs.declared.drafts.Session.TheVariants.{Idle}
 abbrev pub IsUnfinished : List ℕ → Type 0
 IsUnfinished text = length (complete_lines text) < 4 + rows_announced (complete_lines text)
 
+-- the text has so many complete lines, and the map takes so many, as those lines tell
+pub record Told (text : List ℕ) (lines wanted : ℕ) : Type 0 where
+  pub counted : length (complete_lines text) ≡ lines
+  pub is : 4 + rows_announced (complete_lines text) ≡ wanted
+  pub few : wanted ≤ 2052
+
 -- the text ends with the last line that the map takes
 pub record IsFinished (text : List ℕ) : Type 0 where
   pub ended : last_piece text ≡ []

@@ -1,5 +1,5 @@
-ghost use Rattle.std.specs.Prelude.{◌≡◌, ◌+◌, ◌||◌, length, IfOk, IfErr};
-ghost use Rattle.desk_session.specs.Start.{HearsMap, StopsInMap, Starts, is_read_fault, is_write_fault};
+ghost use Rattle.std.specs.Prelude.{◌≡◌, ◌+◌, ◌<◌, ◌≤◌, ◌||◌, ℕ, List, [], ◌∷◌, ◌++◌, length, IfOk, IfErr};
+ghost use Rattle.desk_session.specs.Start.{Told, HearsMap, StopsInMap, Starts, is_read_fault, is_write_fault};
 ghost use Rattle.desk_session.specs.Reads.{ReadsUntil, TakesAtMost};
 ghost use Rattle.desk_session.specs.Session.{is_read_failed};
 
@@ -10,6 +10,19 @@ use desk_core::{Desk, Limit, Scene};
 use desk_report::{Sink, Source};
 use plan_table::Mode;
 use std::alloc::Global;
+
+// How many lines the map takes, as its text tells with one line more: the fourth line announces the
+// rows, and each other line nothing.
+fn wanted_of(text: &[u8], lines: u32, wanted: u32) -> u32
+    ensures { (before : List ℕ) (count : ℕ) → text.now ≡ before ++ 10 ∷ [] → lines ≡ count + 1 → Told before count wanted → count < wanted
+        → Told text.now lines result × (lines ≤ result) }
+{
+    if lines == 4 {
+        4 + rows_announced(text)
+    } else {
+        wanted
+    }
+}
 
 /// The text of a map that comes first: four lines, and the rows that these announce, or those lines
 /// that there are. It has at most `most` bytes.
@@ -42,9 +55,7 @@ pub fn hear_map<R: Source>(alloc: Global, reader: &mut R, most: u64) -> Result<V
                 }
                 if byte == b'\n' {
                     lines += 1;
-                    if lines == 4 {
-                        wanted = 4 + rows_announced(text.as_slice());
-                    }
+                    wanted = wanted_of(text.as_slice(), lines, wanted);
                     if lines >= wanted {
                         return Ok(text);
                     }

@@ -1,13 +1,8 @@
-use Rattle.std.proofs.Common.{rules, arith, ◌≡◌, ◌+◌, ◌++◌, [], ◌∷◌, false, nat_eq, length, append-nil, inr, ap, ◌∙◌, ℕ, List}
+use Rattle.std.proofs.Common.{rules, arith, ◌≡◌, ◌+◌, ◌++◌, [], ◌∷◌, false, nat_eq, length, append-nil, inr, refl, ap, ◌∙◌, ℕ}
 use Rattle.std.proofs.KnownBytes.{Consumes-trans}
-use Rattle.bench_reader.specs.Announced.{rows_announced}
-use Rattle.bench_reader.specs.Lines as text_lines
-use Rattle.desk_session.specs.LinesOf.{complete_lines}
-use Rattle.desk_session.proofs.Pieces.{complete-byte}
-use Rattle.desk_session.proofs.MapLines.{Told, told-fourth, told-other, hears-whole, stops-over}
+use Rattle.desk_session.proofs.MapLines.{told-byte, hears-whole, stops-over}
 use Rattle.desk_session.proofs.Reading.{one-more, then-failed, takes-kept, takes-end, takes-fewer, takes-more, takes-once}
 use Rattle.desk_session.proofs.starting.hear_map.Goals as goal
-use Rattle.desk_session.proofs.starting.hear_map.Goals.{then-lines-eq4, else-lines-eq4}
 
 pub returns-in-Err-clause-stopped : goal.returns-in-Err-clause-stopped
 returns-in-Err-clause-stopped g c =
@@ -25,44 +20,31 @@ returns-in-Ok-None-clause-heard g c =
 pub returns-then-len-most-clause-stopped : goal.returns-then-len-most-clause-stopped
 returns-then-len-most-clause-stopped g c =
     let took = rw c.in-Ok-Some.field-0-is at c.in-Ok-Some.ensures.bytes in
-    (c.map.text.items, c.in-Ok-Some.byte, stops-over _ _ _ c.map.text.items c.in-Ok-Some.byte c.map.lines c.map.wanted c.map.invariant.taken took c.map.invariant.counted c.map.invariant.told c.map.invariant.unfinished, omega arith)
+    (c.map.text.items, c.in-Ok-Some.byte, stops-over _ _ _ c.map.text.items c.in-Ok-Some.byte c.map.lines c.map.wanted c.map.invariant.taken took c.map.invariant.told c.map.invariant.unfinished, omega arith)
 
 pub returns-in-Err-push-clause-stopped : goal.returns-in-Err-push-clause-stopped
 returns-in-Err-push-clause-stopped g c =
     let took = rw c.in-Ok-Some.field-0-is at c.in-Ok-Some.ensures.bytes in
-    (c.map.text.items, c.in-Ok-Some.byte, stops-over _ _ _ c.map.text.items c.in-Ok-Some.byte c.map.lines c.map.wanted c.map.invariant.taken took c.map.invariant.counted c.map.invariant.told c.map.invariant.unfinished, omega arith)
+    (c.map.text.items, c.in-Ok-Some.byte, stops-over _ _ _ c.map.text.items c.in-Ok-Some.byte c.map.lines c.map.wanted c.map.invariant.taken took c.map.invariant.told c.map.invariant.unfinished, omega arith)
 
 pub returns-then-lines-wanted-clause-heard : goal.returns-then-lines-wanted-clause-heard
 returns-then-lines-wanted-clause-heard g c =
     let took = rw c.in-Ok-Some.field-0-is at c.in-Ok-Some.ensures.bytes in
     let feed : c.in-Ok-Some.byte ≡ 10 = search rules in
-    let told : Told (c.map.text.items ++ 10 ∷ []) (c.map.lines + 1) c.if-lines-eq4.wanted = elim c.if-lines-eq4.branch [
-      | then-lines-eq4 w ↦
-          let heard : w.as_slice.result.now ≡ c.map.text.items ++ 10 ∷ [] = w.as_slice.ensures.value ∙ c.in-Ok.ensures.items ∙ ap (λ (b : ℕ). c.map.text.items ++ b ∷ []) feed in
-          told-fourth c.map.text.items c.map.lines w.rows_announced-wanted.result c.if-lines-eq4.wanted c.map.invariant.counted w.if-lines-eq4.true (w.rows_announced-wanted.ensures.is ∙ ap (λ (t : List ℕ). rows_announced (text_lines.lines_of t)) heard) w.rows_announced-wanted.ensures.bound w.wanted-is
-      | else-lines-eq4 w ↦ told-other c.map.text.items c.map.lines c.map.wanted c.if-lines-eq4.wanted c.map.invariant.counted w.if-lines-eq4.false c.map.invariant.told c.map.invariant.unfinished c.map.invariant.few w.wanted-is
-    ] in
-    rw c.in-Ok.ensures.items (hears-whole _ _ _ c.args.most c.map.text.items c.in-Ok-Some.byte (c.map.lines + 1) c.if-lines-eq4.wanted c.map.invariant.taken took feed (omega arith) told c.if-lines-wanted.true)
+    let text : c.as_slice.result.now ≡ c.map.text.items ++ 10 ∷ [] = c.as_slice.ensures.value ∙ c.in-Ok.ensures.items ∙ ap (λ (b : ℕ). c.map.text.items ++ b ∷ []) feed in
+    let told = rw text at (c.wanted_of-wanted.ensures c.map.text.items c.map.lines text refl c.map.invariant.told c.map.invariant.unfinished) in
+    rw c.in-Ok.ensures.items (hears-whole _ _ _ c.args.most c.map.text.items c.in-Ok-Some.byte (c.map.lines + 1) c.wanted_of-wanted.result c.map.invariant.taken took feed (omega arith) told.0 told.1 c.if-lines-wanted.true)
 
 pub map-preserved-else-lines-wanted : goal.map-preserved-else-lines-wanted
 map-preserved-else-lines-wanted g c =
     let gave = rw c.in-Ok-Some.field-0-is at c.in-Ok-Some.ensures.gives in
-    let took = rw c.in-Ok-Some.field-0-is at c.in-Ok-Some.ensures.bytes in
     let feed : c.in-Ok-Some.byte ≡ 10 = search rules in
-    let told : Told (c.map.text.items ++ 10 ∷ []) (c.map.lines + 1) c.if-lines-eq4.wanted = elim c.if-lines-eq4.branch [
-      | then-lines-eq4 w ↦
-          let heard : w.as_slice.result.now ≡ c.map.text.items ++ 10 ∷ [] = w.as_slice.ensures.value ∙ c.in-Ok.ensures.items ∙ ap (λ (b : ℕ). c.map.text.items ++ b ∷ []) feed in
-          told-fourth c.map.text.items c.map.lines w.rows_announced-wanted.result c.if-lines-eq4.wanted c.map.invariant.counted w.if-lines-eq4.true (w.rows_announced-wanted.ensures.is ∙ ap (λ (t : List ℕ). rows_announced (text_lines.lines_of t)) heard) w.rows_announced-wanted.ensures.bound w.wanted-is
-      | else-lines-eq4 w ↦ told-other c.map.text.items c.map.lines c.map.wanted c.if-lines-eq4.wanted c.map.invariant.counted w.if-lines-eq4.false c.map.invariant.told c.map.invariant.unfinished c.map.invariant.few w.wanted-is
-    ] in
-    let same : complete_lines c.push.new.self.items ≡ complete_lines (c.map.text.items ++ 10 ∷ []) = ap complete_lines (c.in-Ok.ensures.items ∙ ap (λ (b : ℕ). c.map.text.items ++ b ∷ []) feed) in
+    let text : c.as_slice.result.now ≡ c.map.text.items ++ 10 ∷ [] = c.as_slice.ensures.value ∙ c.in-Ok.ensures.items ∙ ap (λ (b : ℕ). c.map.text.items ++ b ∷ []) feed in
     record {
-      taken = rw c.in-Ok.ensures.items (Consumes-trans _ _ _ _ _ c.map.invariant.taken took);
+      taken = rw c.in-Ok.ensures.items (Consumes-trans _ _ _ _ _ c.map.invariant.taken (rw c.in-Ok-Some.field-0-is at c.in-Ok-Some.ensures.bytes));
       within = omega arith;
-      counted = ap length same ∙ told.counted;
-      told = ap (λ (lines : List (List ℕ)). 4 + rows_announced lines) same ∙ told.is;
+      told = rw c.as_slice.ensures.value at (c.wanted_of-wanted.ensures c.map.text.items c.map.lines text refl c.map.invariant.told c.map.invariant.unfinished).0;
       unfinished = c.if-lines-wanted.false;
-      few = told.few;
       well = one-more _ _ _ _ _ c.map.invariant.well c.in-Ok-Some.ensures.gives;
       took = rw c.in-Ok.ensures.items (takes-kept _ _ _ _ c.map.text.items c.in-Ok-Some.byte c.map.invariant.took gave);
       sound = search rules;
@@ -73,14 +55,11 @@ map-preserved g c =
     let gave = rw c.in-Ok-Some.field-0-is at c.in-Ok-Some.ensures.gives in
     let took = rw c.in-Ok-Some.field-0-is at c.in-Ok-Some.ensures.bytes in
     let other : nat_eq c.in-Ok-Some.byte 10 ≡ false = search rules in
-    let same : complete_lines c.push.new.self.items ≡ complete_lines c.map.text.items = ap complete_lines c.in-Ok.ensures.items ∙ complete-byte c.map.text.items c.in-Ok-Some.byte other in
     record {
       taken = rw c.in-Ok.ensures.items (Consumes-trans _ _ _ _ _ c.map.invariant.taken took);
       within = omega arith;
-      counted = ap length same ∙ c.map.invariant.counted;
-      told = ap (λ (lines : List (List ℕ)). 4 + rows_announced lines) same ∙ c.map.invariant.told;
+      told = rw c.in-Ok.ensures.items (told-byte c.map.text.items c.in-Ok-Some.byte c.map.lines c.map.wanted c.map.invariant.told other);
       unfinished = c.map.invariant.unfinished;
-      few = c.map.invariant.few;
       well = one-more _ _ _ _ _ c.map.invariant.well c.in-Ok-Some.ensures.gives;
       took = rw c.in-Ok.ensures.items (takes-kept _ _ _ _ c.map.text.items c.in-Ok-Some.byte c.map.invariant.took gave);
       sound = search rules;

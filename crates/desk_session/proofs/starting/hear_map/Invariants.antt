@@ -1,18 +1,15 @@
-use Rattle.std.proofs.Common.{length, ◌-◌, ◌+◌, ◌≡◌, ◌≤◌, ◌<◌}
+use Rattle.std.proofs.Common.{length, ◌-◌, ◌≡◌, ◌≤◌, ◌<◌}
 use Rattle.std.specs.Io.KnownBytes.{Consumes}
-use Rattle.bench_reader.specs.Announced.{rows_announced}
-use Rattle.desk_session.specs.LinesOf.{complete_lines}
 use Rattle.desk_session.specs.Reads.{NoneFailed, TakesAtMost}
+use Rattle.desk_session.specs.Start.{Told}
 use Rattle.desk_session.proofs.starting.hear_map.Given as goal
 
 abbrev pub invariant-map : goal.invariant-map
 invariant-map g l = record {
   taken : Consumes (g.R.Source.left l.fn.reader) (g.R.Source.left l.reader) l.text.items;
   within : length l.text.items ≤ l.most;
-  counted : length (complete_lines l.text.items) ≡ l.lines;
-  told : 4 + rows_announced (complete_lines l.text.items) ≡ l.wanted;
+  told : Told l.text.items l.lines l.wanted;
   unfinished : l.lines < l.wanted;
-  few : l.wanted ≤ 2052;
   well : NoneFailed g.R.Source.gives l.fn.reader l.reader;
   took : TakesAtMost g.R.Source.gives (length l.text.items) l.fn.reader l.reader;
   sound : g.R.Source.failed l.reader ≡ g.R.Source.failed l.fn.reader;
