@@ -1,7 +1,6 @@
 //! The lines of a text, and what they name.
-ghost use Rattle.std.specs.Prelude.{◌≡◌, ◌<◌, ◌≤◌, ◌^◌, [], ◌∷◌, ◌++◌, ℕ, List, Some, true, not, nat_eq, decimal, IfOk, MatchOption};
+ghost use Rattle.std.specs.Prelude.{◌≡◌, ◌≢◌, ◌<◌, ◌≤◌, ◌^◌, [], ◌∷◌, ◌++◌, ℕ, List, Some, true, not, nat_eq, decimal, codes, IfOk, MatchOption, MatchResult};
 ghost use Rattle.std.specs.List.{list_all};
-ghost use Rattle.std.specs.Result.{result_ok};
 ghost use Rattle.bench_reader.specs.Words.{words_of};
 ghost use Rattle.desk_lines.specs.Requests.{request_of};
 ghost use Rattle.desk_session.specs.JournalText.Ranges.{IsThing, IsEdit};
@@ -12,7 +11,8 @@ ghost use Rattle.grid_cells.specs.declared.numbers.TheConstants.{MOST_PLANNER};
 ghost use Rattle.desk_session.specs.declared.journals.places.Head.{Head};
 
 use crate::journals::places::Head;
-use crate::journals::spelling::{is_edit, is_head, is_watch};
+use crate::journals::spelling::{is_head, is_written};
+use crate::journals::written::Written;
 use bench_reader::{next_word, number_of};
 use bstr::ByteSlice;
 use desk_core::{Edit, MOST_EDITS, MOST_WATCHES, Thing};
@@ -30,14 +30,30 @@ pub(crate) fn whole_line(text: &[u8]) -> Option<(&[u8], &[u8])>
     Some((&text[..end], &text[end + 1..]))
 }
 
-// What the line asks for in a session.
-fn request_of(alloc: Global, line: &[u8]) -> Result<Option<Request>, OutOfMemory>
-    ensures { IfOk result (λ asked. asked ≡ result_ok (request_of line.now)) }
+// What the line asks for in a session, or nothing where it is no line of one.
+fn request_of(alloc: Global, line: &[u8]) -> Result<Request, OutOfMemory>
+    ensures { IfOk result (λ asked. MatchResult (request_of line.now) (λ request. asked ≡ request) (λ why. asked ≡ Request.Silent)) }
 {
     match read_line(alloc, line) {
-        Ok(request) => Ok(Some(request)),
+        Ok(request) => Ok(request),
         Err(LineFault::OutOfMemory) => Err(OutOfMemory),
-        Err(LineFault::Word | LineFault::Shape) => Ok(None),
+        Err(LineFault::Word | LineFault::Shape) => Ok(Request::Silent),
+    }
+}
+
+// The value, where the line is the one that is written of it.
+fn spelled<T: Written + Drop>(
+    alloc: Global,
+    value: T,
+    line: &[u8],
+) -> Result<Option<T>, OutOfMemory>
+    ensures { IfOk result (λ found. MatchOption found (T.text value ≢ line.now ++ codes "\n")
+        (λ same. (same ≡ value) × T.lawful value × (T.text value ≡ line.now ++ codes "\n"))) }
+{
+    if is_written(alloc, &value, line)? {
+        Ok(Some(value))
+    } else {
+        Ok(None)
     }
 }
 
@@ -45,41 +61,34 @@ fn request_of(alloc: Global, line: &[u8]) -> Result<Option<Request>, OutOfMemory
 pub(crate) fn thing_of(alloc: Global, line: &[u8]) -> Result<Option<Thing>, OutOfMemory>
     ensures { IfOk result (Names IsThing watch_words line.now) }
 {
-    let Some(request) = request_of(alloc, line)? else {
+    let Request::Watch(thing) = request_of(alloc, line)? else {
         return Ok(None);
     };
-    let Request::Watch(thing) = request else {
-        return Ok(None);
-    };
-    if is_watch(alloc, &thing, line)? {
-        Ok(Some(thing))
-    } else {
-        Ok(None)
-    }
+    spelled(alloc, thing, line)
 }
 
 /// The edit of an edit line.
 pub(crate) fn edit_of(alloc: Global, line: &[u8]) -> Result<Option<Edit>, OutOfMemory>
     ensures { IfOk result (Names IsEdit edit_words line.now) }
 {
-    let Some(request) = request_of(alloc, line)? else {
+    let Request::Edit(edit) = request_of(alloc, line)? else {
         return Ok(None);
     };
-    let Request::Edit(edit) = request else {
-        return Ok(None);
-    };
-    if is_edit(alloc, &edit, line)? {
-        Ok(Some(edit))
-    } else {
-        Ok(None)
-    }
+    spelled(alloc, edit, line)
+}
+
+// The number below 2^32 that a word names, however it is spelled.
+fn small_of(word: &[u8]) -> Option<u32>
+    ensures { (number : ℕ) → number < 2 ^ 32 → word.now ≡ decimal number → result ≡ Some number }
+{
+    number_of(word)
 }
 
 // The planner that a word names, however it is spelled.
 fn planner_of(word: &[u8]) -> Option<Planner>
     ensures { (planner : ℕ) → planner ≤ MOST_PLANNER → word.now ≡ decimal planner → result ≡ Some planner }
 {
-    Planner::new(number_of(word)?)
+    Planner::new(small_of(word)?)
 }
 
 // The version that a word names, however it is spelled.
@@ -90,13 +99,6 @@ fn base_of(word: &[u8]) -> Option<u64>
         Ok(digits) => digits.parse::<u64>().ok(),
         Err(_) => None,
     }
-}
-
-// How many a word names, however it is spelled.
-fn count_of(word: &[u8]) -> Option<usize>
-    ensures { (count : ℕ) → count < 2 ^ 32 → word.now ≡ decimal count → result ≡ Some count }
-{
-    Some(number_of(word)? as usize)
 }
 
 // The four words behind the first of a line.
@@ -120,8 +122,8 @@ fn numbers_of(line: &[u8]) -> Option<Head>
     Some(Head {
         planner: planner_of(planner)?,
         base: base_of(base)?,
-        watches: count_of(watches)?,
-        edits: count_of(edits)?,
+        watches: small_of(watches)? as usize,
+        edits: small_of(edits)? as usize,
     })
 }
 

@@ -10,6 +10,7 @@ mod spelling;
 mod steps;
 mod upgrading;
 mod writing;
+mod written;
 
 pub use faults::JournalFault;
 pub use laws::{one_journal_answer, written_reads_back};

@@ -1,13 +1,12 @@
 //! Whether a line is spelled as it is written.
 ghost use Rattle.std.specs.Prelude.{◌≡◌, ◌++◌, ◌↔◌, codes, IsTrue, IfOk, OnOk};
 ghost use Rattle.desk_report.specs.LineText.{line_text};
-ghost use Rattle.desk_session.specs.JournalText.Ranges.{IsEdit};
-ghost use Rattle.desk_session.specs.JournalText.Lines.{watch_words, edit_words, end_words};
+ghost use Rattle.desk_session.specs.JournalText.Lines.{end_words};
 ghost use Rattle.desk_session.specs.JournalText.Begun.{head_words};
 
-use crate::journals::entries::{put_edit, put_head, put_watch};
+use crate::journals::entries::put_head;
 use crate::journals::places::Head;
-use desk_core::{Edit, Thing};
+use crate::journals::written::Written;
 use desk_report::Spout;
 use grid_cells::OutOfMemory;
 use itoa::Buffer;
@@ -23,24 +22,17 @@ fn is_whole(written: &[u8], line: &[u8]) -> bool
     }
 }
 
-/// Whether the line is the one that is written of that watch.
-pub(crate) fn is_watch(alloc: Global, thing: &Thing, line: &[u8]) -> Result<bool, OutOfMemory>
-    ensures { IfOk result (λ same. IsTrue same ↔ (line_text (watch_words thing.now) ≡ line.now ++ codes "\n")) }
+/// Whether the line is the one that is written of that value.
+pub(crate) fn is_written<T: Written>(
+    alloc: Global,
+    value: &T,
+    line: &[u8],
+) -> Result<bool, OutOfMemory>
+    ensures spelled { IfOk result (λ same. IsTrue same ↔ (T.text value.now ≡ line.now ++ codes "\n")) }
+    ensures lawful { OnOk result (T.lawful value.now) }
 {
     let mut sink = Spout::new(Vec::new(alloc));
-    match put_watch(&mut sink, thing) {
-        Ok(()) => Ok(is_whole(sink.into_inner().as_slice(), line)),
-        Err(_) => Err(OutOfMemory),
-    }
-}
-
-/// Whether the line is the one that is written of that edit.
-pub(crate) fn is_edit(alloc: Global, edit: &Edit, line: &[u8]) -> Result<bool, OutOfMemory>
-    ensures spelled { IfOk result (λ same. IsTrue same ↔ (line_text (edit_words edit.now) ≡ line.now ++ codes "\n")) }
-    ensures lawful { OnOk result (IsEdit edit.now) }
-{
-    let mut sink = Spout::new(Vec::new(alloc));
-    match put_edit(&mut sink, edit) {
+    match value.put_into(&mut sink) {
         Ok(()) => Ok(is_whole(sink.into_inner().as_slice(), line)),
         Err(_) => Err(OutOfMemory),
     }

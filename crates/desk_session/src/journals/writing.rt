@@ -1,12 +1,11 @@
-ghost use Rattle.std.specs.Prelude.{◌≡◌, ◌≤◌, ◌++◌, length, codes, All, OnOk, OnErr, is_err, ◌||◌};
-ghost use Rattle.std.specs.List.{flat_map};
+ghost use Rattle.std.specs.Prelude.{◌≡◌, ◌≤◌, ◌++◌, length, codes, OnOk, OnErr, is_err, ◌||◌};
 ghost use Rattle.std.specs.Io.KnownBytes.{Appends};
 ghost use Rattle.desk_report.specs.Bytes.{AppendsFront};
 ghost use Rattle.desk_report.specs.LineText.{line_text};
-ghost use Rattle.desk_session.specs.JournalText.Ranges.{IsEntry, IsJournal};
-ghost use Rattle.desk_session.specs.JournalText.Lines.{version_words, mode_words, entry_lines, text_of, journal_text};
+ghost use Rattle.desk_session.specs.JournalText.Ranges.{IsJournal};
+ghost use Rattle.desk_session.specs.JournalText.Lines.{version_words, mode_words, journal_text};
 
-use crate::journals::entries::put_entry;
+use crate::journals::written::put_each;
 use desk_core::{Commit, MOST_ENTRIES};
 use desk_report::{Sink, Word, WriteFailed, put_line};
 use plan_table::Mode;
@@ -34,20 +33,6 @@ fn put_heading<W: Sink>(sink: &mut W, mode: Mode) -> Result<(), WriteFailed>
     put_mode(sink, mode)
 }
 
-// The lines of the entries.
-#[tactic(auto, using(desk_report::proofs::Fronts::fronts))]
-fn put_entries<W: Sink>(sink: &mut W, commits: &[Commit]) -> Result<(), WriteFailed>
-    ensures ok { OnOk result (Appends (W.held sink.old) (W.held sink.new) (flat_map (λ entry. text_of (entry_lines entry)) commits.now)) }
-    ensures err { OnErr result (AppendsFront (W.held sink.old) (W.held sink.new) (flat_map (λ entry. text_of (entry_lines entry)) commits.now)) }
-    ensures broken { W.broken sink.new ≡ (W.broken sink.old || is_err result) }
-    ensures lawful { OnOk result (All IsEntry commits.now) }
-{
-    for commit in commits {
-        put_entry(sink, commit)?;
-    }
-    Ok(())
-}
-
 /// Writes the journal of those commits, made on a scene in that mode, as text of version 2. It
 /// takes no memory. Where the sink fails, or takes no byte, a prefix of the text went out.
 #[tactic(auto, using(desk_report::proofs::Fronts::fronts))]
@@ -63,6 +48,6 @@ pub fn write_journal<W: Sink>(
     ensures lawful { OnOk result (IsJournal (record { mode = mode; entries = commits.now })) }
 {
     put_heading(sink, mode)?;
-    put_entries(sink, commits)?;
+    put_each(sink, commits)?;
     put_line(sink, b"end", &[Word::Number(commits.len() as u64)])
 }

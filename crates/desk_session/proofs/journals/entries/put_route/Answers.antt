@@ -15,17 +15,17 @@ returns-in_err-put_more-clause-err g c =
     rw (route-line word_text cell_text c.args.name.now c.args.words.now c.args.cells.now)
     (err-of c.from_residual-in_err-put_more.result (front-more _ _ _ _ (front-more _ _ _ _ (front-after _ _ _ _ _ c.in_ok-put_all.ensures.ok c.in_err-put_more.ensures.err))))
 
-pub returns-in_err-put_cells-clause-err : goal.returns-in_err-put_cells-clause-err
-returns-in_err-put_cells-clause-err g c =
+pub returns-in_err-put_each-clause-err : goal.returns-in_err-put_each-clause-err
+returns-in_err-put_each-clause-err g c =
     rw (route-line word_text cell_text c.args.name.now c.args.words.now c.args.cells.now)
-    (err-of c.from_residual-in_err-put_cells.result (front-more _ _ _ _ (front-after _ _ _ _ _ (Appends-trans _ _ _ _ _ c.in_ok-put_all.ensures.ok c.in_ok-put_more.ensures.ok) c.in_err-put_cells.ensures.err)))
+    (err-of c.from_residual-in_err-put_each.result (front-more _ _ _ _ (front-after _ _ _ _ _ (Appends-trans _ _ _ _ _ c.in_ok-put_all.ensures.ok c.in_ok-put_more.ensures.ok) c.in_err-put_each.ensures.err)))
 
 pub returns-clause-ok : goal.returns-clause-ok
 returns-clause-ok g c =
     rw (route-line word_text cell_text c.args.name.now c.args.words.now c.args.cells.now)
-    (ok-after _ _ _ _ _ _ (Appends-trans _ _ _ _ _ (Appends-trans _ _ _ _ _ c.in_ok-put_all.ensures.ok c.in_ok-put_more.ensures.ok) c.in_ok-put_cells.ensures.ok) c.put_all-2.ensures.ok)
+    (ok-after _ _ _ _ _ _ (Appends-trans _ _ _ _ _ (Appends-trans _ _ _ _ _ c.in_ok-put_all.ensures.ok c.in_ok-put_more.ensures.ok) c.in_ok-put_each.ensures.ok) c.put_all-2.ensures.ok)
 
 pub returns-clause-err : goal.returns-clause-err
 returns-clause-err g c =
     rw (route-line word_text cell_text c.args.name.now c.args.words.now c.args.cells.now)
-    (err-after _ _ _ _ _ _ (Appends-trans _ _ _ _ _ (Appends-trans _ _ _ _ _ c.in_ok-put_all.ensures.ok c.in_ok-put_more.ensures.ok) c.in_ok-put_cells.ensures.ok) c.put_all-2.ensures.err)
+    (err-after _ _ _ _ _ _ (Appends-trans _ _ _ _ _ (Appends-trans _ _ _ _ _ c.in_ok-put_all.ensures.ok c.in_ok-put_more.ensures.ok) c.in_ok-put_each.ensures.ok) c.put_all-2.ensures.err)

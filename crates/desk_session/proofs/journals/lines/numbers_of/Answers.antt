@@ -25,10 +25,10 @@ returns c = λ head lawful same.
     let all = sym (c.in_ok-planner.ensures).2 ∙ same in
     let planner = c.planner_of.ensures head.planner lawful.planner_most (ap (λ (ws : List (List ℕ)). word_at ws 1) all) in
     let base = c.base_of.ensures head.base lawful.base_most (ap (λ (ws : List (List ℕ)). word_at ws 2) all) in
-    let watches = c.count_of.ensures head.watches (omega (arith, lawful.watches_most)) (ap (λ (ws : List (List ℕ)). word_at ws 3) all) in
-    let edits = c.count_of-2.ensures head.edits (omega (arith, lawful.edits_most)) (ap (λ (ws : List (List ℕ)). word_at ws 4) all) in
+    let watches = c.small_of.ensures head.watches (omega (arith, lawful.watches_most)) (ap (λ (ws : List (List ℕ)). word_at ws 3) all) in
+    let edits = c.small_of-2.ensures head.edits (omega (arith, lawful.edits_most)) (ap (λ (ws : List (List ℕ)). word_at ws 4) all) in
     let a = c.in_ok-planner_of.was in
     let b = c.in_ok-base_of.was in
-    let d = c.in_ok-count_of.was in
-    let e = c.in_ok-count_of-2.was in
+    let d = c.in_ok-small_of.was in
+    let e = c.in_ok-small_of-2.was in
     head-is head _ _ _ _ (cc) (cc) (cc) (cc)

@@ -6,14 +6,14 @@ pub returns-in_err-put_heading-clause-err : goal.returns-in_err-put_heading-clau
 returns-in_err-put_heading-clause-err g c =
     rw (text-journal c.args.mode c.args.commits.now) (err-of c.from_residual.result (front-more _ _ _ _ c.in_err-put_heading.ensures.err))
 
-pub returns-in_err-put_entries-clause-err : goal.returns-in_err-put_entries-clause-err
-returns-in_err-put_entries-clause-err g c =
-    rw (text-journal c.args.mode c.args.commits.now) (err-of c.from_residual-in_err-put_entries.result (front-after _ _ _ _ _ c.in_ok-put_heading.ensures.ok (front-more _ _ _ _ c.in_err-put_entries.ensures.err)))
+pub returns-in_err-put_each-clause-err : goal.returns-in_err-put_each-clause-err
+returns-in_err-put_each-clause-err g c =
+    rw (text-journal c.args.mode c.args.commits.now) (err-of c.from_residual-in_err-put_each.result (front-after _ _ _ _ _ c.in_ok-put_heading.ensures.ok (front-more _ _ _ _ c.in_err-put_each.ensures.err)))
 
 pub returns-clause-ok : goal.returns-clause-ok
 returns-clause-ok g c =
-    rw (text-journal c.args.mode c.args.commits.now) (ok-after _ _ _ _ _ _ c.in_ok-put_heading.ensures.ok (ok-after _ _ _ _ _ _ c.in_ok-put_entries.ensures.ok c.put_line.ensures.ok))
+    rw (text-journal c.args.mode c.args.commits.now) (ok-after _ _ _ _ _ _ c.in_ok-put_heading.ensures.ok (ok-after _ _ _ _ _ _ c.in_ok-put_each.ensures.ok c.put_line.ensures.ok))
 
 pub returns-clause-err : goal.returns-clause-err
 returns-clause-err g c =
-    rw (text-journal c.args.mode c.args.commits.now) (err-after _ _ _ _ _ _ c.in_ok-put_heading.ensures.ok (err-after _ _ _ _ _ _ c.in_ok-put_entries.ensures.ok c.put_line.ensures.err))
+    rw (text-journal c.args.mode c.args.commits.now) (err-after _ _ _ _ _ _ c.in_ok-put_heading.ensures.ok (err-after _ _ _ _ _ _ c.in_ok-put_each.ensures.ok c.put_line.ensures.err))
