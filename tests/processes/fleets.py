@@ -6,9 +6,8 @@ its counts follow from that report by a few lines of Python.
 import random
 
 from .memory import MEGA, room_of
+from .plain import ASKED
 from .running import Wrong, is_fault, processor_time, put, remove, run, second, want
-
-KINDS = {"vertex": ("vertex", "parked"), "edge": ("edge",), "follow": ("follow",), "swap": ("swap",), "cycle": ("cycle",)}
 
 
 class Fleet:
@@ -58,15 +57,15 @@ def counts(report):
     """The report without the lines of agents, conflicts and visits, and with a count of each kind."""
     lines = report.splitlines()
     heads = [it.split()[0] for it in lines]
-    kinds = [f"{kind} {sum(heads.count(it) for it in names)}" for kind, names in KINDS.items()]
-    dropped = {"agent", "visit", *(it for names in KINDS.values() for it in names)}
+    kinds = [f"{kind} {sum(heads.count(it) for it in names)}" for kind, names in ASKED.items()]
+    dropped = {"agent", "visit", *(it for names in ASKED.values() for it in names)}
     kept = [it for it, head in zip(lines, heads) if head not in dropped]
     return "\n".join([*kept[:3], *kinds, *kept[3:]]) + "\n"
 
 
 def verdict(report, kinds):
     lines = [it.split() for it in report.splitlines()]
-    wrong = {it for kind in kinds for it in KINDS[kind]}
+    wrong = {it for kind in kinds for it in ASKED[kind]}
     good = all(it[0] != "agent" or it[5] == "yes" for it in lines) and ["blocked", "0"] in lines
     return "yes" if good and not any(it[0] in wrong for it in lines) else "no"
 
@@ -76,7 +75,7 @@ def round_trip():
     chance, seen = random.Random(7), set()
     for _ in range(40):
         fleet, mode = Fleet(chance), chance.choice(["stay", "disappear"])
-        kinds = [chance.choice(list(KINDS)) for _ in range(chance.randint(1, 5))]
+        kinds = [chance.choice(list(ASKED)) for _ in range(chance.randint(1, 5))]
         put("trip_map", fleet.map.encode()), put("trip_scen", fleet.scen().encode()), put("trip_journal", fleet.journal(mode).encode())
         status, audited, _ = run(["audit", "--map", "trip_map", "--journal", "trip_journal", "--mode", mode])
         want("the audit", (status, audited[:10]), (0, "version 1\n"))

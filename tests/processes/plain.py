@@ -6,6 +6,8 @@ from itertools import combinations, permutations
 
 MOST_AGENTS, MOST_CELLS = 8192, 131072
 KINDS = ("vertex", "parked", "edge", "follow", "swap", "cycle")
+# The kinds that a word of `solves` asks for.
+ASKED = {"vertex": ("vertex", "parked"), "edge": ("edge",), "follow": ("follow",), "swap": ("swap",), "cycle": ("cycle",)}
 
 
 def shown(cell):
