@@ -76,7 +76,7 @@ def maps_by_their_texts():
         is_refused(text, ["--map"], f"map: {why}")
 
 
-def fronts_of_a_map():
+def prefixes_of_a_map():
     """Each front is refused for that, or is the whole map."""
     want("the bytes", len(LETTERS), FRONTS[-1][0])
     for end in range(len(LETTERS) + 1):
@@ -103,5 +103,5 @@ def tidied(test):
 
 
 def tests():
-    for test in (maps_by_their_texts, fronts_of_a_map, scenarios_by_their_texts):
+    for test in (maps_by_their_texts, prefixes_of_a_map, scenarios_by_their_texts):
         yield test.__name__, lambda test=test: tidied(test)
