@@ -2,7 +2,7 @@
 use super::build::size_of;
 use super::grids::is_open_at;
 use super::trials::Trial;
-use bench_reader::{MapFault, one_map_answer, read_map, write_map};
+use bench_reader::{MapFault, read_map, write_map};
 use grid_cells::{Grid, OutOfMemory};
 use std::alloc::Global;
 use std::process::Abort;
@@ -104,5 +104,4 @@ fn faults_without_memory(rt: HostRuntime) {
     assert!(rt; read_map(alloc, LETTERS).err() == Some(MapFault::OutOfMemory));
     trial.relieve();
     assert!(rt; read_map(alloc, LETTERS).is_ok());
-    one_map_answer();
 }

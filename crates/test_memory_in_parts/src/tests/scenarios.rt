@@ -2,7 +2,7 @@
 use super::build::size_of;
 use super::tasks::scene_of;
 use super::trials::Trial;
-use bench_reader::{ScenFault, Task, one_scen_answer, read_scen};
+use bench_reader::{ScenFault, Task, read_scen};
 use grid_cells::{List, OutOfMemory};
 use std::alloc::Global;
 use std::process::Abort;
@@ -109,5 +109,4 @@ fn faults_without_memory(rt: HostRuntime) {
         assert!(rt; found == Some(fault) || found == Some(ScenFault::OutOfMemory));
         assert!(rt; read_scen(alloc, text, size).err() == Some(fault));
     }
-    one_scen_answer();
 }

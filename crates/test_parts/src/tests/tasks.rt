@@ -1,5 +1,5 @@
-//! Scenes of tasks, refused.
-use bench_reader::Task;
+//! Scenes of tasks, refused; texts have one answer each.
+use bench_reader::{Task, one_map_answer, one_scen_answer};
 use grid_cells::{Cell, Grid};
 use scene_edits::{Scene, TaskFault};
 use std::alloc::Global;
@@ -35,4 +35,10 @@ fn faults_of_tasks(rt: HostRuntime) {
         let tasks = tasks.get(..have).expect(&rt, "tasks");
         assert!(rt; refused(&rt, alloc, grid, tasks, many) == fault);
     }
+}
+
+#[test]
+fn one_answer_a_text(_rt: HostRuntime) {
+    one_map_answer();
+    one_scen_answer();
 }
