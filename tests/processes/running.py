@@ -28,6 +28,7 @@ class Program:
     """The program that is tried: what `rt ci` or `./desk --prove` built, where no other is named."""
 
     path = f"{TOP}/crates/mapf_desk/out/mapf_desk"
+    readings = f"{TOP}/crates/demo_texts/out/demo_texts"  # the program that tells what texts are read as
 
 
 class Wrong(Exception):

@@ -1,5 +1,5 @@
 //! What tests of several crates share: values written as text, sources that fail or count their calls,
-//! gates, reports' texts, numbers that look like chance, and texts after edits of that kind.
+//! gates, reports' texts, and numbers that look like chance.
 #![tactic(auto)]
 
 mod chance;
@@ -8,16 +8,14 @@ mod places;
 mod reports;
 mod sessions;
 mod streams;
-mod texts;
 mod tracks;
 mod values;
 
 pub use chance::Chain;
 pub use gates::{Meeting, Turnstile};
-pub use places::{are_at, cells_at, is_list};
+pub use places::{are_at, cells_at};
 pub use reports::{KINDS, conflicts_alone, text_of};
 pub use sessions::{GATHERED_COMMIT, Line};
 pub use streams::{Repeated, Torn};
-pub use texts::{edited, number};
 pub use tracks::{since, stays};
 pub use values::{cells, edit, edits, open_grid, plan, row, scene, thing};

@@ -1,7 +1,4 @@
-mod buckets;
 mod journals;
 mod readers;
 mod samples;
-mod told_paths;
-mod upgrades;
 mod wants;

@@ -1,4 +1,4 @@
-//! Journals, their texts, and the bytes of edits.
+//! Journals and their texts.
 use desk_core::{Commit, Edit, Thing};
 use desk_session::Journal;
 use grid_cells::{Agent, Cell, List, Planner, Step};
@@ -6,9 +6,6 @@ use plan_table::Mode;
 use std::alloc::Global;
 use std::process::Abort;
 use test_support::cells_at;
-
-/// What edits put in most often: the bytes that the grammars are made of.
-pub const LIKELY: &[u8] = b" \t\r\n,#-.@Gxey0123456789";
 
 /// One entry, in both versions: planner 1 moves agent 3 from (0,0) to (1,0).
 pub const FIRST: &str = "journal 1\nentry 1 0 0 1\npath 3 0,0 1,0\nend 1\n";
