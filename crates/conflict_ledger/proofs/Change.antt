@@ -17,7 +17,7 @@ use Rattle.mapf_rules.specs.Naming.{Names, IsPair, time_of}
 use Rattle.conflict_ledger.specs.Gathering.{IsMet}
 use Rattle.conflict_ledger.specs.declared.places.Place.TheVariants.{Beside, Ahead, Behind}
 use Rattle.conflict_ledger.specs.Change.{SameBut, RingsAfterArrival}
-use Rattle.mapf_rules.proofs.RoundTrips.{after_within}
+use Rattle.mapf_rules.proofs.RingOrder.{after_within}
 
 -- an agent is at the same places in both fleets in the step that begins at the time, and goes on after it in both, or ends alike
 pub record IsAlike (old new : Fleet) (time a : ℕ) : Type 0 where

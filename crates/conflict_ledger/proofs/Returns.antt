@@ -19,7 +19,7 @@ use Rattle.where_index.specs.Asked.{Goes}
 use Rattle.where_index.specs.Index.{Contents}
 use Rattle.mapf_rules.specs.Cycles.{IsRing}
 use Rattle.conflict_ledger.specs.Sight.{Shows, own_place}
-use Rattle.mapf_rules.proofs.RoundTrips.{after_within, after_inside, after_end, all_round, one_to}
+use Rattle.mapf_rules.proofs.RingOrder.{after_within, after_inside, after_end, all_round, one_to}
 use Rattle.mapf_rules.proofs.Walks.{same_or_not}
 
 -- ---- round a ring, what holds of each step holds of the steps back

@@ -28,7 +28,7 @@ use Rattle.conflict_ledger.specs.Kept.{GainsAll, LosesAll}
 use Rattle.mapf_rules.specs.declared.entries.Conflict.{Conflict}
 use Rattle.mapf_rules.specs.declared.entries.Conflict.TheVariants.{Vertex, Following, Cycle}
 use Rattle.conflict_ledger.proofs.Change.{there, ends, pairs_after_change, rings_after_arrival}
-use Rattle.mapf_rules.proofs.RoundTrips.{ring_next, one_to}
+use Rattle.mapf_rules.proofs.RingOrder.{ring_next, one_to}
 use Rattle.conflict_ledger.proofs.MoverIn.{early_mover}
 use Rattle.mapf_rules.proofs.Walks.{same_or_not}
 use Rattle.std.proofs.lemmas.Bool.{cases_lt}

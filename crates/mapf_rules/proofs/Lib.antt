@@ -3,6 +3,8 @@ pub mod Copies
 pub mod Live
 pub mod Adds
 pub mod LawsHold
+pub mod RingOrder
+pub mod Distinct
 pub mod RoundTrips
 pub mod Sets
 pub mod Walks

@@ -6,7 +6,7 @@ use Rattle.mapf_rules.specs.ConflictList.{Stands}
 use Rattle.mapf_rules.specs.Naming.{IsOfPair, time_of, first_agent}
 use Rattle.mapf_rules.specs.declared.entries.Conflict.{Conflict}
 use Rattle.mapf_rules.specs.declared.entries.Conflict.TheVariants.{Cycle}
-use Rattle.mapf_rules.proofs.RoundTrips.{ring_live, ring_early}
+use Rattle.mapf_rules.proofs.RingOrder.{ring_live, ring_early}
 
 pub stands_live : (fleet : Fleet) (entry : Conflict) (time first second : ℕ) → Stands fleet entry → IsOfPair entry time first second → IsSome (fleet first) × IsSome (fleet second)
 stands_live fleet entry time first second stands of = grind arith

@@ -10,7 +10,8 @@ use Rattle.plan_table.specs.Route.{Fleet}
 use Rattle.mapf_rules.specs.Cycles.{IsRing}
 use Rattle.mapf_rules.specs.RingWalk.{IsSoleMover, MovesTo, IsNext, IsWalked}
 use Rattle.mapf_rules.proofs.Sets.{push_iff}
-use Rattle.mapf_rules.proofs.RoundTrips.{distinct_more, IsNext-unique, next_of_sole, sole_of_next, round_to_least, next_in_ring, one_before, has_next}
+use Rattle.mapf_rules.proofs.RingOrder.{IsNext-unique, next_of_sole, sole_of_next, round_to_least, next_in_ring, one_before, has_next}
+use Rattle.mapf_rules.proofs.Distinct.{distinct_more}
 
 pub same_or_not : (a b : ℕ) → (a ≡ b) ⊎ (a ≢ b)
 same_or_not a b = grind arith

@@ -18,7 +18,7 @@ use Rattle.where_index.specs.Flows.{leads, goes, flow, HasFlows}
 use Rattle.where_index.specs.Index.{all_of}
 use Rattle.where_index.specs.Asked.{Goes}
 use Rattle.where_index.proofs.Counts.{many-some, many-has}
-use Rattle.where_index.proofs.Positions.{hop_of, of_hop, hop_leg, leg_hop}
+use Rattle.where_index.proofs.Moving.{hop_of, of_hop, hop_leg, leg_hop}
 
 some_hop : (way : Way) (o : Option Hop) → goes way o ≡ true → (hop : Hop) × (o ≡ Some hop) × (leads way hop.from hop.to ≡ true)
 some_hop way None e = absurd (false≢true e)

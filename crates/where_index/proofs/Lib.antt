@@ -8,8 +8,10 @@ pub mod Crowding
 pub mod Counts
 pub mod Flowing
 pub mod Standing
+pub mod Moving
 pub mod Positions
 pub mod Going
 pub mod Gathered
 pub mod FixedFleet
+pub mod Listing
 pub mod Counting

@@ -1,5 +1,5 @@
 -- Where an agent is, by its records.
-use Rattle.std.proofs.Common.{◌≡◌, ◌≢◌, ◌⊎◌, inl, inr, ℕ, ◌+◌, min, ◌<◌, ◌≤◌, List, length, slice_get, Contains, Option, Some, None, Bool, true, false, cond, IsTrue, refl, sym, ap, ◌∙◌, subst, arith}
+use Rattle.std.proofs.Common.{◌≡◌, ◌⊎◌, inl, inr, ℕ, ◌+◌, min, ◌<◌, ◌≤◌, List, length, slice_get, Contains, Option, Some, None, Bool, true, false, IsTrue, refl, ap, subst, arith}
 use mathlib.Core.Logic.{◌↔◌}
 use Rattle.std.specs.Option.{option_and_then, option_map, unwrap_or, IsSome}
 use Rattle.std.proofs.lemmas.Bool.Decides.{nat_tests}
@@ -11,21 +11,16 @@ use Rattle.where_index.specs.declared.spot_sets.Spot.{Spot}
 use Rattle.where_index.specs.Spots.{AreFrom, AreRising, spot, HasAt}
 use Rattle.where_index.specs.ByCell.{ByCell, spots_at}
 use Rattle.where_index.specs.Shown.{HasAgentBy, HasPassing}
-use Rattle.where_index.specs.Records.{route, stand_at, tail_at, hop_at, hop_between, hop, leg_between, leg_at, rest_at, same_point}
+use Rattle.where_index.specs.Records.{route, stand_at, tail_at, hop_at, hop, leg_between, leg_at, rest_at}
 use Rattle.where_index.specs.Changes.{HasSpots}
 use Rattle.where_index.specs.declared.trails.Hop.{Hop}
-use Rattle.where_index.specs.declared.moves.Move.{Move}
 use Rattle.where_index.specs.declared.passings.Passing.{Passing}
 use Rattle.where_index.specs.declared.ends.End.{End}
 use Rattle.where_index.specs.declared.occupants.Occupants.{Occupants}
-use Rattle.where_index.specs.Crowds.{Moves}
 use Rattle.where_index.specs.Ends.{IsEndOf}
-use Rattle.where_index.specs.Asked.{MovesFrom, Passes, AreOccupants}
+use Rattle.where_index.specs.Asked.{Passes, AreOccupants}
 use Rattle.where_index.specs.Index.{all_of}
-use Rattle.where_index.proofs.Standing.{early_stand}
-
-guarded : (b : Bool) (o : Option Point) (cell : Point) → cond b o None ≡ Some cell → (b ≡ true) × (o ≡ Some cell)
-guarded b o cell e = grind arith
+use Rattle.where_index.proofs.Moving.{leg_cell, hop_of, leg_hop}
 
 from_stand : (path : List Point) (leaves : Bool) (t : ℕ) (cell : Point) → stand_at (route path leaves) t ≡ Some cell → position (route path leaves) t ≡ Some cell
 from_stand path leaves t cell e = grind (arith, nat_tests, slice_get_within path t cell)
@@ -57,9 +52,6 @@ module _ (t : ℕ) (cell : Point) where
 -- ---- what spots show of the cells of agents
 abbrev pub ShowCells : ByCell → (ℕ → ℕ → Option Point) → Type 0
 ShowCells sets f = ((cell : Point) (s : Spot) → Contains (spots_at sets cell) s → f s.step.agent s.time ≡ Some cell) × ((cell : Point) (time agent : ℕ) → f agent time ≡ Some cell → HasAt (spots_at sets cell) time agent)
-
-leg_cell : (o : Option Point) (move : Option Hop) (a b : Point) → leg_between o move ≡ Some (hop a b) → o ≡ Some a
-leg_cell o move a b e = grind arith
 
 some_leg : (o : Option Point) (move : Option Hop) (a : Point) → o ≡ Some a → (b : Point) × (leg_between o move ≡ Some (hop a b))
 some_leg o None a e = (a, ap (λ p. leg_between p None) e)
@@ -179,64 +171,6 @@ is_rest stands tails fleet cell agent time end has_s has_r is not_standing at = 
 
 pub is_standing : (stands : ByCell) (fleet : Fleet) (cell : Point) (agent time : ℕ) → ShowCells stands (all_of stand_at fleet) → HasAt (spots_at stands cell) time agent → position_of fleet agent time ≡ Some cell
 is_standing stands fleet cell agent time has_s there = stands_is time cell (fleet agent) (has_s.0 cell (spot time agent there.0) there.1)
-
--- ---- a record Move is a move out of a cell
-hop_cases : (o p : Option Point) (h : Hop) → hop_between o p ≡ Some h → (o ≡ Some h.from) × (p ≡ Some h.to) × (same_point h.from h.to ≡ false)
-hop_cases o p h is = grind (arith, nat_tests)
-
-pub hop_moves : (path : List Point) (leaves : Bool) (t : ℕ) (h : Hop) → hop_at path t ≡ Some h → (position (route path leaves) t ≡ Some h.from) × (position (route path leaves) (t + 1) ≡ Some h.to) × (h.from ≢ h.to)
-hop_moves path leaves t h is = grind (arith, nat_tests, hop_cases (slice_get path t) (slice_get path (t + 1)) h is, slice_get_within path (t + 1) h.to)
-
-pub points_one : (a b : Point) → same_point a b ≡ true → a ≡ b
-points_one a b is = grind (arith, nat_tests)
-
-other_points : (a b : Point) (v : Bool) → same_point a b ≡ v → (a ≢ b) → v ≡ false
-other_points a b v e apart = grind (arith, nat_tests)
-
--- a move out of a cell is a record Move
-pub moves_hop : (path : List Point) (leaves : Bool) (t : ℕ) (from to : Point) → position (route path leaves) t ≡ Some from → position (route path leaves) (t + 1) ≡ Some to → from ≢ to → hop_at path t ≡ Some (record { from = from; to = to })
-moves_hop path leaves t from to starts arrives apart = grind (arith, nat_tests, other_points from to (same_point from to) refl apart)
-
--- ---- the moves of a fleet
-pub hop_of : (o : Option Route) (t : ℕ) (h : Hop) → option_and_then (λ r. hop_at r.path t) o ≡ Some h → (option_and_then (λ r. position r t) o ≡ Some h.from) × (option_and_then (λ r. position r (t + 1)) o ≡ Some h.to) × (h.from ≢ h.to)
-hop_of None t h is = absurd (cc)
-hop_of (Some r) t h is = hop_moves r.path r.leaves t h is
-
-pub of_hop : (o : Option Route) (t : ℕ) (from to : Point) → option_and_then (λ r. position r t) o ≡ Some from → option_and_then (λ r. position r (t + 1)) o ≡ Some to → from ≢ to → option_and_then (λ r. hop_at r.path t) o ≡ Some (record { from = from; to = to })
-of_hop o t from to starts arrives apart = grind (arith, moves_hop)
-
--- ---- a step to another cell is a move
-pub hop_leg : (o : Option Route) (t : ℕ) (h : Hop) → option_and_then (λ r. hop_at r.path t) o ≡ Some h → option_and_then (λ r. leg_at r t) o ≡ Some h
-hop_leg None t h is = absurd (cc)
-hop_leg (Some r) t h is =
-    let parts = hop_cases (slice_get r.path t) (slice_get r.path (t + 1)) h is in
-    let within = slice_get_within r.path (t + 1) h.to parts.1 in
-    let stands : stand_at r t ≡ Some h.from = early_stand r t within ∙ parts.0 in
-    ap (λ o. leg_between o (hop_at r.path t)) stands ∙ ap (λ o. leg_between (Some h.from) o) is
-
-pub leg_hop : (o : Option Route) (t : ℕ) (a b : Point) → a ≢ b → option_and_then (λ r. leg_at r t) o ≡ Some (hop a b) → option_and_then (λ r. hop_at r.path t) o ≡ Some (hop a b)
-leg_hop None t a b apart is = absurd (cc)
-leg_hop (Some r) t a b apart is = go (hop_at r.path t) refl where
-  stands : stand_at r t ≡ Some a
-  stands = leg_cell (stand_at r t) (hop_at r.path t) a b is
-
-  go : (move : Option Hop) → hop_at r.path t ≡ move → hop_at r.path t ≡ Some (hop a b)
-  go None e =
-      let waits : Some (hop a a) ≡ Some (hop a b) = sym (ap (λ o. leg_between o None) stands) ∙ (sym (ap (λ o. leg_between (stand_at r t) o) e) ∙ is) in
-      let one : hop a a ≡ hop a b = cc in
-      absurd (apart (ap (λ (h : Hop). h.to) one))
-  go (Some m) e =
-      let goes : Some (hop a m.to) ≡ Some (hop a b) = sym (ap (λ o. leg_between o (Some m)) stands) ∙ (sym (ap (λ o. leg_between (stand_at r t) o) e) ∙ is) in
-      let one : hop a m.to ≡ hop a b = cc in
-      let from : Some m.from ≡ Some a = sym (hop_cases (slice_get r.path t) (slice_get r.path (t + 1)) m e).0 ∙ (guarded _ _ _ stands).1 in
-      let start : m.from ≡ a = cc in
-      e ∙ λ i. Some (record { from = start i; to = (one i).to })
-
-pub movers_exact : (fleet : Fleet) (cell : Point) (time : ℕ) (m : Move) → Moves (all_of leg_at fleet) cell time m ↔ MovesFrom fleet time cell m
-movers_exact fleet cell time m = (
-  (λ h. let parts = hop_of (fleet m.agent) time (hop cell m.to) (leg_hop (fleet m.agent) time cell m.to h.1 h.0) in record { starts = parts.0; arrives = parts.1; moves = parts.2 }),
-  (λ h. (hop_leg (fleet m.agent) time (hop cell m.to) (of_hop (fleet m.agent) time cell m.to h.starts h.arrives h.moves), h.moves)),
-)
 
 pub occupants_exact : (stands tails : ByCell) (fleet : Fleet) (cell : Point) (from : ℕ) → HasSpots stands (all_of leg_at fleet) → HasSpots tails (all_of rest_at fleet) → (found : Occupants) → AreFrom (spots_at stands cell) from found.stands → AreRising found.stands → AreFrom (spots_at tails cell) 0 found.tails → AreRising found.tails → AreOccupants fleet cell from found
 occupants_exact stands tails fleet cell from legs rests found b1 rise1 b2 rise2 = record {

@@ -2,7 +2,7 @@ use Rattle.std.proofs.Common.{◌≢◌, ◌+◌, inl, inr, Contains, refl, sym,
 use mathlib.Core.Bool.{false≢true}
 use Rattle.std.proofs.lemmas.Bool.{eqb-true, eq-eqb}
 use Rattle.grid_cells.specs.declared.numbers.TheConstants.{MOST_AGENT}
-use Rattle.mapf_rules.proofs.RoundTrips.{distinct_below}
+use Rattle.mapf_rules.proofs.Distinct.{distinct_below}
 use Rattle.mapf_rules.proofs.Walks.{goes_on, no_ring_seen, least_found, round_begins, round_on}
 use Rattle.mapf_rules.proofs.rings.least_round.Goals as goal
 

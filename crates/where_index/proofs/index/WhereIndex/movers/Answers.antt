@@ -8,7 +8,7 @@ use Rattle.where_index.specs.declared.moves.Move.{Move}
 use Rattle.where_index.specs.Moves.{AreByAgent}
 use Rattle.where_index.specs.Records.{leg_at}
 use Rattle.where_index.specs.Index.{all_of}
-use Rattle.where_index.proofs.Positions.{movers_exact}
+use Rattle.where_index.proofs.Moving.{movers_exact}
 use Rattle.where_index.proofs.index.WhereIndex.movers.Goals as goal
 
 less : (a b : ℕ) → a < b → nat_cmp a b ≡ Less
