@@ -13,7 +13,8 @@ use Rattle.mapf_rules.specs.Entries.{both_end_by, IsVertex, IsParked, IsFollowin
 use Rattle.mapf_rules.specs.ConflictList.{Stands}
 use Rattle.mapf_rules.specs.Naming.{IsPair, Names, time_of}
 use Rattle.conflict_ledger.specs.Sight.{Shows}
-use Rattle.conflict_ledger.specs.Gathering.{IsPassed, HasPlace, HasTime, IsLateOf}
+use Rattle.conflict_ledger.specs.Gathering.{HasPlace, HasTime}
+use Rattle.conflict_ledger.specs.Late.{IsPassed, IsLateOf}
 use Rattle.conflict_ledger.specs.declared.places.Place.TheVariants.{Ahead}
 use Rattle.conflict_ledger.proofs.Change.{there}
 use Rattle.mapf_rules.specs.declared.entries.Conflict.{Conflict}

@@ -11,4 +11,5 @@ pub mod MoverIn
 pub mod LeftRings
 pub mod Beside
 pub mod Turning
+pub mod Mending
 pub mod KindOrder

@@ -9,7 +9,8 @@ use Rattle.grid_cells.specs.Cell.{Point}
 use Rattle.plan_table.specs.Route.{Fleet, position_of, last_of, Leaves}
 use Rattle.mapf_rules.specs.Entries.{OnePasses, IsVertex, IsParked, IsEdge, IsFollowing, IsSwapping}
 use Rattle.mapf_rules.specs.Naming.{Names, time_of}
-use Rattle.conflict_ledger.specs.Gathering.{IsAgents, IsWhere, IsMet, AreTogether}
+use Rattle.conflict_ledger.specs.Gathering.{IsAgents, IsMet}
+use Rattle.conflict_ledger.specs.Sight.{IsWhere, AreTogether}
 use Rattle.conflict_ledger.specs.declared.places.Place.TheVariants.{Beside, Ahead, Behind}
 use Rattle.mapf_rules.specs.declared.entries.Conflict.{Conflict}
 use Rattle.mapf_rules.specs.declared.entries.Conflict.TheVariants.{Vertex, Parked, Edge, Following, Swapping}

@@ -1,26 +1,20 @@
 -- A ring goes all four ways.
-use Rattle.std.proofs.Common.{◌≡◌, ◌≢◌, ◌⊎◌, inl, inr, ℕ, zero, suc, ◌+◌, ◌<◌, ◌≤◌, ◌%◌, Bool, true, false, List, length, Option, Some, None, refl, sym, ap, subst, ◌∙◌, arith}
+use Rattle.std.proofs.Common.{◌≡◌, ◌≢◌, ◌⊎◌, inl, inr, ℕ, zero, suc, ◌+◌, ◌<◌, ◌≤◌, ◌%◌, Bool, true, false, List, length, Option, Some, refl, sym, ap, ◌∙◌, arith}
 use mathlib.Core.Bool.{false≢true}
-use Rattle.std.specs.Prelude.{slice_index, slice_get, min, IfSome}
-use Rattle.std.specs.Option.{unwrap_or, option_map, option_and_then}
-use Rattle.std.proofs.lemmas.Option.{get_or_from_slice_get, same_Some}
+use Rattle.std.specs.Prelude.{slice_index}
+use Rattle.std.specs.Option.{unwrap_or}
 use Rattle.std.proofs.lemmas.Bool.Decides.{nat_tests}
 use Rattle.std.proofs.lemmas.List.Elements.{Contains-get_or}
 use Rattle.grid_cells.specs.Cell.{Point, point, IsStep}
-use Rattle.plan_table.specs.Path.{IsPath, last_index, place}
-use Rattle.plan_table.specs.declared.tracks.Track.{Track}
-use Rattle.plan_table.specs.Route.{Route, Fleet, position, position_of, route_of}
+use Rattle.plan_table.specs.Route.{Fleet, position_of}
 use Rattle.where_index.specs.declared.ways.Way.{Way}
 use Rattle.where_index.specs.declared.ways.Way.TheVariants.{Up, Left, Right, Down}
 use Rattle.where_index.specs.Flows.{leads}
-use Rattle.where_index.specs.declared.ends.End.{End}
-use Rattle.where_index.specs.Ends.{IsEndOf}
 use Rattle.where_index.specs.Asked.{Goes}
-use Rattle.where_index.specs.Index.{Contents}
 use Rattle.mapf_rules.specs.Cycles.{IsRing}
-use Rattle.conflict_ledger.specs.Sight.{Shows, own_place}
 use Rattle.mapf_rules.proofs.RingOrder.{after_within, after_inside, after_end, all_round, one_to}
 use Rattle.mapf_rules.proofs.Walks.{same_or_not}
+use Rattle.std.proofs.lemmas.Bool.{cases_Bool}
 
 -- ---- round a ring, what holds of each step holds of the steps back
 steps_back : (R : ℕ → ℕ → Type 0) (n : ℕ) → ((k : ℕ) → R k k) → ((i j k : ℕ) → R i j → R j k → R i k) → ((k : ℕ) → k < n → R k ((k + 1) % n))
@@ -100,14 +94,10 @@ there_and_back Down p q r a b on back = grind (arith, nat_tests)
 two_on : (k n : ℕ) → k < n → 3 ≤ n → ((k + 1) % n + 1) % n ≢ k
 two_on k n h three = grind (arith, after_inside k n, after_end k n, after_inside (k + 1) n, after_end (k + 1) n, after_inside 0 n)
 
-true_or_not : (b : Bool) → (b ≡ true) ⊎ (b ≡ false)
-true_or_not true = inl refl
-true_or_not false = inr refl
-
 -- a test holds nowhere below a bound, or somewhere
 nowhere_or : (p : ℕ → Bool) (n : ℕ) → ((k : ℕ) → k < n → p k ≡ false) ⊎ ((k : ℕ) × (k < n) × (p k ≡ true))
 nowhere_or p zero = inl (λ k h. absurd (omega arith))
-nowhere_or p (suc n) = elim (true_or_not (p n)) [
+nowhere_or p (suc n) = elim (cases_Bool (p n)) [
   | inl on ↦ inr (n, omega arith, on)
   | inr off ↦ elim (nowhere_or p n) [
     | inl before ↦ inl (λ k h. grind (arith, before k, off, same_or_not k n))
@@ -206,43 +196,3 @@ module _ (fleet : Fleet) (time : ℕ) (ring : List ℕ) (is : IsRing fleet time 
             | inr back ↦ absurd (none_on (opposite (across way)) (λ k within. ap (λ w. leads w (cell_at k) (cell_at (next k))) (back_across way) ∙ none_back way none k within) 0 first back)
           ]
     ]
-
--- who moves in the fleet moves in the index, or on the agent's own track
-pub goes_shown : (index : Contents) (agent : ℕ) (route : Option Route) (fleet : Fleet) (shows : Shows index agent route fleet) (time : ℕ) (way : Way) → Goes fleet time way
-    → Goes shows.base time way ⊎ ((from : Point) × (to : Point) × (own_place route time ≡ Some from) × (own_place route (time + 1) ≡ Some to) × (leads way from to ≡ true))
-goes_shown index agent route fleet shows time way g = grind (arith, nat_tests)
-
--- agents on paths go by steps
-cells_step : (path : List Point) (i j : ℕ) (p q : Point) → IsPath path → (j ≡ i) ⊎ (j ≡ i + 1) → j < length path → slice_get path i ≡ Some p → slice_get path j ≡ Some q → IsStep p q
-cells_step path i j p q is near within a b = grind (arith, nat_tests, near, is.walkable.steps i p, get_or_from_slice_get path i p p a, get_or_from_slice_get path j q p b)
-
-path_steps : (r : Route) (time : ℕ) (p q : Point) → IsPath r.path → position r time ≡ Some p → position r (time + 1) ≡ Some q → IsStep p q
-path_steps r time p q is a b = cells_step r.path (min time (last_index r.path)) (min (time + 1) (last_index r.path)) p q is near (omega (arith, is.walkable.some_cell)) (there r.path time p a) (there r.path (time + 1) q b)
-  where
-    near : (min (time + 1) (last_index r.path) ≡ min time (last_index r.path)) ⊎ (min (time + 1) (last_index r.path) ≡ min time (last_index r.path) + 1)
-    near = grind arith
-
-    there : (path : List Point) (t : ℕ) (c : Point) → position r t ≡ Some c → place r.path t ≡ Some c
-    there path t c at = grind (arith, nat_tests)
-
-ended_path : (end : Option End) (r : Route) → IsEndOf end (Some r) → IsPath r.path
-ended_path None r is = absurd is
-ended_path (Some end) r is = is.path
-
--- so do the agents that a sight shows
-pub shown_steps : (index : Contents) (agent : ℕ) (track : Option Track) (fleet : Fleet) (shows : Shows index agent (option_map route_of track) fleet) → IfSome track (λ t. IsPath t.plan.now) → (time a : ℕ) (p q : Point) → position_of fleet a time ≡ Some p → position_of fleet a (time + 1) ≡ Some q → IsStep p q
-shown_steps index agent track fleet shows own time a p q from to = by_route (fleet a) refl (same_or_not a agent)
-  where
-    is_path : (t : Option Track) → IfSome t (λ t. IsPath t.plan.now) → (r : Route) → option_map route_of t ≡ Some r → IsPath r.path
-    is_path None h r e = cc
-    is_path (Some t) h r e = subst (λ (q : Route). IsPath q.path) (same_Some _ _ e) h
-
-    by_route : (o : Option Route) → fleet a ≡ o → (a ≡ agent) ⊎ (a ≢ agent) → IsStep p q
-    by_route None e w = let wrong : None ≡ Some p = sym (ap (λ (o : Option Route). option_and_then (λ r. position r time) o) e) ∙ from in cc
-    by_route (Some r) e w =
-        let here : position r time ≡ Some p = sym (ap (λ (o : Option Route). option_and_then (λ r. position r time) o) e) ∙ from in
-        let there : position r (time + 1) ≡ Some q = sym (ap (λ (o : Option Route). option_and_then (λ r. position r (time + 1)) o) e) ∙ to in
-        path_steps r time p q (elim w [
-          | inl is ↦ is_path track own r (sym shows.own ∙ ap fleet (sym is) ∙ e)
-          | inr apart ↦ ended_path _ r (subst (IsEndOf _) (shows.others a apart ∙ e) (shows.stands.ends a))
-        ]) here there

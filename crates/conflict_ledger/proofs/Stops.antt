@@ -7,8 +7,8 @@ use Rattle.grid_cells.specs.Cell.{Point}
 use Rattle.plan_table.specs.Route.{Route, Fleet, position_of}
 use Rattle.plan_table.proofs.Fleets.{position_sooner}
 use Rattle.where_index.specs.Index.{Contents}
-use Rattle.conflict_ledger.specs.Sight.{Shows, own_place}
-use Rattle.conflict_ledger.specs.Gathering.{IsWhere, IsStop, HasStop, HasPlace, HasHere, HasTime, own_at}
+use Rattle.conflict_ledger.specs.Sight.{Shows, own_place, IsWhere}
+use Rattle.conflict_ledger.specs.Gathering.{IsStop, HasStop, HasPlace, HasHere, HasTime, own_at}
 use Rattle.conflict_ledger.specs.declared.places.Place.{Place}
 use Rattle.conflict_ledger.specs.declared.places.Place.TheVariants.{Beside, Ahead, Behind}
 use Rattle.conflict_ledger.specs.declared.places.Stop.{Stop}

@@ -1,13 +1,11 @@
 -- What a search beside one agent's track has gathered: words for the ledger's own steps (this project's choice).
 use Rattle.std.specs.Prelude.{◌≡◌, ◌≢◌, ◌⊎◌, ℕ, ◌+◌, ◌<◌, ◌≤◌, Bool, true, false, Some, List, Contains, IsTrue}
-use Rattle.std.specs.Option.{unwrap_or}
 use Rattle.grid_cells.specs.Cell.{Point}
 use Rattle.plan_table.specs.Route.{Fleet, position_of, last_of, Leaves}
-use Rattle.mapf_rules.specs.Entries.{OnePasses, IsFollowing}
 use Rattle.mapf_rules.specs.ConflictList.{Stands}
 use Rattle.mapf_rules.specs.Naming.{IsPair, Names, time_of}
 use Rattle.mapf_rules.specs.Finding.{KeepsAll}
-use Rattle.conflict_ledger.specs.Sight.{Sees}
+use Rattle.conflict_ledger.specs.Sight.{Sees, IsWhere}
 use Rattle.conflict_ledger.specs.declared.sight.Sight.{Sight}
 use Rattle.conflict_ledger.specs.Spans.{IsIn, Fits}
 use Rattle.conflict_ledger.specs.declared.spans.Span.{Span}
@@ -25,10 +23,6 @@ pub record IsAgents (fleet : Fleet) (agent : ℕ) (entry : Conflict) : Type 0 wh
   pub pair : IsPair entry
   pub names : Names entry agent
 
--- the agent comes to the next cell in the step, which isn't the one where it was
-abbrev pub Arrives : Fleet → ℕ → ℕ → Point → Point → Type 0
-Arrives fleet agent time here next = (here ≢ next) × (position_of fleet agent (time + 1) ≡ Some next)
-
 -- new has the entries of old, and others of the agent at times of which that is so
 pub record Gathers (fleet : Fleet) (agent : ℕ) (at : ℕ → Type 0) (old new : List Conflict) : Type 0 where
   pub keeps : KeepsAll old new
@@ -42,26 +36,6 @@ pub record AreAgents (fleet : Fleet) (agent : ℕ) (span : Span) (entries : List
 -- the entries are those of the sight's agent at the span's times, where the span fits its path
 abbrev pub AreOwn : Sight → Span → List Conflict → Fleet → Type 0
 AreOwn sight span entries fleet = Fits span (last_of fleet sight.agent) → AreAgents fleet sight.agent span entries
-
--- the agent is in the cell at the time, and one step later in the next one, or nowhere
-pub record IsWhere (fleet : Fleet) (agent time : ℕ) (here next : Point) : Type 0 where
-  pub now : position_of fleet agent time ≡ Some here
-  pub later : unwrap_or (position_of fleet agent (time + 1)) here ≡ next
-
--- two agents, in order, are in the cell at the time
-pub record AreTogether (fleet : Fleet) (time first second : ℕ) (cell : Point) : Type 0 where
-  pub ordered : first < second
-  pub first_there : position_of fleet first time ≡ Some cell
-  pub second_there : position_of fleet second time ≡ Some cell
-
--- so it is in each fleet that the sight shows in which one of the two passes, if it is said
-abbrev pub IfPasses : Sight → Bool → ℕ → ℕ → ℕ → (Fleet → Type 0) → Type 0
-IfPasses sight said time first second holds = (fleet : Fleet) → Sees sight fleet → (IsTrue said → OnePasses fleet time first second) → holds fleet
-
--- so it is where one comes into the cell in which the other is as the step begins, and follows it, if that is said
-abbrev pub WhereClose : Bool → Fleet → ℕ → ℕ → ℕ → Point → Type 0 → Type 0
-WhereClose said fleet time follower leader cell holds =
-    (IsTrue said → IsFollowing fleet time follower leader cell) → follower ≢ leader → position_of fleet leader time ≡ Some cell → position_of fleet follower (time + 1) ≡ Some cell → holds
 
 -- what a spot tells of its agent, which it shows in the cell at the time: one that lasts, that the agent stays; another one,
 -- that the agent still moves or is to leave, and where it goes, if that is another cell
@@ -217,33 +191,3 @@ GathersUpTo sight span last old new fleet = span.from ≤ last → Gathers fleet
 -- each entry of the sight's agent at those times is there
 abbrev pub HasUpTo : Sight → Span → ℕ → List Conflict → Fleet → Type 0
 HasUpTo sight span last entries fleet = last ≡ last_of fleet sight.agent → (time : ℕ) → IsIn span time → time ≤ last → HasTime fleet sight.agent time entries
-
--- what is new are entries of the sight's agent from the last index on
-abbrev pub GathersLate : Sight → ℕ → List Conflict → List Conflict → Fleet → Type 0
-GathersLate sight last old new fleet = last ≡ last_of fleet sight.agent → Gathers fleet sight.agent (λ t. last ≤ t) old new
-
--- each entry of the sight's agent after the last index is there
-abbrev pub HasAllLate : Sight → ℕ → List Conflict → Fleet → Type 0
-HasAllLate sight last entries fleet = last ≡ last_of fleet sight.agent → (time : ℕ) → last < time → HasTime fleet sight.agent time entries
-
--- the entry is one of the agent, at rest in that cell, and of the other one, which is there at the time: a meeting then,
--- or the step in which the other one comes
-abbrev pub IsLateOf : Conflict → ℕ → ℕ → ℕ → Point → Type 0
-IsLateOf (Vertex time first second cell) x agent other rest = (time ≡ x) × (cell ≡ rest) × (((first ≡ agent) × (second ≡ other)) ⊎ ((first ≡ other) × (second ≡ agent)))
-IsLateOf (Parked time first second cell) x agent other rest = (time ≡ x) × (cell ≡ rest) × (((first ≡ agent) × (second ≡ other)) ⊎ ((first ≡ other) × (second ≡ agent)))
-IsLateOf (Following time follower leader cell) x agent other rest = (time + 1 ≡ x) × (cell ≡ rest) × (follower ≡ other) × (leader ≡ agent)
-IsLateOf entry x agent other rest = ⊥
-
--- the agent rests in the cell where the other one is at the time, and is in it one step before too
-pub record IsPassed (fleet : Fleet) (time agent other : ℕ) (rest : Point) : Type 0 where
-  pub apart : other ≢ agent
-  pub there : position_of fleet other time ≡ Some rest
-  pub rests : (t : ℕ) → time ≤ t + 1 → position_of fleet agent t ≡ Some rest
-
--- what is new are entries of the sight's agent, at rest in the cell, from the step on in which the other one comes at the time
-abbrev pub GathersPassing : Sight → ℕ → ℕ → Point → List Conflict → List Conflict → Fleet → Type 0
-GathersPassing sight time other rest old new fleet = (other ≢ sight.agent → IsPassed fleet time sight.agent other rest) → Gathers fleet sight.agent (λ t. time ≤ t + 1) old new
-
--- each such entry of another one is there
-abbrev pub HasLate : Fleet → ℕ → ℕ → ℕ → Point → List Conflict → Type 0
-HasLate fleet time agent other rest entries = other ≢ agent → (entry : Conflict) → Stands fleet entry → IsLateOf entry time agent other rest → Contains entries entry

@@ -3,5 +3,6 @@ pub mod Kept
 pub mod Sight
 pub mod Spans
 pub mod Gathering
+pub mod Late
 pub mod Turns
 pub mod Mending

@@ -5,8 +5,7 @@ ghost use Rattle.mapf_rules.specs.declared.entries.Conflict.TheVariants.{Parked}
 ghost use Rattle.mapf_rules.specs.Entries.{IsVertex, IsParked, IsEdge, IsFollowing, IsSwapping};
 ghost use Rattle.mapf_rules.specs.ConflictList.{Stands};
 ghost use Rattle.mapf_rules.specs.Naming.{IsOfPair};
-ghost use Rattle.conflict_ledger.specs.Gathering.{AreTogether, WhereClose, IfPasses};
-ghost use Rattle.conflict_ledger.specs.Sight.{InView, Sees};
+ghost use Rattle.conflict_ledger.specs.Sight.{AreTogether, IfPasses, InView, Sees, WhereClose};
 
 use crate::sight::Sight;
 use grid_cells::{Agent, Cell, Step};

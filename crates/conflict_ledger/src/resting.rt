@@ -1,6 +1,6 @@
 ghost use Rattle.std.specs.Prelude.{◌≡◌, ◌≢◌, ℕ, ◌+◌, ◌<◌, ◌≤◌, OnOk};
 ghost use Rattle.plan_table.specs.Route.{Fleet, last_of};
-ghost use Rattle.conflict_ledger.specs.Gathering.{GathersLate, GathersPassing, HasAllLate, HasLate};
+ghost use Rattle.conflict_ledger.specs.Late.{GathersLate, GathersPassing, HasAllLate, HasLate};
 ghost use Rattle.conflict_ledger.specs.Sight.{InView, Sees};
 
 use crate::places::{following_of, in_order, meeting_of};

@@ -1,8 +1,8 @@
 ghost use Rattle.std.specs.Prelude.{◌≡◌, ◌≢◌, ◌⊎◌, ◌↔◌, ℕ, ◌+◌, ◌<◌, Some, IsSome, IfSome, IsTrue};
 ghost use Rattle.plan_table.specs.Route.{Fleet, position_of};
 ghost use Rattle.conflict_ledger.specs.declared.places.Place.{Place};
-ghost use Rattle.conflict_ledger.specs.Gathering.{Arrives, IsShown, Tells, seen_at};
-ghost use Rattle.conflict_ledger.specs.Sight.{InView};
+ghost use Rattle.conflict_ledger.specs.Gathering.{IsShown, Tells, seen_at};
+ghost use Rattle.conflict_ledger.specs.Sight.{Arrives, InView};
 
 use crate::places::Place;
 use crate::sight::Sight;

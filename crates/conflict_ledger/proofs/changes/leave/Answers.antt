@@ -1,7 +1,8 @@
 use Rattle.std.proofs.Common.{None}
 use Rattle.std.proofs.lemmas.Result.{on_ok_weaker}
 use Rattle.where_index.specs.Index.{with_route}
-use Rattle.conflict_ledger.proofs.Turning.{hidden, but_hidden, leave_law, leave_beside}
+use Rattle.conflict_ledger.proofs.Sighted.{hidden, but_hidden}
+use Rattle.conflict_ledger.proofs.Mending.{leave_law, leave_beside}
 use Rattle.conflict_ledger.proofs.changes.leave.Goals as goal
 
 pub returns : goal.returns

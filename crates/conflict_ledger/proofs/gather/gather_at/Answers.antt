@@ -4,8 +4,8 @@ use Rattle.std.specs.Option.{unwrap_or}
 use Rattle.grid_cells.specs.Cell.{Point}
 use Rattle.std.proofs.lemmas.Result.{on_ok_weaker}
 use Rattle.plan_table.specs.Route.{Fleet}
-use Rattle.conflict_ledger.specs.Sight.{Sees}
-use Rattle.conflict_ledger.specs.Gathering.{IsWhere, IsStop, IsAbout, IsStepOf, HasPlace}
+use Rattle.conflict_ledger.specs.Sight.{Sees, IsWhere}
+use Rattle.conflict_ledger.specs.Gathering.{IsStop, IsAbout, IsStepOf, HasPlace}
 use Rattle.conflict_ledger.specs.declared.places.Stop.{Stop}
 use Rattle.conflict_ledger.specs.declared.places.Place.TheVariants.{Ahead}
 use Rattle.conflict_ledger.proofs.Gathers.{gathers_at}

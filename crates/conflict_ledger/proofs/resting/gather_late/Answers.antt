@@ -6,7 +6,7 @@ use Rattle.plan_table.specs.Route.{Route, Fleet, position, position_of, last_of}
 use Rattle.where_index.specs.Asked.{ArePassing}
 use Rattle.where_index.specs.declared.passings.Passing.{Passing}
 use Rattle.conflict_ledger.specs.Sight.{Sees}
-use Rattle.conflict_ledger.specs.Gathering.{HasLate}
+use Rattle.conflict_ledger.specs.Late.{HasLate}
 use Rattle.conflict_ledger.proofs.Gathers.{gathers_on, gathers_at}
 use Rattle.conflict_ledger.proofs.Late.{late_place, passed}
 use Rattle.conflict_ledger.proofs.resting.gather_late.Goals as goal

@@ -2,7 +2,8 @@ use Rattle.std.proofs.Common.{◌≡◌, ℕ, ◌<◌, ◌≤◌, get_or}
 use Rattle.plan_table.specs.Route.{Fleet, last_of}
 use Rattle.where_index.specs.declared.passings.Passing.{Passing}
 use Rattle.conflict_ledger.specs.Sight.{Sees}
-use Rattle.conflict_ledger.specs.Gathering.{Gathers, HasLate}
+use Rattle.conflict_ledger.specs.Gathering.{Gathers}
+use Rattle.conflict_ledger.specs.Late.{HasLate}
 use Rattle.conflict_ledger.proofs.resting.gather_late.Given as goal
 
 abbrev pub invariant-loop-passing : goal.invariant-loop-passing

@@ -4,7 +4,7 @@ use Rattle.where_index.specs.Index.{with_route}
 use Rattle.mapf_rules.specs.declared.entries.Conflict.{Conflict}
 use Rattle.conflict_ledger.specs.Kept.{HasEntries}
 use Rattle.conflict_ledger.proofs.Beside.{whole_fits, whole_before, whole_after}
-use Rattle.conflict_ledger.proofs.Turning.{with_other, with_shows, itself_shows}
+use Rattle.conflict_ledger.proofs.Sighted.{with_other, with_shows, itself_shows}
 use Rattle.conflict_ledger.proofs.ledger.ConflictLedger.admit.Goals as goal
 
 pub returns : goal.returns

@@ -4,7 +4,7 @@ use Rattle.where_index.specs.Index.{with_route}
 use Rattle.mapf_rules.specs.declared.entries.Conflict.{Conflict}
 use Rattle.conflict_ledger.specs.Kept.{HasEntries}
 use Rattle.conflict_ledger.proofs.Beside.{mended}
-use Rattle.conflict_ledger.proofs.Turning.{with_own, with_other, with_shows, itself_shows, but_hidden}
+use Rattle.conflict_ledger.proofs.Sighted.{with_own, with_other, with_shows, itself_shows, but_hidden}
 use Rattle.conflict_ledger.proofs.ledger.ConflictLedger.revise.Goals as goal
 
 pub returns : goal.returns

@@ -1,6 +1,6 @@
 use Rattle.std.proofs.Common.{inl, inr, sym, ◌∙◌}
 use mathlib.Core.Bool.{false≢true}
-use Rattle.conflict_ledger.proofs.Returns.{goes_shown}
+use Rattle.conflict_ledger.proofs.Sighted.{goes_shown}
 use Rattle.conflict_ledger.proofs.sight.Sight.may_go.Goals as goal
 
 pub returns-else-goes : goal.returns-else-goes

@@ -3,7 +3,8 @@ use mathlib.Core.Bool.{false≢true}
 use Rattle.where_index.specs.declared.ways.Way.{Way}
 use Rattle.where_index.specs.declared.ways.Way.TheVariants.{Up, Left, Right, Down}
 use Rattle.where_index.specs.Asked.{Goes}
-use Rattle.conflict_ledger.proofs.Returns.{goes_round, shown_steps}
+use Rattle.conflict_ledger.proofs.Returns.{goes_round}
+use Rattle.conflict_ledger.proofs.Sighted.{shown_steps}
 use Rattle.conflict_ledger.proofs.sight.Sight.may_have_ring.Goals as goal
 use Rattle.conflict_ledger.proofs.sight.Sight.may_have_ring.Goals.{then-may_go, else-may_go, then-may_go-2, else-may_go-2}
 
