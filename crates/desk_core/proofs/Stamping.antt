@@ -15,23 +15,15 @@ use Rattle.grid_cells.specs.Grid.{flag_index}
 use Rattle.goal_fields.proofs.Neighbours.{cases_cell}
 use Rattle.std.proofs.Math.Nat.{mul_comm}
 use Rattle.std.proofs.lemmas.Nat.{same_from_place, mul-add-lt}
-use Rattle.scene_edits.proofs.Deciding.{in_or_not}
-use Rattle.scene_edits.specs.Scene.{SceneState}
-use Rattle.scene_edits.specs.Edited.{edited}
-use Rattle.scene_edits.specs.Faults.{IsAllowed}
-use Rattle.scene_edits.specs.InOrder.{edited_all, AreAllowed}
-use Rattle.scene_edits.specs.declared.edits.EditFault.TheVariants.{OutOfMap}
-use Rattle.std.proofs.lemmas.List.Elements.{All-head}
 use Rattle.scene_edits.specs.declared.changes.Thing.{Thing}
 use Rattle.scene_edits.specs.declared.changes.Thing.TheVariants as things
 use Rattle.scene_edits.specs.declared.edits.Edit.{Edit}
-use Rattle.scene_edits.specs.declared.edits.Edit.TheVariants.{Add, Drop, Goal, Path, Tail, Open, Close}
 use Rattle.desk_core.specs.Entries.{Entry, thing_of, NamesThing, Names}
 use Rattle.desk_core.specs.Stale.{IsNamedAt, IsFreshSince}
-use Rattle.desk_core.specs.Stamps.{IsStamp, stamp_of, HasPlaces, AreStamps, IsOn, NameOnMap, AreOnMap, AreMarked}
+use Rattle.desk_core.specs.Stamps.{IsStamp, stamp_of, HasPlaces, AreStamps, AreMarked}
 use Rattle.desk_core.specs.declared.stamps.Stamps.{Stamps}
 use Rattle.desk_core.proofs.Freshness.{fresh_at_end}
-use Rattle.desk_core.proofs.Anywhere.{Any-nil, Any-here, Any-cons, Any-last, Any-append}
+use Rattle.desk_core.proofs.Anywhere.{Any-nil, Any-here, Any-last, Any-append}
 
 -- no two cells of a map have one index
 one_index : (size : Extent) (a b : Point) → Holds size a → Holds size b → flag_index size a ≡ flag_index size b → a ≡ b
@@ -124,7 +116,7 @@ slice_get-either : (xs : List Entry) (y : Entry) (i : ℕ) (x : Entry) → slice
 slice_get-either xs y i x there = grind (arith, common_steps, gets, slice_get_within (xs ++ y ∷ []) i x there)
 
 -- an entry that names a thing is an earlier one or the last
-named_push : (journal : List Entry) (entry : Entry) (thing : Thing) (number : ℕ) → IsNamedAt (journal ++ entry ∷ []) thing number → IsNamedAt journal thing number ⊎ ((number ≡ length journal + 1) × Names entry thing)
+pub named_push : (journal : List Entry) (entry : Entry) (thing : Thing) (number : ℕ) → IsNamedAt (journal ++ entry ∷ []) thing number → IsNamedAt journal thing number ⊎ ((number ≡ length journal + 1) × Names entry thing)
 named_push journal entry thing number named =
     let counted = named.counted in
     elim (slice_get-either journal entry (number - 1) named.entry named.there) [
@@ -178,42 +170,3 @@ stamps_push size journal entry old new are marked = record { sized = marked.size
           | inl (names, is) ↦ subst (IsStamp (journal ++ entry ∷ []) thing) (sym is) (here thing names)
           | inr (apart, same) ↦ subst (IsStamp (journal ++ entry ∷ []) thing) (sym same) (before thing (stamp_of old thing) apart (are.each thing))
         ]
-
--- an edit that is allowed names cells of the map alone
-allowed_on : (scene : SceneState) (edit : Edit) → IsAllowed scene edit → IsOn scene.grid.size (thing_of edit)
-allowed_on scene (Add a start goal) allowed = tt
-allowed_on scene (Drop a) allowed = tt
-allowed_on scene (Goal a goal) allowed = tt
-allowed_on scene (Path a cells) allowed = tt
-allowed_on scene (Tail a from cells) allowed = tt
-allowed_on scene (Open cell) allowed = elim (in_or_not scene.grid.size (cell ∷ [])) [ inl all ↦ All-head (Holds scene.grid.size) cell [] all | inr out ↦ absurd (allowed OutOfMap (refl, out)) ]
-allowed_on scene (Close cell) allowed = elim (in_or_not scene.grid.size (cell ∷ [])) [ inl all ↦ All-head (Holds scene.grid.size) cell [] all | inr out ↦ absurd (allowed OutOfMap (refl, out)) ]
-
-named_on : (size : Extent) (edit : Edit) (thing : Thing) → IsOn size (thing_of edit) → NamesThing thing edit → IsOn size thing
-named_on size edit thing on names = grind arith
-
-same_size : (scene : SceneState) (edit : Edit) → (edited scene edit).grid.size ≡ scene.grid.size
-same_size scene edit = grind arith
-
--- edits that are allowed name cells of the map alone
-pub all_on : (scene : SceneState) (edits : List Edit) → AreAllowed scene edits → NameOnMap scene.grid.size edits
-all_on scene [] allowed thing any = absurd (Any-nil (NamesThing thing) any)
-all_on scene (edit ∷ later) allowed thing any =
-    elim (Any-cons (NamesThing thing) edit later any) [
-      | inl names ↦ named_on scene.grid.size edit thing (allowed_on scene edit allowed.0) names
-      | inr after ↦ subst (λ (size : Extent). IsOn size thing) (same_size scene edit) (all_on (edited scene edit) later allowed.1 thing after)
-    ]
-
--- edits leave the size of the map
-pub same_size_all : (scene : SceneState) (edits : List Edit) → (edited_all scene edits).grid.size ≡ scene.grid.size
-same_size_all scene [] = refl
-same_size_all scene (edit ∷ later) = same_size_all (edited scene edit) later ∙ same_size scene edit
-
--- what an entry of a journal on the map names is on the map
-pub entry_on : (size : Extent) (journal : List Entry) (index : ℕ) (entry : Entry) → AreOnMap size journal → slice_get journal index ≡ Some entry → NameOnMap size entry.edits
-entry_on size journal index entry on there thing any =
-    on thing (index + 1) (record { entry = entry; counted = omega arith; there = subst (λ k. slice_get journal k ≡ Some entry) (omega arith) there; names = any })
-
-pub on_map_push : (size : Extent) (journal : List Entry) (entry : Entry) → AreOnMap size journal → NameOnMap size entry.edits → AreOnMap size (journal ++ entry ∷ [])
-on_map_push size journal entry on more thing number named =
-    elim (named_push journal entry thing number named) [ inl earlier ↦ on thing number earlier | inr last ↦ more thing last.1 ]

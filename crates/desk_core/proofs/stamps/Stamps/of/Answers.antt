@@ -3,7 +3,8 @@ use Rattle.std.specs.List.{slice_get}
 use Rattle.std.proofs.lemmas.List.{take_more, length-take-le}
 use Rattle.std.proofs.lemmas.Option.{slice_get_read}
 use Rattle.desk_core.specs.Stamps.{AreMarked}
-use Rattle.desk_core.proofs.Stamping.{stamps_push, entry_on}
+use Rattle.desk_core.proofs.Stamping.{stamps_push}
+use Rattle.desk_core.proofs.OnMap.{entry_on}
 use Rattle.desk_core.proofs.stamps.Stamps.of.Goals as goal
 
 pub mark_all-requires-clause-on_map : goal.mark_all-requires-clause-on_map
