@@ -3,6 +3,7 @@ pub mod PlainLines
 pub mod Grammar
 pub mod RouteLines
 pub mod Walks
+pub mod PlaceLines
 pub mod ReadLines
 pub mod WholeWalks
 pub mod BadLines

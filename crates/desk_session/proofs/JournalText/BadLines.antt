@@ -17,7 +17,8 @@ use Rattle.desk_session.specs.declared.journals.places.Place.{Place}
 use Rattle.desk_session.specs.declared.journals.places.Place.TheVariants.{Start, Over}
 use Rattle.desk_session.proofs.JournalText.PlainWords.{are_plain}
 use Rattle.desk_session.proofs.JournalText.PlainLines.{are_lines, text-split}
-use Rattle.desk_session.proofs.JournalText.Walks.{Walks, walk-split, walk-same, place_lines}
+use Rattle.desk_session.proofs.JournalText.Walks.{Walks, walk-split, walk-same}
+use Rattle.desk_session.proofs.JournalText.PlaceLines.{place_lines}
 use Rattle.desk_session.proofs.JournalText.WholeWalks.{walk-journal, walk-reached, walk-plain, can-end}
 
 -- the lines that led to the place stand at the head of the text, and this is the rest

@@ -13,7 +13,8 @@ use Rattle.desk_session.proofs.JournalText.PlainWords.{are_plain, is_one_line}
 use Rattle.desk_session.proofs.JournalText.PlainLines.{one-line-join, feed-split, line-words_of}
 use Rattle.desk_session.proofs.JournalText.Grammar.{request-watch, request-edit}
 use Rattle.desk_session.proofs.JournalText.RouteLines.{text-append}
-use Rattle.desk_session.proofs.JournalText.Walks.{Walks, walk-more, place_lines, step-reached, step-plain}
+use Rattle.desk_session.proofs.JournalText.Walks.{Walks, walk-more, step-plain}
+use Rattle.desk_session.proofs.JournalText.PlaceLines.{place_lines, step-reached}
 use Rattle.desk_session.proofs.JournalText.BadLines.{Stands, Sticks}
 
 some-mode : (mode : Mode) → 0 < length (mode_words mode)

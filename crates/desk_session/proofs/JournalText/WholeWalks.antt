@@ -23,7 +23,8 @@ use Rattle.desk_session.specs.declared.journals.places.Begun.{Begun}
 use Rattle.desk_session.specs.declared.journals.places.Place.{Place}
 use Rattle.desk_session.specs.declared.journals.places.Place.TheVariants.{Start, Versioned, Between, Inside, Over}
 use Rattle.desk_session.proofs.JournalText.PlainLines.{are_lines}
-use Rattle.desk_session.proofs.JournalText.Walks.{Walks, walk-more, walk-join, place_lines, Reached, step-reached, step-plain}
+use Rattle.desk_session.proofs.JournalText.Walks.{Walks, walk-more, walk-join, step-plain}
+use Rattle.desk_session.proofs.JournalText.PlaceLines.{place_lines, Reached, step-reached}
 
 settled-watch : (heading : Heading) (entries : List Entry) (entry : Begun) → length entry.watch < entry.head.watches → settled heading entries entry ≡ Inside heading entries entry
 settled-watch heading entries entry due = rw (lt-ltb (length entry.watch) entry.head.watches due) refl

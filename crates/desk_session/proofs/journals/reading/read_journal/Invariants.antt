@@ -1,5 +1,5 @@
 use Rattle.std.proofs.Common.{◌≡◌, ◌+◌, ◌≤◌, length}
-use Rattle.desk_session.proofs.JournalText.Walks.{place_lines}
+use Rattle.desk_session.proofs.JournalText.PlaceLines.{place_lines}
 use Rattle.desk_session.proofs.JournalText.BadLines.{Stands}
 use Rattle.desk_session.proofs.journals.reading.read_journal.Given as goal
 
