@@ -4,5 +4,6 @@ pub mod RowLemmas
 pub mod MapLemmas
 pub mod ScenLemmas
 pub mod SpellingLemmas
+pub mod RowsLaw
 pub mod MapLaw
 pub mod ScenLaw
