@@ -10,7 +10,7 @@ use Rattle.plan_table.specs.declared.plans.Row.{Row}
 use Rattle.plan_table.proofs.Fleets.{row_here}
 use Rattle.goal_fields.specs.Marks.{IsWhole}
 use Rattle.goal_fields.specs.Target.{Standing, IsSound, Covers}
-use Rattle.goal_fields.proofs.LastLemmas.{same_map}
+use Rattle.goal_fields.proofs.CoverLemmas.{same_map}
 use Rattle.desk_report.specs.declared.reports.AgentLine.{AgentLine}
 use Rattle.desk_books.specs.Lines.{AreOpenLines, AreLinesOf, WhereLinesStand}
 use Rattle.desk_books.specs.Prices.{Rows, Prices, AreOf}

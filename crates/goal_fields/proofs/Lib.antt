@@ -1,5 +1,6 @@
 pub mod Neighbours
 pub mod SearchLemmas
+pub mod SearchEnds
 pub mod RepairLemmas
 pub mod RepairEnds
 pub mod UpdateLemmas
@@ -8,6 +9,7 @@ pub mod FollowLemmas
 pub mod EditLemmas
 pub mod LastLemmas
 pub mod CountLemmas
+pub mod ListLemmas
 pub mod HeldLemmas
 pub mod CoverLemmas
 pub mod RoomLemmas

@@ -72,3 +72,8 @@ down_of-adjacent size c n e = grind (arith, nat_tests)
 pub neighbour_cases : (size : Extent) (c n : Point) → Holds size n → IsAdjacent c n →
     (up_of size c ≡ Some n) ⊎ ((left_of size c ≡ Some n) ⊎ ((right_of size c ≡ Some n) ⊎ (down_of size c ≡ Some n)))
 neighbour_cases size c n h near = grind (arith, nat_tests, same_coordinates)
+
+-- a neighbour stands above, at the left, at the right or below
+pub beside_cases : (a b : Point) → IsAdjacent a b →
+    ((b.x ≡ a.x) × (b.y + 1 ≡ a.y)) ⊎ (((b.x + 1 ≡ a.x) × (b.y ≡ a.y)) ⊎ (((b.x ≡ a.x + 1) × (b.y ≡ a.y)) ⊎ ((b.x ≡ a.x) × (b.y ≡ a.y + 1))))
+beside_cases a b near = grind arith

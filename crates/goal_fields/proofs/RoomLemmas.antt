@@ -18,7 +18,7 @@ use Rattle.goal_fields.specs.Changes.{IsRepaired}
 use Rattle.goal_fields.specs.Rest.{IsRoomOn}
 use Rattle.goal_fields.specs.Held.{StandFor}
 use Rattle.goal_fields.specs.Standings.{AreAtRest, AreRepaired, standing_on, chart_in, standings, HaveRoom}
-use Rattle.goal_fields.proofs.HeldLemmas.{map-insert, map-remove, All-insert, All-remove}
+use Rattle.goal_fields.proofs.ListLemmas.{map-insert, map-remove, All-insert, All-remove}
 
 -- what holds of each of some fields holds of one
 of_one : (grid : Chart) (held : List Distances) (P : Standing → Type 0) → 0 < length held → All P (map (standing_on grid) held) → (one : Distances) × P (standing_on grid one)

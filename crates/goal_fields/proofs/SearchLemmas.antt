@@ -1,22 +1,21 @@
 use Rattle.std.proofs.lemmas.Bool.Decides.{nat_tests}
 use Rattle.std.proofs.lemmas.Grind.{common_steps}
-use Rattle.std.specs.Prelude.{true, false, ◌==◌, slice_index, sum_by}
+use Rattle.std.specs.Prelude.{slice_index, sum_by}
 use Rattle.std.proofs.lemmas.List.{get_or_read}
-use Rattle.std.proofs.Common.{get_or, ◌≡◌, ◌≢◌, ℕ, zero, suc, ◌+◌, ◌<◌, ◌≤◌, ◌⊎◌, List, [], ◌∷◌, length, refl, sym, ap, ◌∙◌, inl, inr, arith, get_or-set_same, get_or-set_other, add-one}
+use Rattle.std.proofs.Common.{get_or, ◌≡◌, ◌≢◌, ℕ, suc, ◌+◌, ◌<◌, ◌≤◌, ◌⊎◌, List, [], ◌∷◌, length, refl, sym, ap, ◌∙◌, inl, inr, arith, get_or-set_same, get_or-set_other, add-one}
 use borrow.Author.Count.{below_more}
 use Rattle.std.proofs.Math.ListN.{set, length-set}
 use Rattle.std.proofs.lemmas.List.Sums.{sum_by-set, sum_by-cons}
-use Rattle.std.proofs.lemmas.Bool.{cases_lt}
 use Rattle.grid_cells.specs.Cell.{Point, IsAdjacent}
 use Rattle.grid_cells.specs.Size.{Extent, IsSize, Holds}
 use Rattle.cell_queue.specs.Queue.{area}
 use Rattle.grid_cells.specs.Grid.{flag_index, Chart, IsOpen}
-use Rattle.grid_cells.specs.Walks.{Walk, IsDistance}
+use Rattle.grid_cells.specs.Walks.{Walk}
 use Rattle.goal_fields.specs.declared.search.Search.{Search}
 use Rattle.goal_fields.specs.Search.{IsSearch, slot, IsSearching, IsReached, GoesOn, front_of, mark_of}
-use Rattle.goal_fields.specs.Marks.{mark_at, distance_of, far, blank}
+use Rattle.goal_fields.specs.Marks.{mark_at, far, blank}
 use Rattle.cell_queue.proofs.Indexes.{index_below, same_place}
-use Rattle.goal_fields.proofs.Neighbours.{IsAdjacent-sym, Walk-open}
+use Rattle.goal_fields.proofs.Neighbours.{IsAdjacent-sym}
 
 -- a cell after a write at a cell
 pub mark_at-set : (size : Extent) (marks : List ℕ) (a c : Point) (m : ℕ) → length marks ≡ area size → Holds size a → Holds size c →
@@ -144,11 +143,6 @@ pub IsReached-marked : (s : Search) (number : ℕ) (c : Point) → IsSearching s
 IsReached-marked s number c searching lt next marked open_c =
     grind (arith, searching.bounded c open_c.0, mark_at-le s.grid s.goal s.marks.items s.queue.items s.head s.tail c searching lt open_c.0)
 
--- a neighbour stands above, at the left, at the right or below
-pub beside_cases : (a b : Point) → IsAdjacent a b →
-    ((b.x ≡ a.x) × (b.y + 1 ≡ a.y)) ⊎ (((b.x + 1 ≡ a.x) × (b.y ≡ a.y)) ⊎ (((b.x ≡ a.x + 1) × (b.y ≡ a.y)) ⊎ ((b.x ≡ a.x) × (b.y ≡ a.y + 1))))
-beside_cases a b near = grind arith
-
 -- in a list of cells without marks, each counts
 pub sum_by-blank : (marks : List ℕ) → ((k : ℕ) → k < length marks → slice_index marks k ≡ far) → sum_by blank marks ≡ length marks
 sum_by-blank [] all = refl
@@ -198,28 +192,3 @@ IsSearch-begin grid goal marks queue sized open_goal whole m q all =
       begun = λ o. at_goal;
       bounded = λ c h. grind (arith, unmarked c h, mark_at-set grid.size marks goal c 0 m open_goal.0 h);
     }
-
--- a search that has come to its end has every walk
-pub Walk-marked : (grid : Chart) (goal : Point) (marks : List ℕ) (queue : List Point) (head tail : ℕ) → IsSearch grid goal marks queue head tail → tail ≤ head →
-    (m : ℕ) (c : Point) → Walk grid m c goal → (mark_at grid.size marks c < far) × (mark_at grid.size marks c ≤ m)
-Walk-marked grid goal marks queue head tail s over zero c w =
-    let z : mark_at grid.size marks c ≡ 0 = rw w.1 (s.begun (rw (← w.1) w.0)) in
-    (omega arith, omega arith)
-Walk-marked grid goal marks queue head tail s over (suc m) c (o, (next, adj, rest)) =
-    let ih : (mark_at grid.size marks next < far) × (mark_at grid.size marks next ≤ m) = Walk-marked grid goal marks queue head tail s over m next rest in
-    let (i, h, e) = s.placed next ((Walk-open grid goal m next rest).0) ih.0 in
-    let same : mark_at grid.size marks (slot queue goal i) ≡ mark_at grid.size marks next = rw e refl in
-    let up : mark_at grid.size marks c ≤ mark_at grid.size marks (slot queue goal i) + 1 = s.covered i (omega arith) c (rw e (IsAdjacent-sym c next adj)) o in
-    (omega (arith, s.counted, s.small i h, s.sized.cells_most), omega (arith, ih.1))
-
--- a search that has come to its end has found all distances
-pub IsDistance-marked : (grid : Chart) (goal : Point) (marks : List ℕ) (queue : List Point) (head tail : ℕ) → IsSearch grid goal marks queue head tail → tail ≤ head →
-    (c : Point) → Holds grid.size c → IsDistance grid c goal (distance_of (mark_at grid.size marks c))
-IsDistance-marked grid goal marks queue head tail s over c h = elim (cases_lt (mark_at grid.size marks c) far) [
-  | inl below ↦
-      let given : (mark_at grid.size marks c == far) ≡ false = grind arith in
-      rw given (s.walks c h below, λ m w. (Walk-marked grid goal marks queue head tail s over m c w).1)
-  | inr above ↦
-      let none : (mark_at grid.size marks c == far) ≡ true = grind (arith, s.bounded c h) in
-      rw none (λ m w. absurd (omega (arith, Walk-marked grid goal marks queue head tail s over m c w)))
-]

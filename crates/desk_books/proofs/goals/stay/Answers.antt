@@ -1,6 +1,6 @@
 use Rattle.std.proofs.Common.{arith, get_or}
 use Rattle.goal_fields.specs.Target.{IsSound}
-use Rattle.goal_fields.proofs.LastLemmas.{same_map}
+use Rattle.goal_fields.proofs.CoverLemmas.{same_map}
 use Rattle.desk_books.proofs.goals.stay.Goals as goal
 
 pub returns : goal.returns

@@ -1,5 +1,5 @@
 use Rattle.std.proofs.Common.{◌∙◌}
-use Rattle.goal_fields.proofs.LastLemmas.{IsAtRest-found}
+use Rattle.goal_fields.proofs.SearchEnds.{IsAtRest-found}
 use Rattle.goal_fields.proofs.distances.found.Goals as goal
 
 pub returns-clause-at_rest : goal.returns-clause-at_rest

@@ -4,7 +4,7 @@ use Rattle.std.proofs.Math.ListN.{set, length-set}
 use Rattle.grid_cells.specs.Grid.{Chart}
 use Rattle.goal_fields.specs.Rest.{IsRoomOn}
 use Rattle.goal_fields.specs.Standings.{AreAtRest, AreRepaired}
-use Rattle.goal_fields.proofs.HeldLemmas.{AllZip-more, sum_by-more}
+use Rattle.goal_fields.proofs.ListLemmas.{AllZip-more, sum_by-more}
 use Rattle.goal_fields.proofs.fields.repair_each.Goals as goal
 
 pub repair_in-total-requires-clause-at_rest : goal.repair_in-total-requires-clause-at_rest

@@ -1,7 +1,7 @@
 use Rattle.std.proofs.Common.{take, ◌≡◌}
 use Rattle.std.proofs.lemmas.List.{take_more, take_all}
 use Rattle.goal_fields.specs.Adopting.{IsAdopting}
-use Rattle.goal_fields.proofs.LastLemmas.{flags_made}
+use Rattle.goal_fields.proofs.CoverLemmas.{flags_made}
 use Rattle.goal_fields.proofs.maps.adopt.Goals as goal
 
 pub loop-cell-preserved : goal.loop-cell-preserved

@@ -9,7 +9,8 @@ use Rattle.cell_queue.proofs.Indexes.{index_below}
 use Rattle.goal_fields.specs.Target.{flag_at}
 use Rattle.goal_fields.proofs.Neighbours.{cases_cell}
 use Rattle.goal_fields.proofs.EditLemmas.{flag_other, slice_get-set_same}
-use Rattle.goal_fields.proofs.LastLemmas.{flag_read, false≢true_at}
+use Rattle.goal_fields.proofs.LastLemmas.{false≢true_at}
+use Rattle.goal_fields.proofs.CoverLemmas.{flag_read}
 use Rattle.goal_fields.proofs.maps.copy_cell.Goals as goal
 
 pub returns-then-holds-clause-adopting : goal.returns-then-holds-clause-adopting

@@ -1,7 +1,8 @@
 use Rattle.std.specs.Prelude.{slice_index}
 use Rattle.std.proofs.Common.{◌≡◌, ◌<◌, ◌≤◌, length, refl, sym, ap, Some, ◌∙◌, arith}
 use Rattle.goal_fields.specs.Held.{Holding, StandFor, rank_of}
-use Rattle.goal_fields.proofs.HeldLemmas.{IsGap, IsGap-from, HasGoal-gap, HasGoal-at, RiseByGoal-kept, IsKept-insert, IsKept-long, All-insert, SameButGoal-insert, Contains-new}
+use Rattle.goal_fields.proofs.HeldLemmas.{IsGap, IsGap-from, HasGoal-gap, HasGoal-at, RiseByGoal-kept, IsKept-insert, IsKept-long, SameButGoal-insert}
+use Rattle.goal_fields.proofs.ListLemmas.{All-insert, Contains-new}
 use Rattle.goal_fields.proofs.RoomLemmas.{room_stands, HaveRoom-insert, standings-insert, standings-long}
 use Rattle.goal_fields.specs.Standings.{standing_on, standings}
 use Rattle.goal_fields.specs.Target.{IsSound}

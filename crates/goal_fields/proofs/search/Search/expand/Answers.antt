@@ -4,7 +4,8 @@ use Rattle.std.proofs.lemmas.List.{get_or_read}
 use Rattle.grid_cells.specs.Cell.{Point, IsAdjacent}
 use Rattle.goal_fields.specs.Search.{GoesOn, IsMarking, front_of, mark_of}
 use Rattle.goal_fields.specs.Marks.{far}
-use Rattle.goal_fields.proofs.SearchLemmas.{mark_of-front, IsSearch-next, IsReached-later, GoesOn-trans, beside_cases}
+use Rattle.goal_fields.proofs.SearchLemmas.{mark_of-front, IsSearch-next, IsReached-later, GoesOn-trans}
+use Rattle.goal_fields.proofs.Neighbours.{beside_cases}
 use Rattle.goal_fields.proofs.search.Search.expand.Goals as goal
 
 pub mark_up-requires : goal.mark_up-requires

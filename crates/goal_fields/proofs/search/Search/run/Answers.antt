@@ -1,5 +1,5 @@
 use Rattle.goal_fields.specs.Search.{}
-use Rattle.goal_fields.proofs.SearchLemmas.{IsDistance-marked}
+use Rattle.goal_fields.proofs.SearchEnds.{IsDistance-marked}
 use Rattle.goal_fields.proofs.search.Search.run.Goals as goal
 
 pub returns-clause-found : goal.returns-clause-found
