@@ -2,6 +2,7 @@
 mod changes;
 mod comparisons;
 mod conflicts;
+mod cost_times;
 mod edits;
 mod fields;
 mod fleets;

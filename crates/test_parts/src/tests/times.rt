@@ -1,45 +1,44 @@
-//! How long many changes take of 4,096 agents, each with a path of 65 cells, and what a record of the
-//! index takes. The times are printed.
+//! How long many changes take of 4,096 agents, each with a path of 65 cells, in the index and the ledger
+//! of conflicts, and what a record of the index takes. The times are printed.
+use super::walks::plan_of;
 use conflict_ledger::ConflictLedger;
-use cost_ledger::CostLedger;
-use grid_cells::{Agent, Cell, Grid, Step};
-use mapf_rules::Visit;
+use grid_cells::{Agent, Cell};
 use plan_table::{Plan, Track};
 use std::alloc::Global;
 use std::fs;
 use std::process::Abort;
 use std::rt::{Clock, Files};
 use std::time::Instant;
-use test_support::{open_grid, since};
+use test_support::since;
 use where_index::WhereIndex;
 
-fn now(rt: &(impl Abort + Clock)) -> Instant {
+/// The time.
+pub fn now(rt: &(impl Abort + Clock)) -> Instant {
     Instant::now(rt).expect(rt, "the clock")
 }
 
-fn tell(rt: &(impl Abort + Clock + Print), what: &str, began: Instant) {
+/// Prints how long it took, which is less than 30 seconds.
+pub fn tell(rt: &(impl Abort + Clock + Print), what: &str, began: Instant) {
     let took = began.elapsed(rt).expect(rt, "the clock");
     println!(rt; "{what}: {took:?}").expect(rt, "print");
     assert!(rt; took.as_secs() < 30, "{what}");
 }
 
-fn agent(rt: &impl Abort, number: u32) -> Agent {
+/// The agent of that number.
+pub fn agent(rt: &impl Abort, number: u32) -> Agent {
     Agent::new(number).expect(rt, "an agent")
 }
 
-// A path of 65 cells, each a move from the one before: to the right in a row of its own, and downwards
-// after `turn` steps.
-fn lane(rt: &impl Abort, alloc: Global, number: u32, turn: u32) -> Plan {
+/// A path of 65 cells, each a move from the one before: to the right in a row of its own, and downwards
+/// after `turn` steps.
+pub fn lane(rt: &impl Abort, alloc: Global, number: u32, turn: u32) -> Plan {
     let (left, top) = (number / 64 % 64 * 7, number % 64);
     let mut cells = Vec::new(alloc);
     for step in 0..65u32 {
         let cell = Cell::new(left + step.min(turn), top + step.saturating_sub(turn));
         cells.push(cell.expect(rt, "a cell")).expect(rt, "memory");
     }
-    match Plan::new(cells) {
-        Ok(plan) => plan,
-        Err(_) => panic!(rt; "no plan"),
-    }
+    plan_of(rt, cells)
 }
 
 fn stays(plan: &Plan) -> Track<'_> {
@@ -117,99 +116,4 @@ fn swaps_and_revises_in_little_time(rt: HostRuntime) {
     tell(&rt, "10,000 swaps and revises", began);
     assert!(rt; index.touched() == 728_384);
     drop(index);
-}
-
-// The ledger of costs of all agents, each at its goal in the end.
-fn priced(rt: &impl Abort, alloc: Global, grid: &Grid) -> CostLedger {
-    let mut ledger = CostLedger::new(alloc);
-    for number in 0..4_096u32 {
-        let plan = lane(rt, alloc, number, 64);
-        ledger = put(rt, ledger, agent(rt, number), &plan, grid);
-    }
-    ledger
-}
-
-// Takes the agent out, if it is in, and puts it in.
-fn put(
-    rt: &impl Abort,
-    mut ledger: CostLedger,
-    agent: Agent,
-    plan: &Plan,
-    grid: &Grid,
-) -> CostLedger {
-    ledger.take(agent);
-    let goal = plan.at(Step::new(64));
-    ledger.put(agent, goal, plan, grid).expect(rt, "memory")
-}
-
-// Takes agent 0 out and puts it in again.
-fn put_often(rt: &impl Abort, mut ledger: CostLedger, plan: &Plan, grid: &Grid) -> CostLedger {
-    for _ in 0..10_000u32 {
-        ledger = put(rt, ledger, Agent::LEAST, plan, grid);
-    }
-    ledger
-}
-
-// The visits to the cell (10,0), which two of the lanes have.
-fn visits(rt: &impl Abort, alloc: Global, cell: Cell) -> Vec<Visit> {
-    let mut visits = Vec::new(alloc);
-    for (number, time) in [(0, 10), (64, 3)] {
-        let visit = Visit {
-            agent: agent(rt, number),
-            time: Step::new(time),
-            cell,
-        };
-        visits.push(visit).expect(rt, "memory");
-    }
-    visits
-}
-
-// Closes and opens a cell in turn, where the visits to it are known.
-fn flip_often(
-    rt: &impl Abort,
-    alloc: Global,
-    mut ledger: CostLedger,
-    grid: &mut Grid,
-) -> CostLedger {
-    let cell = Cell::new(10, 0).expect(rt, "a cell");
-    let visits = visits(rt, alloc, cell);
-    for turn in 0..10_000u32 {
-        if grid.size().holds(cell) {
-            grid.set(cell, turn % 2 == 1);
-        }
-        ledger = ledger.flip_at(cell, grid, &visits).expect(rt, "memory");
-    }
-    ledger
-}
-
-// Closes a cell, for which the ledger goes along all plans.
-fn flip_once(rt: &impl Abort, ledger: CostLedger, grid: &mut Grid) -> CostLedger {
-    let cell = Cell::new(10, 0).expect(rt, "a cell");
-    if grid.size().holds(cell) {
-        grid.set(cell, false);
-    }
-    ledger.flip(cell, grid).expect(rt, "memory")
-}
-
-#[test]
-fn puts_and_flips_in_little_time(rt: HostRuntime) {
-    let plan = lane(&rt, rt.alloc(), 0, 64);
-    let mut grid = open_grid(rt.alloc(), 512, 64).expect(&rt, "a map");
-    let began = now(&rt);
-    let ledger = priced(&rt, rt.alloc(), &grid);
-    tell(&rt, "4,096 puts of costs", began);
-    let began = now(&rt);
-    let ledger = put_often(&rt, ledger, &plan, &grid);
-    tell(&rt, "10,000 takes and puts of costs", began);
-    let began = now(&rt);
-    let ledger = flip_often(&rt, rt.alloc(), ledger, &mut grid);
-    tell(&rt, "10,000 flips where the visits are known", began);
-    assert!(rt; ledger.sum() == Some(262_144) && ledger.unfinished() == 0);
-    let began = now(&rt);
-    let ledger = flip_once(&rt, ledger, &mut grid);
-    tell(&rt, "a flip along all plans", began);
-    assert!(rt; ledger.visits() == 2);
-    drop(ledger);
-    drop(grid);
-    drop(plan);
 }
