@@ -21,7 +21,8 @@ use Rattle.desk_shared.specs.Numbers.{first_true}
 use Rattle.desk_shared.proofs.Journals.{version_after}
 use Rattle.desk_shared.proofs.Beginnings.{own_of-mine, longer_is}
 use Rattle.desk_shared.proofs.Unused.{at_or, blank}
-use Rattle.desk_shared.proofs.Kept.{desk_or, found, since_next}
+use Rattle.desk_shared.proofs.Kept.{desk_or, found}
+use Rattle.desk_shared.proofs.Turning.{since_next}
 
 pub commits : (k k1 k2 : Known) (e : Entry) (v : ℕ) (d0 d1 : DeskState) → GoesOn (shown k) k1.made → k1 ≡ posed k Holding k1.made → d0 ≡ after k1.start k1.made → Committed d0 e (Ok v) d1
     → e.planner ≡ k.planner → k2 ≡ posed k1 Idle (since k1.start d1) → CommitsBy (shown k) e (Ok v) (shown k2)

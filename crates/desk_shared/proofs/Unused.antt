@@ -1,9 +1,10 @@
--- The numbers that a pass may give away.
-use Rattle.std.proofs.Common.{◌≡◌, ◌⊎◌, inl, inr, ◌||◌, ℕ, zero, suc, ◌<◌, Bool, true, false, true≢false, List, [], ◌∷◌, length, replicate, get_or, refl, sym, ap, ◌∙◌, arith}
+-- The numbers that a pass may give away, and whose they then are.
+use Rattle.std.proofs.Common.{◌≡◌, ◌⊎◌, inl, inr, ◌||◌, ℕ, zero, suc, ◌<◌, Bool, true, false, true≢false, List, [], ◌∷◌, length, replicate, get_or, refl, sym, ap, ◌∙◌, arith, ◌≢◌, eqb, ◌++◌, ⊎_elim, eq-eqb, ne_eqb}
 use mathlib.Core.Option.{some, some-injective, some-ne-none}
 use lib.ListN.{get_elem?}
 use Rattle.desk_shared.specs.Numbers.{first_true}
 use Rattle.desk_shared.specs.Calls.{HasNumbers, either_of}
+use prog.Atomic.{either}
 
 pub at_or : {A : Type 0} (l : List A) (i : ℕ) (a d : A) → get_elem? l i ≡ some a → get_or l i d ≡ a
 at_or [] i a d e = absurd (some-ne-none a (sym e))
@@ -39,3 +40,28 @@ merged [] [] (z ∷ zs) a b h = absurd (omega arith)
 merged (x ∷ xs) [] zs a b h = absurd (omega arith)
 merged (x ∷ xs) (y ∷ ys) [] a b h = absurd (omega arith)
 merged (x ∷ xs) (y ∷ ys) (z ∷ zs) a b h = let head : z ≡ (x || y) = h 0 (omega arith) in let rest = merged xs ys zs (omega arith) (omega arith) (λ u l. h (suc u) (omega arith)) in λ i. head i ∷ rest i
+
+abbrev pub put : (ℕ → ℕ) → ℕ → ℕ → ℕ → ℕ
+put f q x u = either (eqb u q) x (f u)
+
+pub put_here : (f : ℕ → ℕ) (q x : ℕ) → put f q x q ≡ x
+put_here f q x = ap (λ (b : Bool). either b x (f q)) (eq-eqb q q refl)
+
+pub put_else : (f : ℕ → ℕ) (q x u : ℕ) → u ≢ q → put f q x u ≡ f u
+put_else f q x u other = ap (λ (b : Bool). either b x (f u)) (ne_eqb u q other)
+
+-- what the seat `from` had is the seat `to`'s
+abbrev pub moved : (ℕ → ℕ) → ℕ → ℕ → ℕ → ℕ
+moved f from to u = either (eqb (f u) from) to (f u)
+
+pub moved_here : (f : ℕ → ℕ) (from to u : ℕ) → f u ≡ from → moved f from to u ≡ to
+moved_here f from to u is = ap (λ (b : Bool). either b to (f u)) (eq-eqb (f u) from is)
+
+pub moved_else : (f : ℕ → ℕ) (from to u : ℕ) → f u ≢ from → moved f from to u ≡ f u
+moved_else f from to u other = ap (λ (b : Bool). either b to (f u)) (ne_eqb (f u) from other)
+
+pub at_end : {A : Type 0} (l : List A) (a b : A) (j : ℕ) → get_elem? (l ++ a ∷ []) j ≡ some b → (get_elem? l j ≡ some b) ⊎ ((a ≡ b) × (j ≡ length l))
+at_end [] a b zero e = inr (some-injective a b e, refl)
+at_end [] a b (suc j) e = absurd (some-ne-none b (sym e))
+at_end (x ∷ xs) a b zero e = inl e
+at_end (x ∷ xs) a b (suc j) e = ⊎_elim (λ t. inl t) (λ t. inr (t.0, ap suc t.1)) (at_end xs a b j e)

@@ -1,16 +1,15 @@
 -- Steps on the views of passes keep the rule of the table.
 use Rattle.std.specs.Prelude.{All}
 use Rattle.std.proofs.lemmas.List.Elements.{All-nil, All-cons, All-append, All-weaker}
-use Rattle.std.proofs.Common.{◌≡◌, ◌≢◌, ◌⊎◌, inl, inr, ℕ, zero, suc, ◌<◌, eqb, Bool, true, false, true≢false, List, [], ◌∷◌, ◌++◌, length, get_or, set, refl, sym, ap, ◌∙◌, subst, ⊎_elim, arith, Option, length-set, get_or-set_other, eq-eqb, ne_eqb}
+use Rattle.std.proofs.Common.{◌≡◌, ◌≢◌, ℕ, zero, suc, ◌<◌, Bool, true, false, true≢false, List, [], ◌∷◌, ◌++◌, length, get_or, set, refl, sym, ap, ◌∙◌, subst, ⊎_elim, arith, Option, length-set, get_or-set_other}
 use Rattle.std.proofs.lemmas.Bool.Decides.{nat_tests}
 use Rattle.std.proofs.lemmas.Grind.{common_steps}
 use Rattle.std.proofs.lemmas.Option.{gets}
 use mathlib.Core.Logic.{dite}
-use mathlib.Core.Option.{none, some, some-injective, some-ne-none}
+use mathlib.Core.Option.{none, some}
 use native.Mathlib.Decide.{ℕ_discrete}
 use lib.ListN.{get_elem?}
 use lib.Seq.{set-get_or}
-use prog.Atomic.{either}
 use Rattle.atomic_table.specs.Table.{State, step, keeps, Allows, Splits, Joins}
 use Rattle.atomic_table.proofs.Lists.{set_else, at_longer}
 use Rattle.desk_core.specs.Entries.{Entry}
@@ -21,33 +20,8 @@ use Rattle.desk_shared.specs.Passes.{own_of, version_at, MayGive, AreOfPlanners,
 use Rattle.desk_shared.specs.Turns.{shown, Stands, IsPast, Live, IsBusy, IsWithin, Ruled, posed, floored, fronted, asided, joined, giver, given, both, nobody}
 use Rattle.desk_shared.specs.Numbers.{first_true}
 use Rattle.desk_shared.proofs.Beginnings.{prefix_longer, own_none, own_between, All-prefix}
-use Rattle.desk_shared.proofs.Unused.{either_at, blank}
+use Rattle.desk_shared.proofs.Unused.{either_at, blank, put, put_here, put_else, moved, moved_here, moved_else, at_end}
 use Rattle.desk_shared.proofs.Kept.{Carried, Stays, turn_of, each_stays, held_on, unmoved, found, live_staged, renewed}
-
-abbrev put : (ℕ → ℕ) → ℕ → ℕ → ℕ → ℕ
-put f q x u = either (eqb u q) x (f u)
-
-put_here : (f : ℕ → ℕ) (q x : ℕ) → put f q x q ≡ x
-put_here f q x = ap (λ (b : Bool). either b x (f q)) (eq-eqb q q refl)
-
-put_else : (f : ℕ → ℕ) (q x u : ℕ) → u ≢ q → put f q x u ≡ f u
-put_else f q x u other = ap (λ (b : Bool). either b x (f u)) (ne_eqb u q other)
-
--- what the seat `from` had is the seat `to`'s
-abbrev moved : (ℕ → ℕ) → ℕ → ℕ → ℕ → ℕ
-moved f from to u = either (eqb (f u) from) to (f u)
-
-moved_here : (f : ℕ → ℕ) (from to u : ℕ) → f u ≡ from → moved f from to u ≡ to
-moved_here f from to u is = ap (λ (b : Bool). either b to (f u)) (eq-eqb (f u) from is)
-
-moved_else : (f : ℕ → ℕ) (from to u : ℕ) → f u ≢ from → moved f from to u ≡ f u
-moved_else f from to u other = ap (λ (b : Bool). either b to (f u)) (ne_eqb (f u) from other)
-
-at_end : {A : Type 0} (l : List A) (a b : A) (j : ℕ) → get_elem? (l ++ a ∷ []) j ≡ some b → (get_elem? l j ≡ some b) ⊎ ((a ≡ b) × (j ≡ length l))
-at_end [] a b zero e = inr (some-injective a b e, refl)
-at_end [] a b (suc j) e = absurd (some-ne-none b (sym e))
-at_end (x ∷ xs) a b zero e = inl e
-at_end (x ∷ xs) a b (suc j) e = ⊎_elim (λ t. inl t) (λ t. inr (t.0, ap suc t.1)) (at_end xs a b j e)
 
 -- the same pass, where its numbers stay its own
 live_owned : (start : DeskState) (planners : ℕ) (log : List Entry) (owner owner' : ℕ → ℕ) (seat : ℕ) (k : Known) → ((u : ℕ) → owner u ≡ seat → owner' u ≡ seat) → Live start planners log owner seat k → Live start planners log owner' seat k

@@ -1,6 +1,6 @@
 use Rattle.std.proofs.Common.{rules, ◌∷◌, ◌∙◌, Some}
 use Rattle.atomic_table.specs.Table.{rest}
-use Rattle.desk_shared.proofs.Kept.{frees}
+use Rattle.desk_shared.proofs.Turning.{frees}
 use Rattle.desk_shared.proofs.steps.free.Goals as goal
 
 pub store-requires : goal.store-requires

@@ -2,7 +2,7 @@ use Rattle.std.proofs.Common.{rules, ◌∷◌, ap, ◌∙◌, refl, Some}
 use Rattle.atomic_table.specs.Table.{rest}
 use Rattle.desk_shared.specs.Turns.{posed, since}
 use Rattle.desk_shared.specs.declared.board.Stage.TheVariants.{Holding}
-use Rattle.desk_shared.proofs.Kept.{grows, frees, next_at}
+use Rattle.desk_shared.proofs.Turning.{grows, frees, next_at}
 use Rattle.desk_shared.proofs.steps.grow.Goals as goal
 
 pub fetch_add-requires : goal.fetch_add-requires

@@ -1,5 +1,5 @@
 use Rattle.std.proofs.Common.{rules}
-use Rattle.desk_shared.proofs.Kept.{reaches}
+use Rattle.desk_shared.proofs.Turning.{reaches}
 use Rattle.desk_shared.proofs.steps.reach.Goals as goal
 
 pub load-requires : goal.load-requires

@@ -1,5 +1,5 @@
 use Rattle.std.proofs.Common.{rules, refl, ap, ◌∙◌}
-use Rattle.desk_shared.proofs.Kept.{wins, carries}
+use Rattle.desk_shared.proofs.Turning.{wins, carries}
 use Rattle.desk_shared.proofs.steps.win.Goals as goal
 
 pub compare_exchange-requires : goal.compare_exchange-requires
