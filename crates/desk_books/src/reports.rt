@@ -10,7 +10,7 @@ ghost use Rattle.desk_books.specs.Rows.{HavePathsOn};
 
 use crate::lines::Lines;
 use crate::told_lines::told_lines;
-use crate::totals::sums;
+use crate::totals::{sum_of_bounds, sum_of_gaps};
 use cost_ledger::CostLedger;
 use desk_report::Report;
 use grid_cells::{List, MOST_AGENT, OutOfMemory};
@@ -40,7 +40,8 @@ pub fn quick_report(
 {
     let visits = costs.blocked_visits()?;
     let lines = told_lines(alloc, lines.items(), visits.items())?;
-    let (bounds, total_gap) = sums(&lines);
+    let bounds = sum_of_bounds(&lines);
+    let total_gap = sum_of_gaps(&lines);
     Ok(Report {
         conflicts,
         visits,

@@ -35,6 +35,23 @@ pub fn told_lines(
         → AreBlockedIn grid rows visits.now → AreOpenLines grid rows lines.now → AreLines grid rows told.items) }
     ensures each { IfOk result (λ told. length told.items ≡ length lines.now) }
 {
+    if visits.is_empty() {
+        Ok(Vec::from_slice(alloc, lines)?)
+    } else {
+        marked(alloc, lines, visits)
+    }
+}
+
+// The same, agent by agent.
+fn marked(
+    alloc: Global,
+    lines: &[AgentLine],
+    visits: &[Visit],
+) -> Result<Vec<AgentLine>, OutOfMemory>
+    ensures lines { IfOk result (λ told. (grid : Chart) (rows : List (ℕ × Row))
+        → AreBlockedIn grid rows visits.now → AreOpenLines grid rows lines.now → AreLines grid rows told.items) }
+    ensures each { IfOk result (λ told. length told.items ≡ length lines.now) }
+{
     let mut all = Vec::with_capacity(alloc, lines.len())?;
     let mut next = 0;
     for line in lines {

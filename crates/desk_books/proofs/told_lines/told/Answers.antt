@@ -6,7 +6,7 @@ use Rattle.desk_books.proofs.Telling.{line_told}
 use Rattle.desk_books.proofs.told_lines.told.Goals as goal
 
 pub returns-then-unblocked : goal.returns-then-unblocked
-returns-then-unblocked c = λ grid entry is on means. line_told grid entry c.args.line on (means.0 c.if-unblocked.true) is
+returns-then-unblocked c = λ grid entry is on means. line_told grid entry c.args.line (on, means.0 c.if-unblocked.true) is
 
 pub returns-else-unblocked : goal.returns-else-unblocked
 returns-else-unblocked c = grind (arith, nat_tests, common_steps, gets)

@@ -4,7 +4,7 @@ use Rattle.plan_table.specs.declared.plans.Row.{Row}
 use Rattle.desk_report.specs.Report.{AreLines}
 use Rattle.desk_books.specs.Lines.{AreOpenLines, AreBlockedIn}
 use Rattle.desk_books.proofs.Blocking.{Passed}
-use Rattle.desk_books.proofs.told_lines.told_lines.Given as goal
+use Rattle.desk_books.proofs.told_lines.marked.Given as goal
 
 abbrev pub invariant-loop-line : goal.invariant-loop-line
 invariant-loop-line l = record {
