@@ -1,5 +1,5 @@
-//! Tests of desks, shared desks, sessions and audits by calls: worked examples, ample memory and too
-//! little, several planners, threads, and random commits beside plain programs.
+//! Tests of desks, shared desks, sessions, journals, audits and runs by calls: worked examples, ample
+//! memory and too little, several planners, threads, and random commits beside plain programs.
 #![tactic(auto)]
 
 #[cfg(test)]

@@ -19,7 +19,7 @@ pub enum Ask {
 }
 
 /// What a commit is about.
-#[derive(Clone, Copy, Debug, PartialEq, Eq)]
+#[derive(Clone, Copy, PartialEq, Eq)]
 pub enum About {
     Agent(u32),
     Cell(u32, u32),
@@ -27,7 +27,7 @@ pub enum About {
 }
 
 /// An answer, in short.
-#[derive(Clone, Copy, Debug, PartialEq, Eq)]
+#[derive(Clone, Copy, PartialEq, Eq)]
 pub enum Told {
     Done(u64),
     Full(u32),

@@ -57,7 +57,7 @@ fn run(
 /// The answers are those that the row gives.
 pub fn are_wanted(rt: &impl Abort, row: &Row, answers: &Answers) {
     for (number, line) in row.calls.iter().enumerate().take(8) {
-        assert_eq!(rt; answers[number], line.1, "call {number}");
+        assert!(rt; answers[number] == line.1, "call {number}");
     }
 }
 
@@ -83,7 +83,7 @@ pub fn are_refused(
     let without = run(rt, alloc, drought, row, &skipped, AMPLE);
     for number in 0..8 {
         if !skipped[number] {
-            assert_eq!(rt; answers[number], without[number], "call {number}");
+            assert!(rt; answers[number] == without[number], "call {number}");
         }
     }
     true

@@ -5,8 +5,8 @@ use test_support::scene;
 fn workers_out_of_range(rt: HostRuntime) {
     let alloc = rt.alloc();
     let scene = scene(alloc, 1, 1, &[]).expect(&rt, "a scene");
-    for workers in [0, 65] {
-        let fault = audit(&rt, alloc, &scene, workers, &NoGate).err();
+    for workers in &[0, 65] {
+        let fault = audit(&rt, alloc, &scene, *workers, &NoGate).err();
         assert!(rt; fault == Some(AuditFault::BadWorkers));
     }
 }

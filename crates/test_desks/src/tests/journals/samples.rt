@@ -1,7 +1,8 @@
 //! Journals and their texts.
+use super::super::build::{agent, cell, planner};
 use desk_core::{Commit, Edit, Thing};
 use desk_session::Journal;
-use grid_cells::{Agent, Cell, List, Planner, Step};
+use grid_cells::{Cell, List, Step};
 use plan_table::Mode;
 use std::alloc::Global;
 use std::process::Abort;
@@ -15,14 +16,6 @@ pub const SECOND: &str = "journal 2\nmode stay\nentry 1 0 0 1\npath 3 0,0 1,0\ne
 /// Two entries with all seven edits and all three watches.
 pub const ALL: &str =
     "journal 2\nmode disappear\nentry 0 0 0 7\nagent 65535 0,0 2047,2047\ndrop 7\ngoal 7 5,6\npath 7 5,6 5,6\ntail 7 4294967295\nopen 1,2\nclose 2,1\nentry 255 18446744073709551615 3 1\nwatch agent 12\nwatch cell 3,4\nwatch map\ntail 7 10 9,9 9,9\nend 2\n";
-
-fn agent(rt: &impl Abort, number: u32) -> Agent {
-    Agent::new(number).expect(rt, "an agent's number")
-}
-
-fn cell(rt: &impl Abort, x: u32, y: u32) -> Cell {
-    Cell::new(x, y).expect(rt, "a cell")
-}
 
 fn cells(rt: &impl Abort, alloc: Global, path: &[(u32, u32)]) -> List<Cell> {
     List::new(cells_at(alloc, path).expect(rt, "cells"))
@@ -82,16 +75,15 @@ fn watches(rt: &impl Abort, alloc: Global) -> Vec<Thing> {
 fn commit(
     rt: &impl Abort,
     alloc: Global,
-    (planner, base): (u32, u64),
+    (number, base): (u32, u64),
     watch: Vec<Thing>,
     numbers: &[u32],
 ) -> Commit {
-    let planner = Planner::new(planner).expect(rt, "a planner");
     let mut edits = Vec::new(alloc);
     for number in numbers {
         edits.push(edit(rt, alloc, *number)).expect(rt, "memory");
     }
-    match Commit::new(planner, base, watch, edits) {
+    match Commit::new(planner(rt, number), base, watch, edits) {
         Ok(commit) => commit,
         Err(_) => panic!(rt; "a commit"),
     }

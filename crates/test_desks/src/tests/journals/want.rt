@@ -1,4 +1,5 @@
 //! Journals read and upgraded with too little memory.
+use super::super::build::drought;
 use super::samples::{FIRST, SECOND, one};
 use desk_session::{Journal, JournalFault, read_journal, upgrade_journal};
 use std::alloc::Global;
@@ -61,13 +62,14 @@ fn is_done(
 #[test]
 fn journals_read_and_upgraded(rt: HostRuntime) {
     let alloc = rt.alloc();
-    let mut drought = Drought::begin(alloc).expect(&rt, "memory");
-    for (text, upgrades) in [
+    let mut drought = drought(&rt, alloc);
+    for (text, upgrades) in &[
         (FIRST, false),
         (FIRST, true),
         (SECOND, false),
         (SECOND, true),
     ] {
+        let upgrades = *upgrades;
         assert!(rt; !is_done(&rt, alloc, &mut drought, text, upgrades, 0));
         let mut done = false;
         for step in 0..1_000 {

@@ -1,7 +1,8 @@
 //! Drills while memory comes back block by block.
-use crate::tests::drills::{drilled, texts};
+use crate::tests::over_files::drills::{drilled, texts};
 use desk_runs::RunFault;
 use std::alloc::Global;
+use std::mem;
 use std::process::Abort;
 use std::sync::Wait;
 use std::thread::Threads;
@@ -24,31 +25,33 @@ fn is_ample(alloc: Global) -> bool {
 }
 
 // How a drill of two scripts ended: the text that it wrote, if it did, and how many scripts began.
-#[derive(Clone, Copy, Debug)]
+#[derive(Clone, Copy)]
 struct Ended {
     text: Option<usize>,
     begun: u64,
 }
 
-// Runs the drill. The room comes back empty.
+// Runs the drill, whose writer has the room. It comes back empty.
 fn end_of<R: Threads + Wait + Sync + Abort>(
     rt: &R,
     alloc: Global,
     scripts: Vec<Vec<u8>>,
-    room: Vec<u8>,
-) -> (Ended, Vec<u8>) {
+    room: &mut Vec<u8>,
+) -> Ended {
     let gate = Turnstile::new();
-    let (ended, mut written) = drilled(rt, alloc, scripts, &gate, room);
+    let given = mem::replace(room, Vec::new(alloc));
+    let (ended, mut written) = drilled(rt, alloc, scripts, &gate, given);
     let begun = gate.begun();
-    let place = TEXTS
+    let text = TEXTS
         .iter()
         .position(|text| text.as_bytes() == written.as_slice());
     match ended {
         Err(fault) => assert!(rt; fault == RunFault::OutOfMemory && written.is_empty()),
-        Ok(same) => assert!(rt; same && begun == 2 && place.is_some()),
+        Ok(same) => assert!(rt; same && begun == 2 && text.is_some()),
     }
     written.clear();
-    (Ended { text: place, begun }, written)
+    *room = written;
+    Ended { text, begun }
 }
 
 // As many lists of the two scripts as there may be drills.
@@ -61,32 +64,40 @@ fn scripts(rt: &impl Abort, alloc: Global) -> Vec<Vec<Vec<u8>>> {
     all
 }
 
-// After the first drill that has both agents no more blocks are held. The drills before it have
-// found no memory; at some of them no thread could be started, and at some one of two, though there
-// was memory for all growths.
-#[test]
-fn drill_of_two_scripts(rt: HostRuntime) {
-    let alloc = rt.alloc();
-    let mut room: Vec<u8> = Vec::with_capacity(alloc, 2_000).expect(&rt, "memory");
-    let all = scripts(&rt, alloc);
-    let mut blocks: Vec<Vec<u8>> = Vec::with_capacity(alloc, 1_000_000).expect(&rt, "memory");
-    take_all(alloc, &mut blocks);
+// Drills, with one more block given back each time, until one has both agents. Tells at how many begun
+// scripts a thread couldn't be started, though there was memory for all growths.
+fn unstarted<R: Threads + Wait + Sync + Abort>(
+    rt: &R,
+    alloc: Global,
+    all: &mut Vec<Vec<Vec<u8>>>,
+    room: &mut Vec<u8>,
+    blocks: &mut Vec<Vec<u8>>,
+) -> [bool; 3] {
     let mut unstarted = [false; 3];
-    for scripts in all {
+    for _ in 0..1_000 {
+        let scripts = all.pop().expect(rt, "two scripts");
         let ample = is_ample(alloc);
-        let (ended, back) = end_of(&rt, alloc, scripts, room);
-        room = back;
-        match ended {
-            Ended { text: Some(0), .. } => {
-                drop(blocks);
-                println!(rt; "unstarted {unstarted:?}").expect(&rt, "print");
-                assert!(rt; unstarted[0]);
-                return;
-            }
+        match end_of(rt, alloc, scripts, room) {
+            Ended { text: Some(0), .. } => return unstarted,
             Ended { text: None, begun } if ample && begun < 3 => unstarted[begun as usize] = true,
             Ended { .. } => {}
         }
         let _block = blocks.pop();
     }
     panic!(rt; "no drill had both agents");
+}
+
+// The drills before the first one that has both agents have found no memory; at some of them no thread
+// could be started, and at some one of two.
+#[test]
+fn drill_of_two_scripts(rt: HostRuntime) {
+    let alloc = rt.alloc();
+    let mut room: Vec<u8> = Vec::with_capacity(alloc, 2_000).expect(&rt, "memory");
+    let mut all = scripts(&rt, alloc);
+    let mut blocks: Vec<Vec<u8>> = Vec::with_capacity(alloc, 1_000_000).expect(&rt, "memory");
+    take_all(alloc, &mut blocks);
+    let unstarted = unstarted(&rt, alloc, &mut all, &mut room, &mut blocks);
+    drop(blocks);
+    println!(rt; "unstarted {unstarted:?}").expect(&rt, "print");
+    assert!(rt; unstarted[0]);
 }

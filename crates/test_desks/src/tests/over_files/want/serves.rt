@@ -1,5 +1,5 @@
 //! Sessions over files, with 16 bytes more each time until nothing is refused.
-use crate::tests::worked::{MAP, RESTING, SCEN};
+use crate::tests::over_files::worked::{MAP, RESTING, SCEN};
 use desk_core::Limit;
 use desk_report::{Spout, Tap};
 use desk_runs::{RunFault, run_serve};

@@ -1,5 +1,5 @@
 //! Audits of files with too little memory, and with none for threads.
-use crate::tests::worked::{MAP, SCEN};
+use crate::tests::over_files::worked::{MAP, SCEN};
 use desk_report::Spout;
 use desk_runs::{RunFault, run_audit};
 use plan_table::Mode;

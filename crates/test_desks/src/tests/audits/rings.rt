@@ -5,6 +5,7 @@ use desk_core::Scene;
 use desk_report::Report;
 use std::alloc::Global;
 use std::process::Abort;
+use std::sync::atomic::{AtomicU64, Ordering};
 use std::sync::{Mutex, Wait};
 use std::thread::Threads;
 use test_droughts::take_all;
@@ -54,42 +55,51 @@ fn is_ample(alloc: Global) -> bool {
     block.is_ok()
 }
 
-// Audits the ring again and again, with one more block given back each time, until it is told. Growths
-// are refused, and starts of threads though there is memory for all growths.
-fn told_at_last<R: Threads + Wait + Abort>(rt: &R, alloc: Global, scene: &Scene, workers: u32) {
+// Audits the ring again and again, with one more block given back each time, until it is told. Tells how
+// many growths were refused, and how many starts of threads though there was memory for all growths.
+fn refused_until_told<R: Threads + Wait + Abort>(
+    rt: &R,
+    alloc: Global,
+    scene: &Scene,
+    workers: u32,
+    blocks: &mut Vec<Vec<u8>>,
+) -> (u32, u32, Report) {
     let (mut growths, mut starts) = (0u32, 0u32);
-    let mut blocks = blocks(rt, alloc);
-    take_all(alloc, &mut blocks);
     for _ in 0..10_000 {
         let ample = is_ample(alloc);
         let (answer, begun) = audited(rt, alloc, scene, workers);
         match answer {
-            Err(fault) => {
-                assert!(rt; fault == AuditFault::OutOfMemory);
-                if ample && begun < u64::from(workers) {
-                    starts = starts.saturating_add(1);
-                } else {
-                    growths = growths.saturating_add(1);
-                }
-            }
             Ok(report) => {
-                drop(blocks);
-                assert!(rt; begun == u64::from(workers) && growths > 0 && starts > 0);
-                is_ring(rt, alloc, &report);
-                drop(report);
-                return;
+                assert!(rt; begun == u64::from(workers));
+                return (growths, starts, report);
             }
+            Err(fault) => assert!(rt; fault == AuditFault::OutOfMemory),
+        }
+        if ample && begun < u64::from(workers) {
+            starts = starts.saturating_add(1);
+        } else {
+            growths = growths.saturating_add(1);
         }
         let _block = blocks.pop();
     }
     panic!(rt; "no report");
 }
 
+fn told_at_last<R: Threads + Wait + Abort>(rt: &R, alloc: Global, scene: &Scene, workers: u32) {
+    let mut blocks = blocks(rt, alloc);
+    take_all(alloc, &mut blocks);
+    let (growths, starts, report) = refused_until_told(rt, alloc, scene, workers, &mut blocks);
+    drop(blocks);
+    assert!(rt; growths > 0 && starts > 0);
+    is_ring(rt, alloc, &report);
+    drop(report);
+}
+
 // Piece 0 takes all memory as it begins, and gives so many of the blocks back, the last ones first.
 #[derive(Drop)]
 struct Thirst {
     alloc: Global,
-    back: usize,
+    back: AtomicU64,
     blocks: Mutex<Vec<Vec<u8>>>,
 }
 
@@ -100,40 +110,63 @@ impl Gate for Thirst {
         }
         if let Some(mut blocks) = self.blocks.try_lock() {
             take_all(self.alloc, &mut blocks);
-            let held = blocks.len().saturating_sub(self.back);
+            let back = self.back.load(Ordering::SeqCst) as usize;
+            let held = blocks.len().saturating_sub(back);
             blocks.truncate(held);
+        }
+    }
+}
+
+impl Thirst {
+    // All blocks come back. Tells whether there were some.
+    fn relieve(&self) -> bool {
+        match self.blocks.try_lock() {
+            Some(mut blocks) => {
+                let held = !blocks.is_empty();
+                blocks.clear();
+                held
+            }
+            None => false,
+        }
+    }
+}
+
+// Whether an audit by so many workers is refused, where so many blocks come back.
+fn is_refused<R: Threads + Wait + Abort>(
+    rt: &R,
+    scene: &Scene,
+    workers: u32,
+    thirst: &Thirst,
+    back: u64,
+) -> bool {
+    thirst.back.store(back, Ordering::SeqCst);
+    let answer = audit(rt, thirst.alloc, scene, workers, thirst);
+    assert!(rt; thirst.relieve(), "piece 0 has begun");
+    match answer {
+        Err(fault) => {
+            assert!(rt; fault == AuditFault::OutOfMemory);
+            true
+        }
+        Ok(report) => {
+            is_ring(rt, thirst.alloc, &report);
+            drop(report);
+            false
         }
     }
 }
 
 // How often an audit by so many workers is refused, with one more block given back each time until
 // it isn't.
-fn refusals<R: Threads + Wait + Abort>(
-    rt: &R,
-    alloc: Global,
-    scene: &Scene,
-    workers: u32,
-) -> usize {
-    let mut blocks = blocks(rt, alloc);
+fn refusals<R: Threads + Wait + Abort>(rt: &R, alloc: Global, scene: &Scene, workers: u32) -> u64 {
+    let thirst = Thirst {
+        alloc,
+        back: AtomicU64::new(0),
+        blocks: Mutex::new(blocks(rt, alloc)),
+    };
     for back in 0..100 {
-        let gate = Thirst {
-            alloc,
-            back,
-            blocks: Mutex::new(blocks),
-        };
-        let answer = audit(rt, alloc, scene, workers, &gate);
-        let Thirst { blocks: taken, .. } = gate;
-        blocks = taken.into_inner();
-        assert!(rt; !blocks.is_empty(), "piece 0 has begun");
-        blocks.clear();
-        match answer {
-            Err(fault) => assert!(rt; fault == AuditFault::OutOfMemory),
-            Ok(report) => {
-                is_ring(rt, alloc, &report);
-                drop(report);
-                drop(blocks);
-                return back;
-            }
+        if !is_refused(rt, scene, workers, &thirst, back) {
+            drop(thirst);
+            return back;
         }
     }
     panic!(rt; "no report");
@@ -143,7 +176,8 @@ fn refusals<R: Threads + Wait + Abort>(
 fn ring_of_four_by_one_and_by_four(rt: HostRuntime) {
     let alloc = rt.alloc();
     let scene = scene(alloc, 2, 2, RING_OF_FOUR).expect(&rt, "a scene");
-    for workers in [1, 4] {
+    for workers in &[1, 4] {
+        let workers = *workers;
         told_at_last(&rt, alloc, &scene, workers);
         assert!(rt; refusals(&rt, alloc, &scene, workers) > 0);
     }

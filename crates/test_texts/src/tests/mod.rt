@@ -1,4 +1,0 @@
-mod journals;
-mod readers;
-mod samples;
-mod wants;
