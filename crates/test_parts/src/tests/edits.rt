@@ -1,5 +1,6 @@
 //! What single edits change.
-use scene_edits::{Change, Scene};
+use grid_cells::{Agent, Cell, List};
+use scene_edits::{Change, Edit, Scene};
 use std::alloc::Global;
 use std::process::Abort;
 use test_support::{edit, scene};
@@ -22,6 +23,20 @@ fn tells(rt: &impl Abort, alloc: Global, scene: &mut Scene, line: &str, wanted: 
     }
 }
 
+// Whether agent 0 gets a path of so many cells, all where it starts, and is nowhere else than before.
+fn rests(rt: &impl Abort, alloc: Global, scene: &mut Scene, many: usize) -> bool {
+    let start = Cell::new(0, 0).expect(rt, "a cell");
+    let cells = List::new(vec![in alloc; start; many].expect(rt, "memory"));
+    let edit = Edit::Path {
+        agent: Agent::LEAST,
+        cells,
+    };
+    match scene.apply(&edit) {
+        Ok(change) => told(&change) == "nowhere else",
+        Err(_) => false,
+    }
+}
+
 #[test]
 fn flips_and_rests(rt: HostRuntime) {
     let alloc = rt.alloc();
@@ -35,5 +50,6 @@ fn flips_and_rests(rt: HostRuntime) {
     ] {
         assert!(rt; tells(&rt, alloc, &mut scene, line, wanted), "{line}");
     }
+    assert!(rt; rests(&rt, alloc, &mut scene, 65_537));
     drop(scene);
 }
