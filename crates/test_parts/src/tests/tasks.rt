@@ -28,6 +28,7 @@ fn faults_of_tasks(rt: HostRuntime) {
     let tasks = vec![in alloc; task; 8_193].expect(&rt, "memory");
     for (height, have, many, fault) in [
         (2, 1, 2, TaskFault::TooFewTasks { have: 1 }),
+        (2, 1, 8_193, TaskFault::TooFewTasks { have: 1 }),
         (2, 8_193, 8_193, TaskFault::TooManyAgents),
         (1, 1, 1, TaskFault::OutOfMap { task: 0 }),
     ] {
