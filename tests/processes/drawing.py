@@ -3,7 +3,7 @@ import random
 
 from .fleets import Fleet
 from .pictures import SVG, are_marked, drawn, group, reported, routes, title
-from .running import TOP, Wrong, bytes_of, is_fault, processor_time, put, remove, run, second, want
+from .running import TOP, Wrong, bytes_of, is_answered, is_fault, processor_time, put, remove, run, second, want
 
 DEMO = f"{TOP}/demo"
 MOST_SECONDS = 4  # of four processors together
@@ -146,7 +146,29 @@ def pictures_of_docs():
         want(name, run(["draw", *words.split()])[1], bytes_of(f"{TOP}/docs/{name}.svg").decode())
 
 
+# Worked pictures: a map, edits, other words, and the file that has the whole text.
+SCENES = f"{TOP}/tests/pictures"
+WHOLE = [
+    (f"{DEMO}/corridor.map", "meeting", "", f"{TOP}/docs/corridor-before.svg"),
+    (f"{DEMO}/corridor.map", "meeting", "--at 3", f"{SCENES}/meeting-at-3.svg"),
+    (f"{DEMO}/corridor.map", "solved", "", f"{TOP}/docs/corridor-after.svg"),
+    (f"{SCENES}/yard.map", "yard", "", f"{SCENES}/yard.svg"),
+    (f"{SCENES}/yard.map", "yard", "--at 1", f"{SCENES}/yard-at-1.svg"),
+    (f"{SCENES}/yard.map", "yard", "--mode disappear --at 6", f"{SCENES}/yard-left-at-6.svg"),
+]
+
+
+def is_whole(ground, scene, words, file):
+    """The journal of these edits is drawn as the file has it."""
+    mode, edits = "disappear" if "disappear" in words else "stay", bytes_of(f"{SCENES}/{scene}.edits")
+    put("edits", b"journal 2\nmode %s\nentry 0 0 0 %d\n%send 1\n" % (mode.encode(), edits.count(b"\n"), edits))
+    is_answered(["draw", "--map", ground, "--journal", "edits", *words.split()], b"", bytes_of(file).decode())
+    remove("edits")
+
+
 def tests():
+    for row in WHOLE:
+        yield f"draw_{row[1]} {row[2]}".rstrip(), lambda row=row: is_whole(*row)
     for test in (faults, full_device, forms_of_paths, agents_of_a_scenario, some_agents, large_map, pictures_of_docs):
         yield f"draw_{test.__name__}", test
     # With a fifth of the cells closed there are 39,511 blocked visits, and on the smallest map 29,382 entries, each with its mark.
