@@ -1,8 +1,7 @@
 #!/usr/bin/env python3
 """Writes the maps and scenarios of this folder, in the text forms of the MovingAI benchmarks, and paths in the warehouse.
 
-The same files go to crates/demo_maps/data, where the gate reads them. The corridor's map, session and
-answers are written by hand; they are copied to crates/mapf_desk, whose run in the gate they are.
+The corridor's map, session and answers are written by hand; they are copied to crates/mapf_desk, whose run in the gate they are.
 
 Each run writes the same files: the generator below has a fixed seed and uses integers alone.
 A scenario's tasks have distinct starts and distinct goals, and each goal can be reached. The
@@ -95,31 +94,28 @@ def shortest(rows, start, goal):
     return cells
 
 
-def write_lines(folders, name, lines):
-    for folder in folders:
-        (folder / name).write_text("".join(line + "\n" for line in lines))
+def write_lines(name, lines):
+    (Path(__file__).resolve().parent / name).write_text("".join(line + "\n" for line in lines))
 
 
 def write(name, rows, numbers):
-    demo = Path(__file__).resolve().parent
-    folders = [demo, demo.parent / "crates" / "demo_maps" / "data"]
     width, height = len(rows[0]), len(rows)
     lines = ["type octile", f"height {height}", f"width {width}", "map"]
     lines += ["".join(row) for row in rows]
-    write_lines(folders, f"{name}.map", lines)
+    write_lines(f"{name}.map", lines)
     lines = ["version 1"]
     chosen = tasks(rows, numbers)
     for (x, y), (goal_x, goal_y), length in chosen:
         fields = [length // 4, f"{name}.map", width, height, x, y, goal_x, goal_y, f"{length}.00000000"]
         lines.append("\t".join(str(field) for field in fields))
-    write_lines(folders, f"{name}.scen", lines)
+    write_lines(f"{name}.scen", lines)
     return chosen
 
 
 def write_alone(name, rows, chosen):
     paths = [shortest(rows, start, goal) for start, goal, _ in chosen[:ALONE]]
     lines = [f"path {agent} " + " ".join(f"{x},{y}" for x, y in cells) for agent, cells in enumerate(paths)]
-    write_lines([Path(__file__).resolve().parent], f"{name}.alone", lines)
+    write_lines(f"{name}.alone", lines)
 
 
 def copy_corridor():

@@ -4,7 +4,7 @@ import signal
 import subprocess
 import sys
 
-from .running import PATIENCE, Program, TOP, Wrong, bytes_of, is_answered, run, want
+from .running import PATIENCE, Program, TOP, Wrong, bytes_of, is_answered, is_fault, run, want
 
 DEMO = f"{TOP}/demo"
 
@@ -61,6 +61,25 @@ def demo_audit():
     want("how many lines it has", audited[1].count("\nagent "), 100)
 
 
+# Columns and rows of the maps, each of which has a scenario of so many tasks.
+SIZES = {"open": (32, 32), "warehouse": (52, 35), "random": (48, 48)}
+TASKS = 120
+
+
+def demo_maps():
+    """Each map has its size, and its scenario as many tasks, each between open cells; the least ways are as long as the scenario says."""
+    for name, (columns, rows) in SIZES.items():
+        words = ["serve", "--map", f"{DEMO}/{name}.map", "--scen", f"{DEMO}/{name}.scen", "--agents"]
+        status, said, complained = run([*words, str(TASKS)], f"open {columns},0\nopen 0,{rows}\nopen {columns - 1},{rows - 1}\nreport\n".encode())
+        lines = said.splitlines()
+        want(f"the end of {name}", (status, complained), (0, ""))
+        want(f"the edges of {name}", lines[:3], ["refused faulty 0 out-of-map", "refused faulty 0 out-of-map", "version 1"])
+        lengths = [it.split()[8].removesuffix(".00000000") for it in bytes_of(f"{DEMO}/{name}.scen").decode().splitlines()[1:]]
+        want(f"the bounds of {name}", [it.split()[7] for it in lines if it.startswith("agent ")], lengths)
+        want(f"who of {name} begins on a closed cell", "blocked 0" in lines, True)
+        is_fault([*words, str(TASKS + 1)], f"scen: too few tasks, {TASKS}")
+
+
 def tests():
-    for test in (demo_session, demo_drill, demo_client, demo_fleet, demo_audit):
+    for test in (demo_maps, demo_session, demo_drill, demo_client, demo_fleet, demo_audit):
         yield test.__name__, test
