@@ -1,10 +1,10 @@
 #!/usr/bin/env python3
 """Says which names of names.txt stand nowhere in the repository, and ends with status 1 if one doesn't.
 
-A name stands where a worked example (crates/*/data/*.txt, a line `== NAME` or `== NAME, remark`), a test
-function, an entry of a test's table (`(KIND, "NAME, NAME", ..`) or a wrong body (crates/*/must-fail/NAME.edit) has it, alone or as a whole part of a longer one that
-is joined by `_and_`, `_of_` and the like; so does one of the tests with processes, as tests/program.py runs it. A wrong body that tests
-refuse is named in a remark beside its test: `wrong body NAME`.
+A name stands where a test function, an entry of a test's table (`(KIND, "NAME, NAME", ..`) or a wrong body (crates/*/must-fail/NAME.edit) has
+it, alone or as a whole part of a longer one that is joined by `_and_`, `_of_` and the like; so does one of the tests with processes, as
+tests/program.py runs it, a worked example (`worked: NAME` or `worked: NAME, remark`) too. A wrong body that tests refuse is named in a remark
+beside its test: `wrong body NAME`.
 """
 
 import re
@@ -17,9 +17,9 @@ from program import TOPICS
 
 HERE = Path(__file__).resolve().parent
 CRATES = HERE.parent / "crates"
-EXAMPLE = re.compile(r"^== (\w+)", re.MULTILINE)
 TEST = re.compile(r"#\[test\]\s+fn (\w+)")
 ENTRY = re.compile(r'\(\s*(?:\w+::)?\w+,\s+"([^"]*)"')
+PROCESS = re.compile(r"(?:worked: )?(\w+)(?:, .*)?")
 REMARK = re.compile(r"wrong body\s+(?://\s*)?(\w+)")
 
 
@@ -36,10 +36,9 @@ def found(pattern, form):
 
 
 def standing():
-    names = found("*/data/*.txt", EXAMPLE)
+    names = {told[1] for topic in TOPICS for name, _ in topic.tests() if (told := PROCESS.fullmatch(name))}
     for form in (TEST, ENTRY, REMARK):
         names |= {word for text in found("test_*/src/**/*.rt", form) for word in re.findall(r"\w+", text)}
-    names |= {name for topic in TOPICS for name, _ in topic.tests() if re.fullmatch(r"\w+", name)}
     return names | {path.stem for path in own_files("*/must-fail/*.edit")}
 
 

@@ -160,7 +160,7 @@ class Scene:
                 yield "cycle", time, *ring
 
     def entries(self):
-        last = max((len(path) for _, path in self.agents.values()), default=0)
+        last = max(len(path) for _, path in self.agents.values()) if len(self.agents) > 1 else 0
         found = [it for time in range(last) for part in (self.meetings, self.steps, self.rings) for it in part(time)]
         key = lambda it: (KINDS.index(it[0]), [word[::-1] if isinstance(word, tuple) else (word,) for word in it[1:]])
         return sorted(found, key=key)
