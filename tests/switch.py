@@ -2,7 +2,7 @@
 
 The switch is a variable of the environment, which holds the name of the wrong body that is to run; where none is named
 the program is the right one. A second variable has the program print what its words are read as, in place of obeying
-them, as the program of crates/demo_words tells it.
+them, as the program of crates/demo_texts tells it.
 """
 import os
 import shutil
@@ -37,7 +37,8 @@ pub fn is_wrong(name: &[u8]) -> bool {
 READS = "    let (words, verbose) = match read_words(alloc, given.as_slice()) {"
 TELLS = """    let asked = read_words(alloc, given.as_slice());
     if switch::has(b"%s", b"1") {
-        if let Ok(text) = read_as::told(alloc, &asked) {
+        let mut text = String::new(alloc);
+        if read_as::put_asked(&mut text, &asked).is_ok() {
             let _told = println!(&rt; "{text}");
         }
         return ExitCode::SUCCESS;
@@ -98,7 +99,7 @@ def copy(top):
     lines = read(f"{TOP}/crates.txt").splitlines()
     write(f"{top}/crates.txt", "".join(f"{it} os\n" if it.split(":")[0] in (PROGRAM, READERS) else f"{it}\n" for it in lines))
     source = f"{top}/crates/{PROGRAM}/src"
-    shutil.copy2(f"{top}/crates/demo_words/src/telling.rt", f"{source}/read_as.rt")
+    shutil.copy2(f"{top}/crates/demo_texts/src/telling.rt", f"{source}/read_as.rt")
     text = read(f"{source}/main.rt")
     if text.count(READS) != 1:
         raise ValueError("main.rt doesn't read its words as it did")

@@ -123,7 +123,7 @@ BODIES = [
      "{ let _left = (writer.into_inner(), &more); ended }", "draw_full_device"),
 ]
 
-# Those of the readers of words: a line of words as it is told then, and how crates/demo_words/data/words.txt has it.
+# Those of the readers of words: a line of words as it is told then, and how tests/worked/words.txt has it.
 READERS = [
     ("journal_taken_for_save", "reading.rt", 'matches.get_str("save")', 'matches.get_str("journal")',
      "serve --save k --journal j => serve journal=j save=j, and not serve journal=j save=k"),
@@ -131,16 +131,18 @@ READERS = [
      "drill --map m --scen s one => drill map=s scen=s script=one, and not drill map=m scen=s script=one"),
     ("limit_dropped", "reading.rt", 'matches.get_one::<u32>("limit").unwrap_or(USUAL_LIMIT)', "USUAL_LIMIT",
      "serve --limit 1 => serve, and not serve limit=1"),
-    ("one_entry_fewer", "arguments.rt", "1..=1_000_000", "1..=999_999", "serve --limit 1000000 => refused ValueValidation, and not serve limit=1000000"),
+    ("one_entry_fewer", "arguments.rt", "i64::from(‹greatest›)", "if greatest == 1_000_000 { 999_999 } else { greatest }",
+     "serve --limit 1000000 => refused ValueValidation, and not serve limit=1000000"),
     ("mode_dropped", "reading.rt", 'Some("disappear") => ‹Mode::Disappear›', "Mode::Stay",
      "audit --map m --mode disappear => audit map=m, and not audit map=m mode=disappear"),
     ("scen_taken_for_the_journal_of_an_audit", "reading.rt", 'journal: ‹matches.get_str("journal")›,\n        workers', 'matches.get_str("scen")',
      "audit --map m --scen s => audit map=m scen=s journal=s, and not audit map=m scen=s"),
     ("workers_dropped", "reading.rt", 'matches.get_one::<u32>("workers").unwrap_or(USUAL_WORKERS)', "USUAL_WORKERS",
      "audit --map m --workers 1 => audit map=m, and not audit map=m workers=1"),
-    ("one_worker_fewer", "arguments.rt", "1..=64", "1..=63",
+    ("one_worker_fewer", "arguments.rt", "i64::from(‹greatest›)", "if greatest == 64 { 63 } else { greatest }",
      "drill --map m --workers 64 one => refused ValueValidation, and not drill map=m workers=64 script=one"),
-    ("one_agent_fewer", "arguments.rt", "0..=8192", "0..=8191", "serve --agents 8192 => refused ValueValidation, and not serve agents=8192"),
+    ("one_agent_fewer", "arguments.rt", "i64::from(‹greatest›)", "if greatest == 8192 { 8191 } else { greatest }",
+     "serve --agents 8192 => refused ValueValidation, and not serve agents=8192"),
     ("verbose_behind_the_word_unheard", "reading.rt", 'inner.get_flag("verbose")', "false", "serve -v => serve, and not serve verbose"),
     ("version_behind_what_is_asked_for", "reading.rt", 'matches.get_flag("version")',
      'matches.get_flag("version") && matches.subcommand().is_none()', "-V serve => serve, and not version"),
@@ -153,7 +155,7 @@ READERS = [
      "check --map m --paths p --form agent => check map=m paths=p, and not check map=m paths=p form=agent"),
     ("edge_taken_for_follow", "checks.rt", '"edge" => ‹kinds.edge = true›', "kinds.follow = true",
      "check --map m --paths p --solves edge => check map=m paths=p solves=follow, and not check map=m paths=p solves=edge"),
-    ("one_kind_too_few", "arguments.rt", '"KIND", help)\n        .num_args(‹1..›)', "2..",
+    ("one_kind_too_few", "arguments.rt", "option.num_args(‹1..›)", "if matches!(value, Value::SomeOf(_, _)) { 2.. } else { 1.. }",
      "check --map m --paths p --solves edge => refused TooFewValues, and not check map=m paths=p solves=edge"),
     ("journal_taken_for_the_paths_of_a_picture", "reading.rt", 'paths: ‹matches.get_str("paths")›,', 'matches.get_str("journal")',
      "draw --map m --paths p => draw map=m, and not draw map=m paths=p"),

@@ -1,5 +1,5 @@
 """What `mapf_desk` doesn't tell of the texts that it reads, told by the program of crates/demo_texts: each list of a file of paths
-with all its cells, a task's bucket, and journals as they are upgraded. Worked, cut off, edited beside plain readers, and as long
+with all its cells, a task's bucket, journals as they are upgraded, and the program's words. Worked, cut off, edited beside plain readers, and as long
 as they may be.
 """
 import os
@@ -13,7 +13,7 @@ from .paths import BY_AGENT, BY_SESSION, LACAM, LENIENT
 from .plain_paths import read_paths
 from .plain_texts import read_journal, read_scen
 from .plain_words import Fault, lines_of, words_of
-from .running import PATIENCE, Program, Wrong, put, remove, want
+from .running import PATIENCE, TOP, Program, Wrong, put, remove, want
 
 LACAM_LISTS = "time starts 0,0 2,1 goals 2,0 0,1 path 0,0 1,0 2,0 2,0 path 2,1 2,1 1,1 0,1"
 # What each text of LENIENT tells before its path.
@@ -154,8 +154,16 @@ def longest_journals_upgraded():
         are_read([upgraded(b"journal 1\n" + b"entry 0 0 0 0\n" * times + last, bad)])
 
 
+def lists_of_words():
+    """Each list of words of tests/worked/words.txt is read as it says, all 428 of them."""
+    with open(f"{TOP}/tests/worked/words.txt") as file:
+        rows = [line.split(" => ", 1) for line in file.read().split("\n") if " => " in line]
+    are_read([("words", words.encode(), right) for words, right in rows])
+    want("how many lists there are", len(rows), 428)
+
+
 def tests():
     for test in (files_of_paths_as_lists, lists_of_edited_files_of_paths, lists_of_fronts_of_files_of_paths, lists_of_texts_of_one_byte,
                  lists_of_ten_thousand_agents, lists_of_longest_paths, buckets_of_edited_scenarios, journals_upgraded_as_they_are_read,
-                 longest_journals_upgraded):
+                 longest_journals_upgraded, lists_of_words):
         yield test.__name__, test

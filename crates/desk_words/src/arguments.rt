@@ -1,147 +1,119 @@
-//! The options and files of the program's words, for their parser.
+//! The options and files of a word, as data, and as its parser takes them.
+use clap::builder::ValueParser;
 use clap::{Arg, ArgAction, value_parser};
-use std::alloc::Global;
+use std::alloc::{AllocError, Global};
 
-// An option with a value, which help calls by that name.
-fn option<'a>(alloc: Global, name: &'a str, value: &'a str, help: &'a str) -> Arg<'a> {
-    Arg::new(alloc, name)
-        .long(name)
-        .value_name(value)
-        .help(help)
+/// What stands behind an option.
+#[derive(Clone, Copy)]
+pub enum Value {
+    /// Nothing: it is a flag.
+    Nothing,
+    /// A text, which help calls by that name.
+    Text(&'static str),
+    /// A number from one to the other.
+    Number(&'static str, u32, u32),
+    /// One of those texts.
+    OneOf(&'static str, &'static [&'static str]),
+    /// One or more of those texts.
+    SomeOf(&'static str, &'static [&'static str]),
+    /// One text or more, which no option names.
+    Listed(&'static str),
 }
 
-// An option without a value.
-fn flag<'a>(alloc: Global, name: &'a str, help: &'a str) -> Arg<'a> {
-    Arg::new(alloc, name)
-        .long(name)
-        .action(ArgAction::SetTrue)
-        .help(help)
+/// An option, or texts that no option names.
+#[derive(Clone, Copy)]
+pub struct Argument {
+    pub name: &'static str,
+    /// The letter that names it too.
+    pub short: Option<char>,
+    pub value: Value,
+    /// The value where none is given.
+    pub usual: Option<&'static str>,
+    pub is_needed: bool,
+    /// The option that can't stand beside it.
+    pub excluded: Option<&'static str>,
+    pub help: &'static str,
 }
 
-// One word or more that no option names.
-fn listed<'a>(alloc: Global, id: &'a str, value: &'a str, help: &'a str) -> Arg<'a> {
-    Arg::new(alloc, id)
-        .value_name(value)
-        .num_args(1..)
-        .required(true)
-        .help(help)
+impl Value {
+    // How help calls what stands there, if anything does.
+    fn name(self) -> Option<&'static str> {
+        match self {
+            Value::Nothing => None,
+            Value::Text(name) | Value::Number(name, _, _) => Some(name),
+            Value::OneOf(name, _) | Value::SomeOf(name, _) | Value::Listed(name) => Some(name),
+        }
+    }
+
+    // What is taken for it, where not every text is.
+    fn parser<'a>(self) -> Option<ValueParser<'a>> {
+        match self {
+            Value::Number(_, least, greatest) => {
+                let numbers = i64::from(least)..=i64::from(greatest);
+                Some(value_parser!(u32).range(numbers))
+            }
+            Value::OneOf(_, texts) | Value::SomeOf(_, texts) => Some(texts.into()),
+            Value::Nothing | Value::Text(_) | Value::Listed(_) => None,
+        }
+    }
 }
 
-pub fn map_argument<'a>(alloc: Global, help: &'a str) -> Arg<'a> {
-    option(alloc, "map", "F", help)
+fn lettered<'a>(option: Arg<'a>, letter: Option<char>) -> Arg<'a> {
+    match letter {
+        Some(letter) => option.short(letter),
+        None => option,
+    }
 }
 
-/// The map of a word that needs its file.
-pub fn needed_map_argument<'a>(alloc: Global) -> Arg<'a> {
-    map_argument(alloc, "The map, a MovingAI .map file").required(true)
+fn with_usual<'a>(option: Arg<'a>, usual: Option<&'static str>) -> Arg<'a> {
+    match usual {
+        Some(usual) => option.default_value(usual),
+        None => option,
+    }
 }
 
-pub fn scen_argument<'a>(alloc: Global) -> Arg<'a> {
-    let help = "A MovingAI .scen file, whose first tasks are the agents";
-    option(alloc, "scen", "F", help)
+fn called<'a>(option: Arg<'a>, name: Option<&'static str>) -> Arg<'a> {
+    match name {
+        Some(name) => option.value_name(name),
+        None => option.action(ArgAction::SetTrue),
+    }
 }
 
-// How many agents the scenario gives.
-fn counted_argument<'a>(alloc: Global, help: &'a str) -> Arg<'a> {
-    option(alloc, "agents", "K", help).value_parser(value_parser!(u32).range(0..=8192))
+fn limited<'a>(option: Arg<'a>, parser: Option<ValueParser<'a>>) -> Arg<'a> {
+    match parser {
+        Some(parser) => option.value_parser(parser),
+        None => option,
+    }
 }
 
-pub fn agents_argument<'a>(alloc: Global) -> Arg<'a> {
-    let help = "How many agents the scenario gives, from 0 to 8192";
-    counted_argument(alloc, help).default_value("0")
+fn with_several<'a>(option: Arg<'a>, value: Value) -> Arg<'a> {
+    match value {
+        Value::SomeOf(_, _) | Value::Listed(_) => option.num_args(1..),
+        _ => option,
+    }
 }
 
-/// Without a number the scenario gives as many agents as there are paths.
-pub fn agents_of_paths_argument<'a>(alloc: Global) -> Arg<'a> {
-    let help =
-        "How many agents the scenario gives, from 0 to 8192; as many as there are paths where it isn't given";
-    counted_argument(alloc, help)
+fn long<'a>(option: Arg<'a>, name: &'static str, value: Value) -> Arg<'a> {
+    match value {
+        Value::Listed(_) => option,
+        _ => option.long(name),
+    }
 }
 
-pub fn mode_argument<'a>(alloc: Global) -> Arg<'a> {
-    let help = "Whether an agent stays at its goal or leaves the map there";
-    option(alloc, "mode", "M", help)
-        .value_parser(["stay", "disappear"].as_slice())
-        .default_value("stay")
-}
-
-pub fn limit_argument<'a>(alloc: Global) -> Arg<'a> {
-    let help = "How many commits the journal takes, from 1 to 1000000";
-    option(alloc, "limit", "N", help)
-        .value_parser(value_parser!(u32).range(1..=1_000_000))
-        .default_value("100000")
-}
-
-pub fn journal_argument<'a>(alloc: Global, help: &'a str) -> Arg<'a> {
-    option(alloc, "journal", "F", help)
-}
-
-pub fn save_argument<'a>(alloc: Global) -> Arg<'a> {
-    let help = "Where the journal is saved at the end of the session";
-    option(alloc, "save", "F", help)
-}
-
-pub fn paths_argument<'a>(alloc: Global) -> Arg<'a> {
-    option(alloc, "paths", "F", "The paths, as a solver wrote them")
-}
-
-pub fn at_argument<'a>(alloc: Global) -> Arg<'a> {
-    let help = "The time of a still picture, in steps; without it the agents move";
-    option(alloc, "at", "T", help).value_parser(value_parser!(u32))
-}
-
-pub fn shown_argument<'a>(alloc: Global) -> Arg<'a> {
-    let help = "The agents that are drawn, as 0-9; all where it isn't given";
-    option(alloc, "agents-shown", "A-B", help)
-}
-
-pub fn form_argument<'a>(alloc: Global) -> Arg<'a> {
-    let help = "How the paths are written; told by their first line where it isn't given";
-    option(alloc, "form", "FORM", help).value_parser(["time", "agent", "session"].as_slice())
-}
-
-pub fn solves_argument<'a>(alloc: Global) -> Arg<'a> {
-    let help = "The kinds of conflicts that count; vertex and swap where none is named";
-    option(alloc, "solves", "KIND", help)
-        .num_args(1..)
-        .value_parser(["vertex", "edge", "follow", "swap", "cycle"].as_slice())
-}
-
-pub fn quiet_argument<'a>(alloc: Global) -> Arg<'a> {
-    let help = "Print how many conflicts of each kind there are, and no line for each";
-    flag(alloc, "quiet", help)
-}
-
-pub fn workers_argument<'a>(alloc: Global) -> Arg<'a> {
-    let help = "How many threads make the report, from 1 to 64";
-    option(alloc, "workers", "N", help)
-        .value_parser(value_parser!(u32).range(1..=64))
-        .default_value("4")
-}
-
-pub fn scripts_argument<'a>(alloc: Global) -> Arg<'a> {
-    let help = "A planner's session, one file for each planner, from 1 to 255 of them";
-    listed(alloc, "script", "SCRIPT", help)
-}
-
-pub fn wait_argument<'a>(alloc: Global) -> Arg<'a> {
-    let help =
-        "How many seconds a planner may take to come, from 0 to 86400; for ever where it isn't given";
-    option(alloc, "wait", "S", help).value_parser(value_parser!(u32).range(0..=86_400))
-}
-
-pub fn names_argument<'a>(alloc: Global) -> Arg<'a> {
-    let help =
-        "A planner, who writes lines to NAME.in and reads answers from NAME.out; 1 to 255 of them";
-    listed(alloc, "name", "NAME", help)
-}
-
-pub fn verbose_argument<'a>(alloc: Global) -> Arg<'a> {
-    let help = "Say more of a fault, in a second line on standard error";
-    flag(alloc, "verbose", help).short('v')
-}
-
-pub fn version_argument<'a>(alloc: Global) -> Arg<'a> {
-    let help = "Print the version, and what it is proved with";
-    flag(alloc, "version", help).short('V')
+/// An argument as the parser takes it.
+pub fn parsed<'a>(alloc: Global, argument: Argument) -> Result<Arg<'a>, AllocError> {
+    let option = Arg::new(alloc, argument.name)
+        .help(argument.help)
+        .required(argument.is_needed);
+    let option = called(
+        long(option, argument.name, argument.value),
+        argument.value.name(),
+    );
+    let option = limited(option, argument.value.parser());
+    let option = with_several(option, argument.value);
+    let option = with_usual(lettered(option, argument.short), argument.usual);
+    match argument.excluded {
+        Some(other) => option.conflicts_with(other),
+        None => Ok(option),
+    }
 }

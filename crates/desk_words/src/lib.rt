@@ -5,6 +5,7 @@ mod arguments;
 mod checks;
 mod commands;
 mod helping;
+mod options;
 mod ranges;
 mod reading;
 mod words;

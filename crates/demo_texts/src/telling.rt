@@ -7,22 +7,21 @@ use desk_words::{
 };
 use grid_cells::Agent;
 use plan_table::Mode;
-use std::alloc::{AllocError, Global};
+use std::alloc::AllocError;
 
 /// What words are read as.
-pub fn told(alloc: Global, asked: &Asked<'_>) -> Result<String, AllocError> {
-    let mut text = String::new(alloc);
+pub fn put_asked(text: &mut String, asked: &Asked<'_>) -> Result<(), AllocError> {
     match asked {
-        Asked::NoMemory => text.push_str("no memory")?,
-        Asked::Refused(error) => put_refusal(&mut text, error)?,
+        Asked::NoMemory => text.push_str("no memory"),
+        Asked::Refused(error) => put_refusal(text, error),
         Asked::For { words, verbose } => {
-            put_words(&mut text, words)?;
+            put_words(text, words)?;
             if *verbose {
                 text.push_str(" verbose")?;
             }
+            Ok(())
         }
     }
-    Ok(text)
 }
 
 fn put_refusal(text: &mut String, error: &Error) -> Result<(), AllocError> {

@@ -1,0 +1,198 @@
+//! The options and files of the program's words.
+use crate::arguments::{Argument, Value};
+
+// A file that may be left out.
+const FILE: Argument = Argument {
+    name: "",
+    short: None,
+    value: Value::Text("F"),
+    usual: None,
+    is_needed: false,
+    excluded: None,
+    help: "",
+};
+
+const FLAG: Argument = Argument {
+    value: Value::Nothing,
+    ..FILE
+};
+
+/// The map of a desk; without one it stands first on standard input.
+pub const MAP_OR_INPUT: Argument = Argument {
+    name: "map",
+    help: "The map, a MovingAI .map file; without it the map stands first on standard input",
+    ..FILE
+};
+
+/// The map of a word that needs its file.
+pub const MAP: Argument = Argument {
+    name: "map",
+    is_needed: true,
+    help: "The map, a MovingAI .map file",
+    ..FILE
+};
+
+pub const SCEN: Argument = Argument {
+    name: "scen",
+    help: "A MovingAI .scen file, whose first tasks are the agents",
+    ..FILE
+};
+
+pub const SCEN_OF_PATHS: Argument = Argument {
+    help: "A MovingAI .scen file, whose first tasks are the agents' starts and goals",
+    ..SCEN
+};
+
+pub const AGENTS: Argument = Argument {
+    name: "agents",
+    value: Value::Number("K", 0, 8192),
+    usual: Some("0"),
+    help: "How many agents the scenario gives, from 0 to 8192",
+    ..FILE
+};
+
+/// Without a number the scenario gives as many agents as there are paths.
+pub const AGENTS_OF_PATHS: Argument = Argument {
+    usual: None,
+    help: "How many agents the scenario gives, from 0 to 8192; as many as there are paths where it isn't given",
+    ..AGENTS
+};
+
+pub const AGENTS_OF_A_PICTURE: Argument = Argument {
+    help: "How many agents the scenario gives, from 0 to 8192; where it isn't given as many as there are paths, else 0",
+    ..AGENTS_OF_PATHS
+};
+
+pub const MODE: Argument = Argument {
+    name: "mode",
+    value: Value::OneOf("M", &["stay", "disappear"]),
+    usual: Some("stay"),
+    help: "Whether an agent stays at its goal or leaves the map there",
+    ..FILE
+};
+
+pub const LIMIT: Argument = Argument {
+    name: "limit",
+    value: Value::Number("N", 1, 1_000_000),
+    usual: Some("100000"),
+    help: "How many commits the journal takes, from 1 to 1000000",
+    ..FILE
+};
+
+pub const JOURNAL: Argument = Argument {
+    name: "journal",
+    help: "A journal, whose entries are committed first",
+    ..FILE
+};
+
+pub const JOURNAL_OF_AN_AUDIT: Argument = Argument {
+    help: "A journal, whose entries are committed before the audit",
+    ..JOURNAL
+};
+
+pub const JOURNAL_OF_A_PICTURE: Argument = Argument {
+    excluded: Some("paths"),
+    help: "A journal, whose entries are committed before the picture",
+    ..JOURNAL
+};
+
+pub const SAVE: Argument = Argument {
+    name: "save",
+    help: "Where the journal is saved at the end of the session",
+    ..FILE
+};
+
+pub const PATHS: Argument = Argument {
+    name: "paths",
+    help: "The paths, as a solver wrote them",
+    ..FILE
+};
+
+pub const NEEDED_PATHS: Argument = Argument {
+    is_needed: true,
+    ..PATHS
+};
+
+pub const AT: Argument = Argument {
+    name: "at",
+    value: Value::Number("T", 0, u32::MAX),
+    help: "The time of a still picture, in steps; without it the agents move",
+    ..FILE
+};
+
+pub const SHOWN: Argument = Argument {
+    name: "agents-shown",
+    value: Value::Text("A-B"),
+    help: "The agents that are drawn, as 0-9; all where it isn't given",
+    ..FILE
+};
+
+pub const FORM: Argument = Argument {
+    name: "form",
+    value: Value::OneOf("FORM", &["time", "agent", "session"]),
+    help: "How the paths are written; told by their first line where it isn't given",
+    ..FILE
+};
+
+pub const SOLVES: Argument = Argument {
+    name: "solves",
+    value: Value::SomeOf("KIND", &["vertex", "edge", "follow", "swap", "cycle"]),
+    help: "The kinds of conflicts that count; vertex and swap where none is named",
+    ..FILE
+};
+
+pub const QUIET: Argument = Argument {
+    name: "quiet",
+    help: "Print how many conflicts of each kind there are, and no line for each",
+    ..FLAG
+};
+
+pub const WORKERS: Argument = Argument {
+    name: "workers",
+    value: Value::Number("N", 1, 64),
+    usual: Some("4"),
+    help: "How many threads make the report, from 1 to 64",
+    ..FILE
+};
+
+pub const SCRIPTS: Argument = Argument {
+    name: "script",
+    value: Value::Listed("SCRIPT"),
+    is_needed: true,
+    help: "A planner's session, one file for each planner, from 1 to 255 of them",
+    ..FILE
+};
+
+pub const WAIT: Argument = Argument {
+    name: "wait",
+    value: Value::Number("S", 0, 86_400),
+    help: "How many seconds a planner may take to come, from 0 to 86400; for ever where it isn't given",
+    ..FILE
+};
+
+pub const NAMES: Argument = Argument {
+    name: "name",
+    value: Value::Listed("NAME"),
+    is_needed: true,
+    help: "A planner, who writes lines to NAME.in and reads answers from NAME.out; 1 to 255 of them",
+    ..FILE
+};
+
+pub const VERBOSE: Argument = Argument {
+    name: "verbose",
+    short: Some('v'),
+    help: "Say more of a fault, in a second line on standard error",
+    ..FLAG
+};
+
+pub const VERBOSE_DRILL: Argument = Argument {
+    help: "Say more of a fault, and how the lines of each script were answered, on standard error",
+    ..VERBOSE
+};
+
+pub const VERSION: Argument = Argument {
+    name: "version",
+    short: Some('V'),
+    help: "Print the version, and what it is proved with",
+    ..FLAG
+};
