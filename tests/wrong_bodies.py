@@ -123,7 +123,7 @@ BODIES = [
      "{ let _left = (writer.into_inner(), &more); ended }", "draw_full_device"),
 ]
 
-# Those of the readers of words: a line of words as it is told then, and how tests/worked/words.txt has it.
+# Those of the readers of words: a line of words as it is told then, and how tests/words.txt has it.
 READERS = [
     ("journal_taken_for_save", "reading.rt", 'matches.get_str("save")', 'matches.get_str("journal")',
      "serve --save k --journal j => serve journal=j save=j, and not serve journal=j save=k"),

@@ -49,7 +49,7 @@ def wrong_programs(program, bodies):
 
 
 def wrong_readers(program, readers):
-    lines = switch.read(f"{switch.TOP}/tests/worked/words.txt").splitlines()
+    lines = switch.read(f"{switch.TOP}/tests/words.txt").splitlines()
     for name, _, _, _, line in readers:
         words, _, rest = line.partition(" => ")
         wrong, _, right = rest.partition(", and not ")
