@@ -1,5 +1,6 @@
-//! Tests of the crates below a desk: limits, plans, edits and streams by examples, fields, the index and
-//! the ledgers beside plain programs, and the time of many changes. It has tests alone.
+//! Tests of the crates below a desk, of what no session tells: counts of repairs, fields, the index and
+//! the ledgers beside plain programs, the time of many changes, and calls whose growths are refused in
+//! turn. It has tests alone.
 #![tactic(auto)]
 
 #[cfg(test)]

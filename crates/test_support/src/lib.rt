@@ -1,8 +1,9 @@
 //! What tests of several crates share: values written as text, sources that fail or count their calls,
-//! gates, reports' texts, and numbers that look like chance.
+//! gates, reports' texts, numbers that look like chance, and a process without memory.
 #![tactic(auto)]
 
 mod chance;
+mod droughts;
 mod gates;
 mod places;
 mod reports;
@@ -12,6 +13,7 @@ mod tracks;
 mod values;
 
 pub use chance::Chain;
+pub use droughts::{Drought, take_all};
 pub use gates::{Meeting, Turnstile};
 pub use places::{are_at, cells_at};
 pub use reports::{KINDS, conflicts_alone, text_of};

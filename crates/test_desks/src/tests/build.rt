@@ -5,8 +5,7 @@ use desk_core::{Commit, Desk, Limit};
 use grid_cells::{Agent, Cell, Planner};
 use std::alloc::Global;
 use std::process::Abort;
-use test_droughts::Drought;
-use test_support::{edit, scene, thing};
+use test_support::{Drought, edit, scene, thing};
 
 pub fn agent(rt: &impl Abort, number: u32) -> Agent {
     Agent::new(number).expect(rt, "an agent's number")

@@ -7,7 +7,7 @@ use grid_cells::Grid;
 use plan_table::Mode;
 use std::alloc::Global;
 use std::process::Abort;
-use test_droughts::Drought;
+use test_support::Drought;
 
 /// A call: a commit of that planner on that base, with the lines of its watches and edits, a reading,
 /// the distance of an agent from a cell, or a snapshot.

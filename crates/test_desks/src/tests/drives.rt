@@ -6,7 +6,7 @@ use super::runs::{Answers, are_refused, are_wanted};
 use desk_core::{Answer, Call, Desk, drive};
 use std::alloc::Global;
 use std::process::Abort;
-use test_droughts::Drought;
+use test_support::Drought;
 
 fn calls(rt: &impl Abort, alloc: Global, row: &Row) -> Vec<Call> {
     let mut calls = Vec::new(alloc);

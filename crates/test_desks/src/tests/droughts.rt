@@ -2,7 +2,7 @@
 use super::build::drought;
 use std::alloc::Global;
 use std::process::Abort;
-use test_droughts::Drought;
+use test_support::Drought;
 
 // Takes a thousand blocks of 24 bytes, or as many as can be had.
 fn take(alloc: Global, blocks: &mut Vec<Vec<u8>>) {

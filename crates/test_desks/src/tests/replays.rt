@@ -4,8 +4,7 @@ use desk_core::{Desk, Journal, Limit, Refusal, ReplayFault, replay};
 use plan_table::Mode;
 use std::alloc::Global;
 use std::process::Abort;
-use test_droughts::Drought;
-use test_support::scene;
+use test_support::{Drought, scene};
 
 // A journal of one entry, in which planner 1 moves agent 3 to (1,0), and of one more on that base.
 fn journal(rt: &impl Abort, alloc: Global, more: Option<u64>) -> Journal {

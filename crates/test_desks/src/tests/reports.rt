@@ -3,8 +3,7 @@ use super::build::{commit, drought, leave, planner};
 use desk_core::{Commit, Desk, EditFault, Limit, Refusal};
 use std::alloc::Global;
 use std::process::Abort;
-use test_droughts::Drought;
-use test_support::{scene, text_of};
+use test_support::{Drought, scene, text_of};
 
 // Agents 0 to 3 go round in step 0, and agent 4 goes along with agent 0. Each has the end of its
 // path as its goal.

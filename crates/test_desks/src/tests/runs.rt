@@ -4,7 +4,7 @@ use super::calls::{Told, asked};
 use super::rows::Row;
 use std::alloc::Global;
 use std::process::Abort;
-use test_droughts::Drought;
+use test_support::Drought;
 
 /// The answers to a row's calls, of which there are at most eight.
 pub type Answers = [Told; 8];

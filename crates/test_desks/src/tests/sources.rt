@@ -2,7 +2,7 @@
 ghost use Rattle.std.specs.Prelude.{None, false, ⊤};
 
 use desk_report::{ReadFailed, Source};
-use test_droughts::Drought;
+use test_support::Drought;
 
 /// Gives a text. From the beginning of one of its lines until the next one so many bytes are free,
 /// and else there is ample memory. Lines count from 1.

@@ -1,89 +1,31 @@
-//! What is kept of a fleet, and its changes by chance.
+//! Changes of fleets by chance, and what is kept follows.
 use super::fleets::Fleet;
-use super::records::check_touched;
+use super::kept::{Kept, turned};
 use super::rows::{new_row, other_row};
 use super::walks::any_cell;
-use conflict_ledger::ConflictLedger;
 use cost_ledger::CostLedger;
-use grid_cells::{Agent, Cell, Grid};
-use plan_table::{Mode, Row};
+use grid_cells::{Agent, Cell};
+use plan_table::Row;
 use std::alloc::Global;
 use std::process::Abort;
-use test_support::{Chain, since};
-use where_index::WhereIndex;
+use test_support::Chain;
 
-#[derive(Drop)]
-pub struct Kept {
-    pub index: WhereIndex,
-    pub ledger: ConflictLedger,
-    pub costs: CostLedger,
-}
-
-impl Kept {
-    pub fn new(alloc: Global) -> Kept {
-        Kept::of(
-            WhereIndex::new(alloc),
-            ConflictLedger::new(alloc),
-            CostLedger::new(alloc),
-        )
-    }
-
-    fn of(index: WhereIndex, ledger: ConflictLedger, costs: CostLedger) -> Kept {
-        Kept {
-            index,
-            ledger,
-            costs,
-        }
-    }
-
-    fn parts(self) -> (WhereIndex, ConflictLedger, CostLedger) {
-        (self.index, self.ledger, self.costs)
-    }
-}
-
-fn entered(rt: &impl Abort, kept: Kept, agent: Agent, row: &Row, mode: Mode, grid: &Grid) -> Kept {
-    let (index, ledger, mut costs) = kept.parts();
-    let (track, touched) = (row.track(mode), index.touched());
-    let index = index.put(agent, track).expect(rt, "memory");
-    check_touched(rt, &index, touched, None, Some(track));
-    let ledger = ledger.admit(agent, track, &index).expect(rt, "memory");
-    costs.take(agent);
-    let costs = costs
-        .put(agent, row.goal, &row.plan, grid)
-        .expect(rt, "memory");
-    Kept::of(index, ledger, costs)
-}
-
-fn left(rt: &impl Abort, kept: Kept, agent: Agent, row: &Row, mode: Mode) -> Kept {
-    let (index, ledger, mut costs) = kept.parts();
-    let (track, touched) = (row.track(mode), index.touched());
-    let index = index.take(agent, track);
-    check_touched(rt, &index, touched, Some(track), None);
-    let ledger = ledger.retract(agent, track, &index).expect(rt, "memory");
-    costs.take(agent);
-    Kept::of(index, ledger, costs)
-}
-
-fn revised(
+// The row of an agent that comes, or another one for an agent that has one, or none where it goes.
+fn next_row(
     rt: &impl Abort,
-    kept: Kept,
+    alloc: Global,
+    old: Option<&Row>,
+    fleet: &Fleet,
     agent: Agent,
-    old: &Row,
-    new: &Row,
-    mode: Mode,
-    grid: &Grid,
-) -> Kept {
-    let (index, ledger, mut costs) = kept.parts();
-    let (was, is) = (old.track(mode), new.track(mode));
-    let (since, touched) = (since(was, is), index.touched());
-    let index = index.swap(agent, was, is, since).expect(rt, "memory");
-    check_touched(rt, &index, touched, Some(was), Some(is));
-    let ledger = ledger
-        .revise(agent, was, is, since, &index)
-        .expect(rt, "memory");
-    costs.aim(agent, new.goal);
-    let costs = costs.set_plan(agent, &new.plan, grid).expect(rt, "memory");
-    Kept::of(index, ledger, costs)
+    chain: &mut Chain,
+) -> Option<Row> {
+    let Some(old) = old else {
+        return Some(new_row(rt, alloc, chain, fleet, agent));
+    };
+    if chain.roll(4) == 0 {
+        return None;
+    }
+    Some(other_row(rt, alloc, old, chain, fleet, agent))
 }
 
 /// An agent comes that isn't there; one that is goes, or gets another row.
@@ -95,22 +37,14 @@ pub fn change(
     agent: Agent,
     chain: &mut Chain,
 ) -> Kept {
-    let mode = fleet.mode;
-    let Some(old) = fleet.plans.remove(agent) else {
-        let row = new_row(rt, alloc, chain, fleet, agent);
-        let kept = entered(rt, kept, agent, &row, mode, &fleet.grid);
-        fleet.set(rt, agent, row);
-        return kept;
-    };
-    if chain.roll(4) == 0 {
-        let kept = left(rt, kept, agent, &old, mode);
-        drop(old);
-        return kept;
-    }
-    let new = other_row(rt, alloc, &old, chain, fleet, agent);
-    let kept = revised(rt, kept, agent, &old, &new, mode, &fleet.grid);
+    let old = fleet.plans.remove(agent);
+    let new = next_row(rt, alloc, old.as_ref(), fleet, agent, chain);
+    let (before, after) = (old.as_ref(), new.as_ref());
+    let kept = turned(rt, kept, agent, before, after, fleet.mode, &fleet.grid);
     drop(old);
-    fleet.set(rt, agent, new);
+    if let Some(row) = new {
+        fleet.set(rt, agent, row);
+    }
     kept
 }
 
@@ -132,24 +66,30 @@ fn priced_anew(
         .expect(rt, "memory")
 }
 
-/// A cell by chance opens or closes, in every third draw. Answers how many agents come through it,
-/// where that changes it.
-pub fn flip(
-    rt: &impl Abort,
-    alloc: Global,
-    kept: Kept,
-    fleet: &mut Fleet,
-    chain: &mut Chain,
-) -> (Kept, usize) {
+/// A cell by chance opens or closes on the fleet's map, in every third draw. Answers which one, and how
+/// many agents come through it, where that changes it.
+pub fn flip(rt: &impl Abort, fleet: &mut Fleet, chain: &mut Chain) -> Option<(Cell, usize)> {
     let cell = any_cell(rt, chain, fleet.grid.size());
     if chain.roll(3) > 0 || !fleet.grid.size().holds(cell) {
-        return (kept, 0);
+        return None;
     }
     let (was, is) = (fleet.grid.is_open(cell), chain.roll(2) == 0);
     fleet.grid.set(cell, is);
-    let (index, ledger, costs) = kept.parts();
-    let costs = priced_anew(rt, alloc, costs, cell, fleet);
-    let kept = Kept::of(index, ledger, costs);
     let visitors = if was == is { 0 } else { fleet.visitors(cell) };
-    (kept, visitors)
+    Some((cell, visitors))
+}
+
+/// What is kept, where a cell has the state that it has on the fleet's map.
+pub fn flipped(rt: &impl Abort, alloc: Global, kept: Kept, cell: Cell, fleet: &Fleet) -> Kept {
+    let Kept {
+        index,
+        ledger,
+        costs,
+    } = kept;
+    let costs = priced_anew(rt, alloc, costs, cell, fleet);
+    Kept {
+        index,
+        ledger,
+        costs,
+    }
 }

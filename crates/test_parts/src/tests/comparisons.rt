@@ -1,6 +1,6 @@
 //! The index and the ledger of costs beside plain programs, which go over all agents and times.
-use super::changes::Kept;
 use super::fleets::Fleet;
+use super::kept::Kept;
 use cost_ledger::CostLedger;
 use grid_cells::{Agent, Cell, Step};
 use mapf_rules::{

@@ -1,6 +1,6 @@
 //! The ledger of conflicts beside the plain program, which goes over all times and pairs.
-use super::changes::Kept;
 use super::fleets::Fleet;
+use super::kept::Kept;
 use super::walks::any_cell;
 use grid_cells::{Agent, Step};
 use mapf_rules::{Conflict, Kind, Ring, conflicts, position};

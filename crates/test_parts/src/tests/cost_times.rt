@@ -1,5 +1,7 @@
 //! How long many changes take of the costs of 4,096 agents. The times are printed.
-use super::times::{agent, lane, now, tell};
+use super::build::{agent, at};
+use super::fields::build::set_one;
+use super::times::{lane, now, tell};
 use cost_ledger::CostLedger;
 use grid_cells::{Agent, Cell, Grid, Step};
 use mapf_rules::Visit;
@@ -60,12 +62,10 @@ fn flip_often(
     mut ledger: CostLedger,
     grid: &mut Grid,
 ) -> CostLedger {
-    let cell = Cell::new(10, 0).expect(rt, "a cell");
+    let cell = at(rt, 10, 0);
     let visits = visits(rt, alloc, cell);
     for turn in 0..10_000u32 {
-        if grid.size().holds(cell) {
-            grid.set(cell, turn % 2 == 1);
-        }
+        set_one(grid, cell, turn % 2 == 1);
         ledger = ledger.flip_at(cell, grid, &visits).expect(rt, "memory");
     }
     ledger
@@ -73,10 +73,8 @@ fn flip_often(
 
 // Closes a cell, for which the ledger goes along all plans.
 fn flip_once(rt: &impl Abort, ledger: CostLedger, grid: &mut Grid) -> CostLedger {
-    let cell = Cell::new(10, 0).expect(rt, "a cell");
-    if grid.size().holds(cell) {
-        grid.set(cell, false);
-    }
+    let cell = at(rt, 10, 0);
+    set_one(grid, cell, false);
     ledger.flip(cell, grid).expect(rt, "memory")
 }
 

@@ -1,19 +1,17 @@
-//! By crates, from the lowest on.
+//! What tests share, by crates from the lowest on, and want of memory.
+mod build;
 mod changes;
 mod comparisons;
 mod conflicts;
 mod cost_times;
-mod edits;
 mod fields;
 mod fleets;
-mod formers;
+mod kept;
 mod lanes;
-mod plans;
+mod memory;
 mod random;
 mod records;
 mod rows;
-mod small_types;
 mod streams;
-mod tasks;
 mod times;
 mod walks;

@@ -1,8 +1,9 @@
 //! Random changes of fleets and their maps: the index and both ledgers beside plain programs.
-use super::changes::{Kept, change, flip};
+use super::changes::{change, flip, flipped};
 use super::comparisons::{compare_costs, compare_index};
 use super::conflicts::compare_conflicts;
 use super::fleets::{Fleet, Manner};
+use super::kept::Kept;
 use super::walks::any_agent;
 use grid_cells::Agent;
 use plan_table::Mode;
@@ -68,13 +69,15 @@ fn change_at_random(
     let mut kept = Kept::new(alloc);
     for turn in 0..changes {
         let agent = next_agent(rt, &fleet, turn, chain);
-        let (flipped, visitors) = flip(rt, alloc, kept, &mut fleet, chain);
-        kept = change(rt, alloc, flipped, &mut fleet, agent, chain);
+        if let Some((cell, visitors)) = flip(rt, &mut fleet, chain) {
+            kept = flipped(rt, alloc, kept, cell, &fleet);
+            seen.visitors = seen.visitors.max(visitors);
+        }
+        kept = change(rt, alloc, kept, &mut fleet, agent, chain);
         compare_index(rt, alloc, &kept.index, &fleet, chain);
         compare_costs(rt, alloc, &kept, &fleet);
         let rings = compare_conflicts(rt, alloc, &kept, &fleet, chain);
         seen.rings = seen.rings.saturating_add(rings);
-        seen.visitors = seen.visitors.max(visitors);
     }
     seen.last = seen.last.max(kept.index.horizon());
     drop(kept);

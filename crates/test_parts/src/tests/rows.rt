@@ -17,45 +17,8 @@ fn front(rt: &impl Abort, alloc: Global, plan: &Plan, until: u32) -> Vec<Cell> {
     cells
 }
 
-// Any time of the plan.
-fn any_time(plan: &Plan, chain: &mut Chain) -> u32 {
-    chain.roll(plan.last() as usize + 1) as u32
-}
-
-// The plan with one wait more, at any time.
-fn delayed(rt: &impl Abort, alloc: Global, old: &Plan, chain: &mut Chain) -> Plan {
-    let until = any_time(old, chain);
-    let mut cells = front(rt, alloc, old, until);
-    for time in until..=old.last() {
-        cells.push(old.at(Step::new(time))).expect(rt, "memory");
-    }
-    plan_of(rt, cells)
-}
-
-// The plan's way back.
-fn reversed(rt: &impl Abort, alloc: Global, old: &Plan) -> Plan {
-    let mut cells = Vec::new(alloc);
-    for cell in old.cells().iter().rev() {
-        cells.push(*cell).expect(rt, "memory");
-    }
-    plan_of(rt, cells)
-}
-
-// The plan up to that time, and other cells after it.
-fn turned(
-    rt: &impl Abort,
-    alloc: Global,
-    old: &Plan,
-    until: u32,
-    chain: &mut Chain,
-    size: Size,
-) -> Plan {
-    let cells = front(rt, alloc, old, until);
-    walk_on(rt, cells, old.at(Step::new(until)), chain, size)
-}
-
-// What becomes of an agent's plan: a delay, its way back, its front alone, a new one, another end, or
-// any other cells after its front.
+// What becomes of an agent's plan: a new one; or its front, up to any time or almost its end, and then
+// the rest after one wait more, nothing, or any other cells; or its way back.
 fn other_plan(
     rt: &impl Abort,
     alloc: Global,
@@ -64,17 +27,32 @@ fn other_plan(
     fleet: &Fleet,
     agent: Agent,
 ) -> Plan {
-    let size = fleet.grid.size();
-    let any = any_time(old, chain);
+    let any = chain.roll(old.last() as usize + 1) as u32;
     let late = old.last().saturating_sub(chain.roll(3) as u32);
-    match chain.roll(8) {
-        0 => delayed(rt, alloc, old, chain),
-        1 => reversed(rt, alloc, old),
-        2 => plan_of(rt, front(rt, alloc, old, any)),
-        3 => new_plan(rt, alloc, chain, fleet, agent),
-        4 => turned(rt, alloc, old, any, chain, size),
-        _ => turned(rt, alloc, old, late, chain, size),
+    let turn = chain.roll(8);
+    if turn == 3 {
+        return new_plan(rt, alloc, chain, fleet, agent);
     }
+    let until = match turn {
+        0 | 2 | 4 => any,
+        1 => old.last(),
+        _ => late,
+    };
+    let mut cells = front(rt, alloc, old, until);
+    match turn {
+        0 => {
+            for time in until..=old.last() {
+                cells.push(old.at(Step::new(time))).expect(rt, "memory");
+            }
+        }
+        1 => cells.reverse(),
+        2 => {}
+        _ => {
+            let here = old.at(Step::new(until));
+            return walk_on(rt, cells, here, chain, fleet.grid.size());
+        }
+    }
+    plan_of(rt, cells)
 }
 
 // A row for the plan: its goal is the plan's end in every second draw.

@@ -1,6 +1,6 @@
 //! Readers and writers that are interrupted, and that fail in the middle; lines of words.
 use desk_report::{ReadFailed, Sink, Source, Spout, Tap, Word, WriteFailed, put_all, put_line};
-use grid_cells::{Agent, Cell, Step};
+use grid_cells::{Agent, Cell, List, OutOfMemory, Step};
 use std::alloc::Global;
 use std::io;
 
@@ -61,17 +61,6 @@ impl io::Write for Halting {
 }
 
 #[test]
-fn reads_to_the_end(rt: HostRuntime) {
-    let mut source = Tap::new(b"abc".as_slice());
-    assert!(rt; source.next_byte() == Ok(Some(b'a')));
-    assert!(rt; source.next_byte() == Ok(Some(b'b')));
-    let mut rest = Tap::new(source.into_inner());
-    assert!(rt; rest.next_byte() == Ok(Some(b'c')));
-    assert!(rt; rest.next_byte() == Ok(None));
-    assert!(rt; rest.next_byte() == Ok(None));
-}
-
-#[test]
 fn reader_fails_in_the_middle(rt: HostRuntime) {
     let mut source = Tap::new(Halting::new(rt.alloc(), 2));
     assert!(rt; source.next_byte() == Ok(Some(b'x')));
@@ -109,7 +98,14 @@ fn line_of_all_words(rt: HostRuntime) {
 }
 
 #[test]
-fn failures_have_texts(rt: HostRuntime) {
-    let texts = format!(in rt.alloc(); "{}, {}", ReadFailed, WriteFailed).expect(&rt, "memory");
-    assert!(rt; texts.as_str() == "read failed, write failed");
+fn lists_and_texts_of_failures(rt: HostRuntime) {
+    let alloc = rt.alloc();
+    let list = List::new(vec![in alloc; 4_u32, 2].expect(&rt, "memory"));
+    assert!(rt; list.items() == [4, 2].as_slice());
+    let same = List::new(vec![in alloc; 4_u32, 2].expect(&rt, "memory"));
+    let other = List::new(vec![in alloc; 4_u32].expect(&rt, "memory"));
+    assert!(rt; list == same && list != other && same.into_items().len() == 2);
+    let texts = format!(in alloc; "{ReadFailed}, {WriteFailed}, {OutOfMemory}");
+    let wanted = "read failed, write failed, out of memory";
+    assert!(rt; texts.expect(&rt, "memory").as_str() == wanted);
 }

@@ -1,15 +1,16 @@
 //! How long many changes take of 4,096 agents, each with a path of 65 cells, in the index and the ledger
 //! of conflicts, and what a record of the index takes. The times are printed.
+use super::build::agent;
 use super::walks::plan_of;
 use conflict_ledger::ConflictLedger;
 use grid_cells::{Agent, Cell};
-use plan_table::{Plan, Track};
+use plan_table::Plan;
 use std::alloc::Global;
 use std::fs;
 use std::process::Abort;
 use std::rt::{Clock, Files};
 use std::time::Instant;
-use test_support::since;
+use test_support::{since, stays};
 use where_index::WhereIndex;
 
 /// The time.
@@ -24,11 +25,6 @@ pub fn tell(rt: &(impl Abort + Clock + Print), what: &str, began: Instant) {
     assert!(rt; took.as_secs() < 30, "{what}");
 }
 
-/// The agent of that number.
-pub fn agent(rt: &impl Abort, number: u32) -> Agent {
-    Agent::new(number).expect(rt, "an agent")
-}
-
 /// A path of 65 cells, each a move from the one before: to the right in a row of its own, and downwards
 /// after `turn` steps.
 pub fn lane(rt: &impl Abort, alloc: Global, number: u32, turn: u32) -> Plan {
@@ -39,13 +35,6 @@ pub fn lane(rt: &impl Abort, alloc: Global, number: u32, turn: u32) -> Plan {
         cells.push(cell.expect(rt, "a cell")).expect(rt, "memory");
     }
     plan_of(rt, cells)
-}
-
-fn stays(plan: &Plan) -> Track<'_> {
-    Track {
-        plan,
-        leaves: false,
-    }
 }
 
 // The pages that the process has in memory: the second number of Linux's statm.

@@ -8,8 +8,7 @@ use std::process::Abort;
 use std::sync::atomic::{AtomicU64, Ordering};
 use std::sync::{Mutex, Wait};
 use std::thread::Threads;
-use test_droughts::take_all;
-use test_support::{Turnstile, scene, text_of};
+use test_support::{Turnstile, scene, take_all, text_of};
 
 // Each agent goes from its cell to the next one, which is its goal.
 const RING_OF_FOUR: &[&str] = &[

@@ -4,7 +4,7 @@ use super::samples::{FIRST, SECOND, one};
 use desk_session::{Journal, JournalFault, read_journal, upgrade_journal};
 use std::alloc::Global;
 use std::process::Abort;
-use test_droughts::Drought;
+use test_support::Drought;
 
 // Whether the journal of both was read; or else there was want of memory.
 fn is_journal(rt: &impl Abort, alloc: Global, read: Result<Journal, JournalFault>) -> bool {

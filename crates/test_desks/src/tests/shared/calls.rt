@@ -10,7 +10,7 @@ use grid_cells::OutOfMemory;
 use std::alloc::Global;
 use std::process::Abort;
 use std::sync::Wait;
-use test_droughts::Drought;
+use test_support::Drought;
 
 /// The lines of the desk's scene.
 pub const BEFORE: &[&str] = &["agent 3 0,0 2,0"];

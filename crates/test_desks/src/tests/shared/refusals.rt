@@ -8,7 +8,7 @@ use desk_shared::{Pass, SharedDesk};
 use std::alloc::Global;
 use std::process::Abort;
 use std::sync::Wait;
-use test_droughts::Drought;
+use test_support::Drought;
 
 // The call that has too little memory, the bytes that it has, and whether it is made again and the
 // others follow, or the desk is closed at once.

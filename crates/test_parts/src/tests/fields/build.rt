@@ -1,17 +1,17 @@
 //! Maps whose cells open and close, and fields that follow.
 ghost use Rattle.std.specs.Prelude.{◌≡◌, ◌≢◌};
-ghost use Rattle.grid_cells.specs.Cell.{Point, point};
+ghost use Rattle.grid_cells.specs.Cell.{Point};
 ghost use Rattle.grid_cells.specs.Size.{Holds};
 ghost use Rattle.goal_fields.specs.Target.{Covers, flag_at};
 ghost use Rattle.goal_fields.specs.Held.{StandFor};
 
+use crate::tests::build::at;
 use goal_fields::{Field, Fields};
-use grid_cells::{Cell, Grid, Size};
-use std::alloc::Global;
+use grid_cells::{Cell, Grid};
 use std::process::Abort;
 
-// Opens or closes the cell, where the map has it.
-fn set_one(grid: &mut Grid, cell: Cell, free: bool)
+/// Opens or closes the cell, where the map has it.
+pub fn set_one(grid: &mut Grid, cell: Cell, free: bool)
     ensures size { grid.new.size ≡ grid.old.size }
     ensures others { (v : Point) → Holds grid.old.size v → v ≢ cell → flag_at grid.new v ≡ flag_at grid.old v }
 {
@@ -46,18 +46,6 @@ pub fn change_each(fields: &mut Fields, grid: &mut Grid, cells: &[Cell], free: b
 {
     set_all(grid, cells, free);
     fields.repair(grid, cells)
-}
-
-pub fn at(rt: &impl Abort, x: u32, y: u32) -> Cell
-    ensures { result ≡ point x y }
-{
-    Cell::new(x, y).expect(rt, "a cell")
-}
-
-pub fn open_map(rt: &impl Abort, alloc: Global, size: Size) -> Grid
-    ensures { result.size ≡ size }
-{
-    Grid::all_open(alloc, size).expect(rt, "memory")
 }
 
 /// No distance.

@@ -3,7 +3,8 @@ ghost use Rattle.std.specs.Prelude.{◌≡◌};
 ghost use Rattle.grid_cells.specs.Size.{Holds};
 ghost use Rattle.goal_fields.specs.Held.{StandFor};
 
-use super::build::{NO, at, change, change_each, has_row, open_map};
+use super::build::{NO, change, change_each, has_row};
+use crate::tests::build::{at, open_map};
 use goal_fields::{Field, Fields};
 use grid_cells::{Cell, Grid, Size};
 use std::alloc::Global;

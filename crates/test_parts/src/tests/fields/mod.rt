@@ -1,4 +1,4 @@
 //! Fields of distances under changes of the map: counts of their repairs, and a plain search beside them.
-mod build;
+pub mod build;
 mod examples;
 mod random;

@@ -2,7 +2,8 @@
 ghost use Rattle.std.specs.Prelude.{◌≡◌};
 ghost use Rattle.grid_cells.specs.Size.{Holds};
 
-use super::build::{at, change, open_map};
+use super::build::change;
+use crate::tests::build::{at, open_map};
 use goal_fields::{Field, PlainField};
 use grid_cells::{Cell, Grid, Size};
 use std::alloc::Global;

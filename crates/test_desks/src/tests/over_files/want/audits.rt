@@ -7,7 +7,7 @@ use std::alloc::Global;
 use std::process::Abort;
 use std::sync::Wait;
 use std::thread::Threads;
-use test_droughts::Drought;
+use test_support::Drought;
 
 const JOURNAL: &str = "journal 1\nentry 0 0 0 1\npath 0 0,0 1,0 2,0\nend 1\n";
 

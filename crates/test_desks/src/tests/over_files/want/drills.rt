@@ -6,8 +6,7 @@ use std::mem;
 use std::process::Abort;
 use std::sync::Wait;
 use std::thread::Threads;
-use test_droughts::take_all;
-use test_support::Turnstile;
+use test_support::{Turnstile, take_all};
 
 // The drill's text where both scripts' edits were accepted, where one was and the other found no
 // memory, and where neither found any.

@@ -6,7 +6,7 @@ use desk_runs::{RunFault, run_serve};
 use plan_table::Mode;
 use std::alloc::Global;
 use std::process::Abort;
-use test_droughts::Drought;
+use test_support::Drought;
 
 const EMPTY: &str =
     "version 0\nagents 0\nconflicts 0\nblocked 0\nsum 0\nmakespan 0\nbounds 0\ngap 0\nend\n";

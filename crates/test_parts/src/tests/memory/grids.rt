@@ -1,58 +1,37 @@
-//! Grids, plans and tables of plans.
-use super::build::{at, plan, size_of};
-use super::trials::Trial;
-use grid_cells::{Cell, Grid};
+//! Copies of grids and plans, and room in a table of plans.
+use super::maps::is_map;
+use super::trials::{Memory, Trial};
+use crate::tests::build::{at, plan, size_of};
+use crate::tests::fields::build::set_one;
+use grid_cells::Grid;
 use plan_table::Plans;
 use std::alloc::Global;
 use std::process::Abort;
 use test_support::are_at;
 
-/// Closes the cell, where the map has it.
-pub fn close(grid: &mut Grid, cell: Cell) {
-    if grid.size().holds(cell) {
-        grid.set(cell, false);
-    }
-}
-
-/// Whether the first cells of the upper row are open as is told.
-pub fn is_open_at(rt: &impl Abort, grid: &Grid, told: &[bool]) -> bool {
-    let mut x = 0u32;
-    for open in told {
-        let cell = at(rt, x, 0);
-        if !grid.size().holds(cell) || grid.is_open(cell) != *open {
-            return false;
-        }
-        x = x.saturating_add(1);
-    }
-    true
-}
-
-// Whether the map has 3 x 1 cells, of which the middle one alone is closed.
-fn is_parted(rt: &impl Abort, grid: &Grid) -> bool {
-    grid.size() == size_of(rt, 3, 1) && is_open_at(rt, grid, &[true, false, true])
-}
+const PARTED: &[u8] = b"type octile\nheight 1\nwidth 3\nmap\n.@.\n";
 
 fn copy_of_a_grid(rt: &impl Abort, alloc: Global, trial: &mut Trial) {
-    trial.leave(rt);
+    trial.leave(rt, Memory::Little);
     let made = Grid::all_open(alloc, size_of(rt, 3, 1));
     let Some(mut grid) = trial.met(rt, made) else {
         return;
     };
-    close(&mut grid, at(rt, 1, 0));
-    trial.leave(rt);
+    set_one(&mut grid, at(rt, 1, 0), false);
+    trial.leave(rt, Memory::Little);
     let made = grid.copy();
     let copy = match trial.met(rt, made) {
         Some(copy) => copy,
         None => grid.copy().expect(rt, "memory"),
     };
-    assert!(rt; is_parted(rt, &copy) && is_parted(rt, &grid));
+    assert!(rt; is_map(rt, alloc, &copy, PARTED) && is_map(rt, alloc, &grid, PARTED));
     drop(copy);
     drop(grid);
 }
 
 fn copy_of_a_plan(rt: &impl Abort, alloc: Global, trial: &mut Trial) {
-    let plan = plan(rt, alloc, "path 0 0,0 1,0 1,0");
-    trial.leave(rt);
+    let plan = plan(rt, alloc, "path 0 0,0 1,0 1,0").expect(rt, "a plan");
+    trial.leave(rt, Memory::Little);
     let made = plan.copy();
     let copy = match trial.met(rt, made) {
         Some(copy) => copy,
@@ -64,7 +43,7 @@ fn copy_of_a_plan(rt: &impl Abort, alloc: Global, trial: &mut Trial) {
 
 fn room_of_plans(rt: &impl Abort, alloc: Global, trial: &mut Trial) {
     let mut plans = Plans::new(alloc);
-    trial.leave(rt);
+    trial.leave(rt, Memory::Little);
     let made = plans.make_room();
     if trial.met(rt, made).is_none() {
         assert!(rt; plans.count() == 0);

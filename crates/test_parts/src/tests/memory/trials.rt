@@ -5,10 +5,23 @@ ghost use Rattle.std.specs.Result.{result_ok};
 use grid_cells::OutOfMemory;
 use std::alloc::Global;
 use std::process::Abort;
-use test_droughts::Drought;
+use test_support::Drought;
 
-/// The most calls of a script.
+/// The most calls of a script that find little memory.
 const MOST_CALLS: usize = 8;
+
+/// What memory a call finds.
+#[derive(Clone, Copy)]
+pub enum Memory {
+    /// Enough.
+    Ample,
+    /// Enough, but for the runs in which this call is the tried one.
+    Little,
+    /// None, and it takes none.
+    No,
+    /// None, and it may be refused for that.
+    Wanting,
+}
 
 /// A script is run over and over. In each run one call, the tried one, finds so many bytes of memory
 /// and no more, and all others find enough. First that is no byte for the first call, then 16 bytes
@@ -22,9 +35,11 @@ pub struct Trial {
     // The tried call, and the bytes that are left to it.
     tried: usize,
     bytes: usize,
-    // How many calls this run has made, and whether the tried one was refused.
+    // How many calls with little memory this run has made, and whether the tried one was refused.
     made: usize,
     refused: bool,
+    // Whether the last call may be refused.
+    may_fail: bool,
     // How often each call was refused, in all runs.
     counts: [u32; MOST_CALLS],
 }
@@ -37,25 +52,22 @@ impl Trial {
             bytes: 0,
             made: 0,
             refused: false,
+            may_fail: false,
             counts: [0; MOST_CALLS],
         }
     }
 
-    /// To be called before each script.
-    pub fn start_anew(&mut self) {
-        self.tried = 0;
-        self.bytes = 0;
-        self.made = 0;
-        self.refused = false;
-        self.counts = [0; MOST_CALLS];
-    }
-
-    /// To be called before each call of the script.
-    pub fn leave(&mut self, rt: &impl Abort) {
-        if self.made == self.tried {
-            self.drought.leave(self.bytes).expect(rt, "so much memory");
+    /// To be called before each call of the script, with the memory that it finds.
+    pub fn leave(&mut self, rt: &impl Abort, memory: Memory) {
+        let tried = matches!(memory, Memory::Little) && self.made == self.tried;
+        self.may_fail = tried || matches!(memory, Memory::Wanting);
+        let bytes = if tried { self.bytes } else { 0 };
+        if tried || matches!(memory, Memory::No | Memory::Wanting) {
+            self.drought.leave(bytes).expect(rt, "so much memory");
         }
-        self.made = self.made.saturating_add(1);
+        self.made = self
+            .made
+            .saturating_add(usize::from(matches!(memory, Memory::Little)));
     }
 
     /// To be handed the answer of each call, or none for want of memory. All memory is back then.
@@ -64,26 +76,13 @@ impl Trial {
     {
         self.drought.relieve();
         if answer.is_err() {
-            assert!(rt;
-                self.made == self.tried.saturating_add(1),
-                "there was memory"
-            );
+            assert!(rt; self.may_fail, "there was memory");
             self.refused = true;
             if self.tried < MOST_CALLS {
                 self.counts[self.tried] = self.counts[self.tried].saturating_add(1);
             }
         }
         answer.ok()
-    }
-
-    /// Leaves no memory to calls that take none.
-    pub fn leave_none(&mut self, rt: &impl Abort) {
-        self.drought.leave(0).expect(rt, "memory");
-    }
-
-    /// Ends what `leave_none` began.
-    pub fn relieve(&mut self) {
-        self.drought.relieve();
     }
 
     /// To be called after each run of a script of so many calls: whether there is another run. Each
@@ -96,19 +95,20 @@ impl Trial {
             return true;
         }
         assert!(rt; self.tried < MOST_CALLS);
-        assert!(rt;
-            self.counts[self.tried] > 0,
-            "call {} is never refused",
-            self.tried
-        );
+        assert!(rt; self.counts[self.tried] > 0, "a call is never refused");
         self.tried += 1;
         self.bytes = 0;
         self.tried < calls
     }
 
-    /// To be called at the end, when each call has been tried: how often each was refused.
-    pub fn over(&self, rt: &impl Abort, calls: usize) -> &[u32] {
-        assert!(rt; self.tried == calls && calls <= MOST_CALLS);
-        &self.counts[..calls]
+    /// To be called at the end, when each call has been tried: how often each was refused. What comes
+    /// next is another script.
+    pub fn over(&mut self, rt: &impl Abort, calls: usize) -> [u32; MOST_CALLS] {
+        assert!(rt; self.tried == calls && self.made == 0);
+        let counts = self.counts;
+        self.tried = 0;
+        self.bytes = 0;
+        self.counts = [0; MOST_CALLS];
+        counts
     }
 }

@@ -1,7 +1,7 @@
 //! The plain programs, which go over all times and pairs.
-use super::rings::RING;
+use super::fleet_rows::RING;
 use super::told::{are_told, is_told};
-use super::trials::Trial;
+use super::trials::{Memory, Trial};
 use desk_report::plain_report;
 use mapf_rules::conflicts;
 use plan_table::Mode;
@@ -23,7 +23,7 @@ const ROUND: [&str; 8] = [
 
 // The conflicts of the scene, which are those of a ring.
 fn found(rt: &impl Abort, alloc: Global, trial: &mut Trial, scene: &Scene) -> Option<()> {
-    trial.leave(rt);
+    trial.leave(rt, Memory::Little);
     let found = conflicts(alloc, scene.plans(), Mode::Stay);
     let found = trial.met(rt, found)?;
     assert!(rt; are_told(rt, alloc, found, RING));
@@ -56,7 +56,7 @@ end
 // The report of the scene, which is that of a row.
 fn told(rt: &impl Abort, alloc: Global, trial: &mut Trial, scene: &Scene) -> Option<()> {
     let bounds = [Some(0), Some(2)];
-    trial.leave(rt);
+    trial.leave(rt, Memory::Little);
     let report = plain_report(alloc, scene.grid(), Mode::Stay, scene.plans(), &bounds);
     let report = trial.met(rt, report)?;
     assert!(rt; is_told(rt, alloc, &report, &[REST_TOLD]));

@@ -2,7 +2,7 @@
 ghost use Rattle.std.specs.Prelude.{◌≡◌};
 ghost use Rattle.grid_cells.specs.Cell.{point};
 
-use grid_cells::{Agent, Cell, Size};
+use grid_cells::{Agent, Cell, Grid, Size};
 use plan_table::Plan;
 use std::alloc::Global;
 use std::process::Abort;
@@ -24,7 +24,17 @@ pub fn size_of(rt: &impl Abort, width: u32, height: u32) -> Size
     Size::new(width, height).expect(rt, "a size")
 }
 
-/// The plan of a path's line.
-pub fn plan(rt: &impl Abort, alloc: Global, line: &str) -> Plan {
-    test_support::plan(alloc, line).expect(rt, "a plan")
+/// The open map of that size.
+pub fn open_map(rt: &impl Abort, alloc: Global, size: Size) -> Grid
+    ensures { result.size ≡ size }
+{
+    Grid::all_open(alloc, size).expect(rt, "memory")
+}
+
+/// The plan of a path's line. There is none of an empty line.
+pub fn plan(rt: &impl Abort, alloc: Global, line: &str) -> Option<Plan> {
+    if line.is_empty() {
+        return None;
+    }
+    Some(test_support::plan(alloc, line).expect(rt, "a plan"))
 }
