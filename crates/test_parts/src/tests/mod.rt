@@ -3,7 +3,6 @@ mod build;
 mod changes;
 mod comparisons;
 mod conflicts;
-mod cost_times;
 mod fields;
 mod fleets;
 mod kept;

@@ -1,40 +1,46 @@
-//! How long many changes take of 4,096 agents, each with a path of 65 cells, in the index and the ledger
-//! of conflicts, and what a record of the index takes. The times are printed.
-use super::build::agent;
+//! How long many changes take of 4,096 agents, each with a path of 65 cells, in the index and both
+//! ledgers, and what a record of the index takes. The times are printed.
+use super::build::{agent, at};
+use super::fields::build::set_one;
+use super::kept::{Kept, turned};
 use super::walks::plan_of;
-use conflict_ledger::ConflictLedger;
-use grid_cells::{Agent, Cell};
-use plan_table::Plan;
+use cost_ledger::CostLedger;
+use grid_cells::{Agent, Cell, Grid, Step};
+use mapf_rules::Visit;
+use plan_table::{Mode, Row};
 use std::alloc::Global;
 use std::fs;
 use std::process::Abort;
 use std::rt::{Clock, Files};
 use std::time::Instant;
-use test_support::{since, stays};
+use test_support::open_grid;
 use where_index::WhereIndex;
 
-/// The time.
-pub fn now(rt: &(impl Abort + Clock)) -> Instant {
+fn now(rt: &(impl Abort + Clock)) -> Instant {
     Instant::now(rt).expect(rt, "the clock")
 }
 
-/// Prints how long it took, which is less than 30 seconds.
-pub fn tell(rt: &(impl Abort + Clock + Print), what: &str, began: Instant) {
+// Prints how long it took, which is less than 30 seconds.
+fn tell(rt: &(impl Abort + Clock + Print), what: &str, began: Instant) {
     let took = began.elapsed(rt).expect(rt, "the clock");
     println!(rt; "{what}: {took:?}").expect(rt, "print");
     assert!(rt; took.as_secs() < 30, "{what}");
 }
 
-/// A path of 65 cells, each a move from the one before: to the right in a row of its own, and downwards
-/// after `turn` steps.
-pub fn lane(rt: &impl Abort, alloc: Global, number: u32, turn: u32) -> Plan {
+// The row of an agent that ends at its goal by a path of 65 cells, each a move from the one before: to
+// the right in a row of its own, and downwards after `turn` steps.
+fn lane(rt: &impl Abort, alloc: Global, number: u32, turn: u32) -> Row {
     let (left, top) = (number / 64 % 64 * 7, number % 64);
     let mut cells = Vec::new(alloc);
     for step in 0..65u32 {
-        let cell = Cell::new(left + step.min(turn), top + step.saturating_sub(turn));
-        cells.push(cell.expect(rt, "a cell")).expect(rt, "memory");
+        let (x, y) = (left + step.min(turn), top + step.saturating_sub(turn));
+        cells.push(at(rt, x, y)).expect(rt, "memory");
     }
-    plan_of(rt, cells)
+    let plan = plan_of(rt, cells);
+    Row {
+        goal: plan.at(Step::new(64)),
+        plan,
+    }
 }
 
 // The pages that the process has in memory: the second number of Linux's statm.
@@ -44,42 +50,40 @@ fn pages(rt: &(impl Abort + Alloc + Files)) -> u64 {
     word.parse::<u64>().expect(rt, "a number")
 }
 
-// All agents in an index, and in a ledger of conflicts.
-fn filled(rt: &impl Abort, alloc: Global) -> (WhereIndex, ConflictLedger) {
-    let mut index = WhereIndex::new(alloc);
-    let mut ledger = ConflictLedger::new(alloc);
+// What is kept of all agents.
+fn filled(rt: &impl Abort, alloc: Global, grid: &Grid) -> Kept {
+    let mut kept = Kept::new(alloc);
     for number in 0..4_096u32 {
-        let plan = lane(rt, alloc, number, 64);
-        let agent = agent(rt, number);
-        index = index.put(agent, stays(&plan)).expect(rt, "memory");
-        ledger = ledger
-            .admit(agent, stays(&plan), &index)
-            .expect(rt, "memory");
+        let row = lane(rt, alloc, number, 64);
+        kept = turned(
+            rt,
+            kept,
+            agent(rt, number),
+            None,
+            Some(&row),
+            Mode::Stay,
+            grid,
+        );
     }
-    (index, ledger)
+    kept
 }
 
-// Turns agent 0 between its two paths.
+// Agent 0 gets the new row in place of the old one, and back, so often. A row that isn't there is that of
+// an agent that goes.
 fn turned_often(
     rt: &impl Abort,
-    mut index: WhereIndex,
-    mut ledger: ConflictLedger,
-    straight: &Plan,
-    turned: &Plan,
-) -> WhereIndex {
-    let (mut old, mut new) = (stays(straight), stays(turned));
-    for _ in 0..10_000u32 {
-        let since = since(old, new);
-        index = index
-            .swap(Agent::LEAST, old, new, since)
-            .expect(rt, "memory");
-        ledger = ledger
-            .revise(Agent::LEAST, old, new, since, &index)
-            .expect(rt, "memory");
-        (old, new) = (new, old);
+    mut kept: Kept,
+    old: &Row,
+    new: Option<&Row>,
+    rounds: u32,
+    grid: &Grid,
+) -> Kept {
+    let agent = Agent::LEAST;
+    for _ in 0..rounds {
+        kept = turned(rt, kept, agent, Some(old), new, Mode::Stay, grid);
+        kept = turned(rt, kept, agent, new, Some(old), Mode::Stay, grid);
     }
-    drop(ledger);
-    index
+    kept
 }
 
 // How many bytes of memory a record takes, of which there are 64 Stand, one Tail and 64 Move of each agent.
@@ -88,21 +92,94 @@ fn bytes_of_a_record(rt: &(impl Abort + Alloc + Files), index: &WhereIndex, befo
     pages(rt).saturating_sub(before).saturating_mul(4_096) / 528_384
 }
 
+// The visits to the cell (10,0), which two of the lanes have.
+fn visits(rt: &impl Abort, alloc: Global, cell: Cell) -> Vec<Visit> {
+    let mut visits = Vec::new(alloc);
+    for (number, time) in [(0, 10), (64, 3)] {
+        let visit = Visit {
+            agent: agent(rt, number),
+            time: Step::new(time),
+            cell,
+        };
+        visits.push(visit).expect(rt, "memory");
+    }
+    visits
+}
+
+// Closes and opens the cell in turn, where the visits to it are known.
+fn flip_often(
+    rt: &impl Abort,
+    alloc: Global,
+    mut costs: CostLedger,
+    cell: Cell,
+    grid: &mut Grid,
+) -> CostLedger {
+    let visits = visits(rt, alloc, cell);
+    for turn in 0..10_000u32 {
+        set_one(grid, cell, turn % 2 == 1);
+        costs = costs.flip_at(cell, grid, &visits).expect(rt, "memory");
+    }
+    costs
+}
+
+// Closes the cell, for which the ledger goes along all plans.
+fn flip_once(rt: &impl Abort, costs: CostLedger, cell: Cell, grid: &mut Grid) -> CostLedger {
+    set_one(grid, cell, false);
+    costs.flip(cell, grid).expect(rt, "memory")
+}
+
 // Four Stand, one Tail and five Move of either track are touched by each swap.
+fn turns(
+    rt: &(impl Abort + Clock + Print),
+    mut kept: Kept,
+    straight: &Row,
+    bent: &Row,
+    grid: &Grid,
+) -> Kept {
+    let began = now(rt);
+    kept = turned_often(rt, kept, straight, Some(bent), 5_000, grid);
+    tell(rt, "10,000 swaps and revises", began);
+    assert!(rt; kept.index.touched() == 728_384);
+    let began = now(rt);
+    kept = turned_often(rt, kept, straight, None, 10_000, grid);
+    tell(rt, "10,000 takes and puts", began);
+    assert!(rt; kept.costs.sum() == Some(262_144) && kept.costs.unfinished() == 0);
+    kept
+}
+
+// Cell (10,0) closes and opens often, and closes at last.
+fn flips(rt: &(impl Abort + Clock + Print), alloc: Global, mut costs: CostLedger, grid: &mut Grid) {
+    let cell = at(rt, 10, 0);
+    let began = now(rt);
+    costs = flip_often(rt, alloc, costs, cell, grid);
+    tell(rt, "10,000 flips where the visits are known", began);
+    assert!(rt; costs.sum() == Some(262_144) && costs.unfinished() == 0);
+    let began = now(rt);
+    costs = flip_once(rt, costs, cell, grid);
+    tell(rt, "a flip along all plans", began);
+    assert!(rt; costs.visits() == 2);
+    drop(costs);
+}
+
+// All agents come; agent 0 changes its path often, and goes and comes; and a cell changes.
 #[test]
-fn swaps_and_revises_in_little_time(rt: HostRuntime) {
-    let straight = lane(&rt, rt.alloc(), 0, 64);
-    let turned = lane(&rt, rt.alloc(), 0, 59);
-    let before = pages(&rt);
-    let began = now(&rt);
-    let (index, ledger) = filled(&rt, rt.alloc());
+fn many_changes_in_little_time(rt: HostRuntime) {
+    let mut grid = open_grid(rt.alloc(), 512, 64).expect(&rt, "a map");
+    let (before, began) = (pages(&rt), now(&rt));
+    let kept = filled(&rt, rt.alloc(), &grid);
     tell(&rt, "4,096 puts and admits", began);
-    let each = bytes_of_a_record(&rt, &index, before);
+    let each = bytes_of_a_record(&rt, &kept.index, before);
     println!(rt; "{each} bytes a record").expect(&rt, "print");
     assert!(rt; each < 64);
-    let began = now(&rt);
-    let index = turned_often(&rt, index, ledger, &straight, &turned);
-    tell(&rt, "10,000 swaps and revises", began);
-    assert!(rt; index.touched() == 728_384);
+    let straight = lane(&rt, rt.alloc(), 0, 64);
+    let bent = lane(&rt, rt.alloc(), 0, 59);
+    let Kept {
+        index,
+        ledger,
+        costs,
+    } = turns(&rt, kept, &straight, &bent, &grid);
     drop(index);
+    drop(ledger);
+    flips(&rt, rt.alloc(), costs, &mut grid);
+    drop(grid);
 }

@@ -1,5 +1,6 @@
 //! Edits of scenes, and what is answered to them.
-use super::scenes::{Answer, Row};
+use super::edits::Row;
+use super::scenes::Answer;
 use super::trials::Memory;
 use plan_table::Mode;
 use scene_edits::EditFault;

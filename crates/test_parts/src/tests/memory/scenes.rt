@@ -1,26 +1,19 @@
 //! Scenes under edits, one by one and in lists: what they change, and that a scene is what it was where
 //! they are refused.
-use super::edit_rows::{FAULTY, FLIPS};
 use super::trials::{Memory, Trial};
-use grid_cells::{Agent, Cell, List, OutOfMemory};
+use grid_cells::{Cell, OutOfMemory};
 use plan_table::{Mode, Plans};
 use scene_edits::{ApplyFault, Change, Edit, EditFault, EditsFault, Scene};
 use std::alloc::Global;
 use std::process::Abort;
-use test_support::{edits, scene};
+use test_support::scene;
 
 /// What an edit changes: of a goal with the column that it had, of a path with the time since when it is
 /// another. Or `refused`, of a list with the index of the edit that is why, and the fault.
 pub type Answer = (&'static str, Option<u32>, Option<EditFault>);
 
-/// The lines of one edit or of a list, the memory that they find, and what is answered.
-pub type Step = (&'static [&'static str], Memory, &'static [Answer]);
-
-/// A scene's mode, the line of its first edit, and the steps behind it.
-pub type Row = (Mode, &'static str, &'static [Step]);
-
-// The scene of the map of 3 x 1 cells, all open, after the edit of a line.
-fn corridor(rt: &impl Abort, alloc: Global, mode: Mode, line: &str) -> Scene {
+/// The scene of the map of 3 x 1 cells, all open, after the edit of a line.
+pub fn corridor(rt: &impl Abort, alloc: Global, mode: Mode, line: &str) -> Scene {
     scene(alloc, 3, 1, &[line])
         .expect(rt, "a scene")
         .with_mode(mode)
@@ -72,8 +65,8 @@ fn is_wanted(answer: Answer, wanted: &[Answer], place: usize) -> bool {
     }
 }
 
-// Makes one edit, which is answered as is wanted, or is refused for want of memory.
-fn one_made(
+/// Makes one edit, which is answered as is wanted, or is refused for want of memory.
+pub fn one_made(
     rt: &impl Abort,
     scene: &mut Scene,
     edit: &Edit,
@@ -128,9 +121,9 @@ fn made(
     }
 }
 
-// Makes the edits. Where the first try finds no memory, or they have a fault, the scene is what it was;
-// the second one is answered as is wanted.
-fn tried(
+/// Makes the edits. Where the first try finds no memory, or they have a fault, the scene is what it was;
+/// the second one is answered as is wanted.
+pub fn tried(
     rt: &impl Abort,
     trial: &mut Trial,
     scene: &mut Scene,
@@ -152,37 +145,6 @@ fn tried(
     assert!(rt; !is_faulty || alike(rt, scene, before));
 }
 
-// Makes the edits of the lines, which are answered as is wanted.
-fn step(
-    rt: &impl Abort,
-    alloc: Global,
-    trial: &mut Trial,
-    scene: &mut Scene,
-    (lines, memory, wanted): (&[&str], Memory, &[Answer]),
-) {
-    let edits = edits(alloc, lines).expect(rt, "edits");
-    let before = scene.copy().expect(rt, "memory");
-    tried(rt, trial, scene, &before, edits.as_slice(), memory, wanted);
-    drop(before);
-    drop(edits);
-}
-
-// Goes through the steps of a row.
-fn run(rt: &impl Abort, alloc: Global, trial: &mut Trial, (mode, first, steps): Row) {
-    let mut scene = corridor(rt, alloc, mode, first);
-    for (lines, memory, wanted) in steps {
-        step(rt, alloc, trial, &mut scene, (lines, *memory, wanted));
-    }
-    drop(scene);
-}
-
-/// Goes through the rows.
-pub fn run_all(rt: &impl Abort, alloc: Global, trial: &mut Trial, rows: &[Row]) {
-    for row in rows {
-        run(rt, alloc, trial, *row);
-    }
-}
-
 /// The copy of a scene, by the second try where the first finds no memory.
 pub fn copied(rt: &impl Abort, alloc: Global, trial: &mut Trial) {
     let scene = corridor(rt, alloc, Mode::Disappear, "agent 3 0,0 2,0");
@@ -196,42 +158,4 @@ pub fn copied(rt: &impl Abort, alloc: Global, trial: &mut Trial) {
     assert!(rt; copy.mode() == Mode::Disappear && copy.plans().count() == 1);
     drop(copy);
     drop(scene);
-}
-
-// Agent 0 gets a path of so many cells, all where it starts, and is nowhere else than before.
-fn rests(rt: &impl Abort, alloc: Global, scene: &mut Scene, many: usize) {
-    let start = Cell::new(0, 0).expect(rt, "a cell");
-    let cells = List::new(vec![in alloc; start; many].expect(rt, "memory"));
-    let edit = Edit::Path {
-        agent: Agent::LEAST,
-        cells,
-    };
-    let made = one_made(rt, scene, &edit, &[("moved", None, None)]);
-    assert!(rt; made.is_ok());
-}
-
-#[test]
-fn flips_and_rests(rt: HostRuntime) {
-    let alloc = rt.alloc();
-    let mut trial = Trial::begin(&rt, alloc);
-    run(&rt, alloc, &mut trial, FLIPS);
-    let mut scene = corridor(&rt, alloc, Mode::Stay, "agent 0 0,0 2,0");
-    rests(&rt, alloc, &mut scene, 65_537);
-    drop(scene);
-    drop(trial);
-}
-
-// With no memory an edit is refused by its fault or for want of memory, with ample memory by its fault.
-#[test]
-fn each_edit_fault(rt: HostRuntime) {
-    let alloc = rt.alloc();
-    let mut trial = Trial::begin(&rt, alloc);
-    let mut scene = corridor(&rt, alloc, Mode::Stay, "agent 0 0,0 2,0");
-    for (line, fault) in FAULTY {
-        let wanted = [("refused", None, Some(*fault))];
-        let row: (&[&str], Memory, &[Answer]) = (&[*line], Memory::Wanting, &wanted);
-        step(&rt, alloc, &mut trial, &mut scene, row);
-    }
-    drop(scene);
-    drop(trial);
 }

@@ -1,13 +1,13 @@
 //! All scripts, each run over and over until each growth of its calls was refused once.
 use super::edit_rows::{CUT, LISTS, SINCE};
+use super::edits::{self, Row};
 use super::fleet_rows::{
     CUT_TO_A_REST, EXCHANGED, ROUND, ROUND_AGAIN, SWAPPED, SWAPPED_FOR_LONG, TWO,
 };
 use super::fleets::{self, Turn};
 use super::prices::{self, AIMED_AND_CLOSED, GOAL_CLOSED};
-use super::scenes::{self, Row};
 use super::trials::Trial;
-use super::{fields, grids, maps, plain, scenarios};
+use super::{fields, grids, maps, plain, scenarios, scenes};
 use std::alloc::Global;
 use std::process::Abort;
 
@@ -75,7 +75,7 @@ fn run(rt: &impl Abort, alloc: Global, trial: &mut Trial, script: Script) -> Opt
         Script::CopyOfAScene => Some(scenes::copied(rt, alloc, trial)),
         Script::MapLetters => Some(maps::letters(rt, alloc, trial)),
         Script::ScenarioLines => Some(scenarios::tasks(rt, alloc, trial)),
-        Script::Edits(rows) => Some(scenes::run_all(rt, alloc, trial, rows)),
+        Script::Edits(rows) => Some(edits::run_all(rt, alloc, trial, rows)),
         Script::Fleet(turns) => fleets::run(rt, alloc, trial, turns),
         Script::Prices(turns) => prices::run(rt, alloc, trial, turns),
         Script::QueueOfThree => fields::three_cells(rt, alloc, trial),
