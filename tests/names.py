@@ -39,6 +39,7 @@ def standing():
     names = {told[1] for topic in TOPICS for name, _ in topic.tests() if (told := PROCESS.fullmatch(name))}
     for form in (TEST, ENTRY, REMARK):
         names |= {word for text in found("test_*/src/**/*.rt", form) for word in re.findall(r"\w+", text)}
+    names |= {name for path in (HERE / "processes").glob("*.py") for name in REMARK.findall(path.read_text())}
     return names | {path.stem for path in own_files("*/must-fail/*.edit")}
 
 

@@ -1,6 +1,9 @@
 """Drills of many scripts, and audits of many agents, as large as a test may be; scripts too many, or with faults of two kinds."""
+import re
+import threading
+
 from .memory import MEGA, room_of
-from .running import is_answered, is_fault, is_run, put, remove, run, want
+from .running import PATIENCE, is_answered, is_fault, is_run, put, remove, run, start, want
 
 COUNTED = "  {}: {} accepted, 0 refused, 0 bad\n"
 CORRIDORS = b"type octile\nheight 3\nwidth 7\nmap\n.......\n.@@.@@.\n.......\n"
@@ -54,6 +57,24 @@ def threads_that_commit_and_read():
     remove("tasks")
 
 
+def scripts_run_at_once():
+    """Of scripts that run beside each other, one makes commits of the other stale; one behind the other, none would be.
+
+    The wrong body drill_one_after_another misses.
+    """
+    put("gathers", b"agent 0 0,0 0,0\n" + b"begin\nwatch map\ngoal 0 1,0\ncommit\ncancel\n" * 5000)
+    put("closes", b"close 2,0\nopen 2,0\n" * 10000)
+    for _ in range(10):
+        status, said, complained = run(["drill", "--map", "m", "-v", "gathers", "closes"])
+        want("the end", (status, said.splitlines()[-1]), (0, "audit same"))
+        accepted, refused, bad = map(int, re.fullmatch(r"  gathers: (\d+) accepted, (\d+) refused, (\d+) bad", complained.splitlines()[0]).groups())
+        want("how many lines were heard", (accepted + refused + bad, bad), (25001, 5000 - refused))
+        if refused:
+            break
+    want("whether a commit became stale", refused > 0, True)
+    remove("gathers", "closes")
+
+
 def first_of_two_faulty_scripts():
     """One script has a line too many, the other a line that there is no memory for: whichever ends first, the first in the words' order is told."""
     put("lines", b"agent 0 0,0 0,0\n" + b"\n" * 1000000)
@@ -75,21 +96,58 @@ def line_of_report(agent):
     return f"agent {agent} settle 64 {end}\n"
 
 
-def time_of_a_large_audit():
-    """4,096 agents that go to and fro 64 times and never meet, audited by one, two and four workers."""
+def put_fleet():
+    """A wide map, and a journal of two entries: 4,096 agents that never meet, and their paths to and fro."""
     agents = "".join(f"agent {agent} {x},{y} 0,0\n" for agent, (x, y) in zip(AGENTS, STARTS))
     paths = "".join(f"path {agent} {x},{y}" + f" {x + 1},{y} {x},{y}" * 32 + "\n" for agent, (x, y) in zip(AGENTS, STARTS))
     put("wide", b"type octile\nheight 64\nwidth 128\nmap\n" + (b"." * 128 + b"\n") * 64)
     put("fleet", f"journal 2\nmode stay\nentry 0 0 0 4096\n{agents}entry 0 1 0 4096\n{paths}end 2\n".encode())
-    # An agent starts 2(k mod 64) + k div 64 steps from the corner: over 64 rows of 64 agents 64 times 2,016, three times.
-    totals = "conflicts 0\nblocked 0\nsum none\nmakespan none\nbounds 387072\ngap none\nend\n"
-    wanted = "version 2\nagents 4096\n" + "".join(map(line_of_report, AGENTS)) + totals
+
+
+# An agent starts 2(k mod 64) + k div 64 steps from the corner: over 64 rows of 64 agents 64 times 2,016, three times.
+TOTALS = "conflicts 0\nblocked 0\nsum none\nmakespan none\nbounds 387072\ngap none\nend\n"
+OTHERS = "".join(map(line_of_report, AGENTS[1:])) + TOTALS
+
+
+def time_of_a_large_audit():
+    """4,096 agents that go to and fro 64 times and never meet, audited by one, two and four workers."""
+    put_fleet()
+    wanted = "version 2\nagents 4096\n" + line_of_report(0) + OTHERS
     for workers in (1, 2, 4, 4, 2, 1):
         is_answered(["audit", "--map", "wide", "--journal", "fleet", "--workers", str(workers)], b"", wanted)
     remove("wide", "fleet")
 
 
+def turn(number):
+    """Agent 0 gets a path of one cell, or back its long one; the lines and their answers. Each ninth reading is a whole report."""
+    last = 64 * (number % 2)
+    lines = "path 0" + " 0,0 1,0" * (last // 2) + " 0,0\nsolves vertex edge follow swap cycle\n" + "report\n" * (number % 9 == 0)
+    report = f"version {number + 3}\nagents 4096\nagent 0 settle {last} goal yes bound 0 gap {last}\n{OTHERS}" * (number % 9 == 0)
+    return lines, f"version {number + 3}\nsolves no\n{report}"
+
+
+def ten_thousand_readings():
+    """Ten thousand commits of one agent's path among 4,096, each with a reading behind it.
+
+    The wrong body report_over_all_pairs isn't done in the time that a run has.
+    """
+    put_fleet()
+    put("turns", "".join(turn(number)[0] for number in range(10000)).encode())
+    with open("turns", "rb") as turns:
+        process = start(["serve", "--map", "wide", "--journal", "fleet", "--limit", "10002"], stdin=turns)
+    clock = threading.Timer(PATIENCE, process.kill)
+    clock.start()
+    for number in range(10000):
+        wanted = turn(number)[1].encode()
+        want(f"the answers of turn {number}", process.stdout.read(len(wanted)), wanted)
+    rest = process.communicate()
+    clock.cancel()
+    want("the end", (process.returncode, *rest), (0, b"", b""))
+    remove("wide", "fleet", "turns")
+
+
 def tests():
-    named = (too_many_scripts, eight_planners_fifty_times, threads_that_commit_and_read, first_of_two_faulty_scripts, time_of_a_large_audit)
+    named = (too_many_scripts, eight_planners_fifty_times, threads_that_commit_and_read, scripts_run_at_once, first_of_two_faulty_scripts,
+             ten_thousand_readings, time_of_a_large_audit)
     for test in named:
         yield test.__name__, test

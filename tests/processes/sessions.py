@@ -89,6 +89,13 @@ def fronts_of_a_session():
             is_run(WORDS, front + b"\n", (0, said, ""))
 
 
+def full_gatherings():
+    """A commit watches 4,096 things and makes 4,096 edits, and not one more of either; those are committed."""
+    rows = [(b"begin\n", "base 0\n"), *[(b"watch map\n", "kept\n")] * 4096, (b"watch map\n", "bad 4098 full\n"),
+            *[(b"open 0,0\n", "kept\n")] * 4096, (b"open 0,0\n", "bad 8195 full\n"), (b"commit\n", "version 1\n"), (b"version\n", "version 1\n")]
+    is_run(WORDS, MAP + b"".join(line for line, _ in rows), (0, "".join(answer for _, answer in rows), ""))
+
+
 def torn(text):
     """A stream of those bytes, which fails behind them, once: the end that hears goes away with a byte unheard."""
     here, there = socket.socketpair()
@@ -117,5 +124,5 @@ def writers_that_fail():
 
 
 def tests():
-    for test in (good_sessions, edited_sessions, fronts_of_a_session, readers_that_fail, writers_that_fail):
+    for test in (good_sessions, edited_sessions, fronts_of_a_session, full_gatherings, readers_that_fail, writers_that_fail):
         yield test.__name__, test
