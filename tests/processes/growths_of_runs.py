@@ -1,9 +1,10 @@
 """Want of memory at whole runs over files, growth by growth, and at the starts of their threads."""
 import os
+import subprocess
 
-from .growing import FULL, LARGE, fed, fed_by_a_pipe, growths_apart, served, until_enough
+from .growing import FULL, LARGE, fed, fed_by_a_pipe, fed_to, growths_apart, served, until_enough
 from .journals import FIRST, SECOND
-from .running import bytes_of, put, remove, want
+from .running import Program, bytes_of, put, remove, want
 from .texts import ARRIVED, EMPTY, RESTING, SCEN
 
 
@@ -41,6 +42,21 @@ def replay_in_another_mode():
             want("whether it is refused many times", refusals([*words, "--mode", mode], text, whole) > 5, True)
             want("what is saved", os.path.exists("kept") and bytes_of("kept"), SECOND if whole[0] == 0 else False)
     remove("four", "kept")
+
+
+def upgraded(text, pages):
+    """What the program of crates/demo_texts tells of a journal: the mode that is read, and the text that it is upgraded to."""
+    process = subprocess.Popen([Program.readings], stdout=subprocess.PIPE, stderr=subprocess.PIPE)
+    return fed_to(process, "texts.txt", b"journal %d\n%s" % (len(text), text), pages)
+
+
+def journals_read_and_upgraded():
+    """Where the text itself can be held, each of both is refused at first."""
+    lawful = {(1, "", "Error: memory allocation failed\n"), (0, "out of memory\nout of memory\n", ""), (0, "stay\nout of memory\n", "")}
+    with fed_by_a_pipe("texts.txt"):
+        for text in (FIRST, SECOND):
+            seen = until_enough(text, lambda pages, text=text: upgraded(text, pages), (0, f"stay\n{SECOND.decode()}\n", ""))
+            want("what comes for want of memory", set(seen), lawful)
 
 
 def fault(text):
@@ -103,6 +119,6 @@ def drill_of_two_scripts_in_want_of_memory():
 
 
 def tests():
-    for test in (report_of_a_scenario, empty_report, replay_in_another_mode, audit_of_a_replayed_journal, ring_of_four_by_one_and_by_four,
-                 drill_of_two_scripts_in_want_of_memory):
+    for test in (report_of_a_scenario, empty_report, replay_in_another_mode, journals_read_and_upgraded, audit_of_a_replayed_journal,
+                 ring_of_four_by_one_and_by_four, drill_of_two_scripts_in_want_of_memory):
         yield test.__name__, test

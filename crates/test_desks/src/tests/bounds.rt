@@ -2,8 +2,7 @@
 use super::build::limit;
 use desk_core::{Desk, Scene};
 use desk_report::{Source, Spout, Tap};
-use desk_session::{Bounds, ServeFault, StartFault, serve, serve_with_map};
-use plan_table::Mode;
+use desk_session::{Bounds, ServeFault, serve};
 use std::alloc::Global;
 use std::process::Abort;
 use test_support::{Repeated, open_grid};
@@ -84,28 +83,30 @@ fn is_served<R: Source>(
     let found = serve(alloc, &mut desk, reader, &mut writer, bounds);
     drop(desk);
     let written: Vec<u8> = writer.into_inner();
-    assert_eq!(rt; found, ended, "{bounds:?}");
-    assert_eq!(rt; written.as_slice(), text.as_bytes(), "{bounds:?}");
+    assert!(rt; found == ended && written.as_slice() == text.as_bytes());
     drop(written);
 }
 
-#[test]
-fn endless_readers_and_lines_at_the_bound_of_bytes(rt: HostRuntime) {
+fn byte_by_byte(rt: &impl Abort, alloc: Global) {
     for (byte, left, bounds, calls, ended, text) in BYTE_BY_BYTE {
         let mut reader = Repeated::new(*byte, *left);
-        is_served(&rt, rt.alloc(), &mut reader, *bounds, *ended, text);
-        assert_eq!(rt; reader.calls(), *calls, "{left} times {byte}");
+        is_served(rt, alloc, &mut reader, *bounds, *ended, text);
+        assert!(rt; reader.calls() == *calls);
     }
 }
 
 #[test]
-fn too_many_lines_and_texts_at_the_bounds(rt: HostRuntime) {
+fn endless_readers_and_lines_at_the_bound_of_bytes(rt: HostRuntime) {
+    byte_by_byte(&rt, rt.alloc());
+}
+
+fn texts(rt: &impl Abort, alloc: Global) {
     for (input, lines, bytes, ended, text) in TEXTS {
         let (lines, bytes) = (*lines, *bytes);
         let mut reader = Tap::new(input.as_bytes());
         is_served(
-            &rt,
-            rt.alloc(),
+            rt,
+            alloc,
             &mut reader,
             Bounds { lines, bytes },
             *ended,
@@ -114,24 +115,7 @@ fn too_many_lines_and_texts_at_the_bounds(rt: HostRuntime) {
     }
 }
 
-// A session behind a map, of which so many bytes are heard at most, ends there, with nothing written.
-fn is_cut_off<R: Source>(rt: &impl Abort, alloc: Global, reader: &mut R, bytes: u64) {
-    let mut writer = Spout::new(Vec::new(alloc));
-    let bounds = Bounds { lines: 3, bytes };
-    let ended = serve_with_map(alloc, reader, &mut writer, limit(rt, 5), Mode::Stay, bounds);
-    let written: Vec<u8> = writer.into_inner();
-    assert!(rt; ended == Err(StartFault::Serve(ServeFault::TooManyBytes)));
-    assert!(rt; written.is_empty());
-    drop(written);
-}
-
 #[test]
-fn bytes_of_a_map_count(rt: HostRuntime) {
-    let map = "type octile\nheight 1\nwidth 1\nmap\n.\n# x\n\n";
-    is_cut_off(&rt, rt.alloc(), &mut Tap::new(map.as_bytes()), 36);
-    let front = "type octile\n";
-    is_cut_off(&rt, rt.alloc(), &mut Tap::new(front.as_bytes()), 11);
-    let mut reader = Repeated::new(b'#', u64::MAX);
-    is_cut_off(&rt, rt.alloc(), &mut reader, 10);
-    assert!(rt; reader.calls() == 11);
+fn too_many_lines_and_texts_at_the_bounds(rt: HostRuntime) {
+    texts(&rt, rt.alloc());
 }

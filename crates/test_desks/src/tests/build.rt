@@ -1,7 +1,7 @@
 //! Values for the tests, written short.
 ghost use Rattle.std.specs.Prelude.{◌≡◌};
 
-use desk_core::{Commit, Desk, Limit};
+use desk_core::{Commit, Desk, Edit, Limit, Thing};
 use grid_cells::{Agent, Cell, Planner};
 use std::alloc::Global;
 use std::process::Abort;
@@ -23,24 +23,33 @@ pub fn limit(rt: &impl Abort, entries: u32) -> Limit {
     Limit::new(entries).expect(rt, "a limit")
 }
 
+// Adds what the line watches, or its edit.
+fn gather(
+    rt: &impl Abort,
+    alloc: Global,
+    line: &str,
+    watch: &mut Vec<Thing>,
+    edits: &mut Vec<Edit>,
+) {
+    if let Some(thing) = thing(alloc, line) {
+        watch.push(thing).expect(rt, "memory");
+    } else {
+        let edit = edit(alloc, line).expect(rt, "a watch or an edit");
+        edits.push(edit).expect(rt, "memory");
+    }
+}
+
 /// The commit of that planner on that base, with the watches and edits of the lines.
 pub fn commit(rt: &impl Abort, alloc: Global, planner: Planner, base: u64, lines: &[&str]) -> Commit
     ensures { result.planner ≡ planner }
 {
-    let mut watch = Vec::new(alloc);
-    let mut edits = Vec::new(alloc);
+    let (mut watch, mut edits) = (Vec::new(alloc), Vec::new(alloc));
     for line in lines {
-        if let Some(thing) = thing(alloc, line) {
-            watch.push(thing).expect(rt, "memory");
-        } else {
-            let edit = edit(alloc, line).expect(rt, "a watch or an edit");
-            edits.push(edit).expect(rt, "memory");
-        }
+        gather(rt, alloc, line, &mut watch, &mut edits);
     }
-    match Commit::new(planner, base, watch, edits) {
-        Ok(commit) => commit,
-        Err(_) => panic!(rt; "a commit"),
-    }
+    Commit::new(planner, base, watch, edits)
+        .ok()
+        .expect(rt, "a commit")
 }
 
 /// A desk of an open map of 3 x 1 cells after the edits of the lines.

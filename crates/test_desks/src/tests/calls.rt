@@ -1,13 +1,10 @@
 //! Calls of a desk, written short, and their answers.
-use super::build::{agent, cell, commit, leave, planner};
-use desk_core::{
-    Answer, AskFault, Call, Commit, Desk, EditFault, Reading, Refusal, Snapshot, Thing,
-};
+use super::build::{agent, cell, commit, planner};
+use desk_core::{Answer, AskFault, Call, EditFault, Reading, Refusal, Snapshot, Thing};
 use grid_cells::Grid;
 use plan_table::Mode;
 use std::alloc::Global;
 use std::process::Abort;
-use test_support::Drought;
 
 /// A call: a commit of that planner on that base, with the lines of its watches and edits, a reading,
 /// the distance of an agent from a cell, or a snapshot.
@@ -127,37 +124,4 @@ pub fn told_of_answer(rt: &impl Abort, answer: &Answer) -> Told {
         Answer::Copied(copy) => told_of_copy(rt, copy),
         Answer::NoMemory => Told::OutOfMemory,
     }
-}
-
-fn is_commit(call: &Call, commit: &Commit) -> bool {
-    match call {
-        Call::Commit(same) => same == commit,
-        _ => false,
-    }
-}
-
-/// What the desk answers to the call with so many bytes, or with ample memory. A commit that is refused
-/// comes back as it was, and changes neither version nor journal.
-pub fn asked(
-    rt: &impl Abort,
-    alloc: Global,
-    drought: &mut Drought,
-    desk: &mut Desk,
-    ask: &Ask,
-    bytes: Option<usize>,
-) -> Told {
-    let made = call(rt, alloc, ask);
-    let same = call(rt, alloc, ask);
-    let version = desk.version();
-    leave(rt, drought, bytes);
-    let answer = desk.answer(made);
-    drought.relieve();
-    if let Answer::Refused(_, back) = &answer {
-        assert!(rt; is_commit(&same, back));
-        assert!(rt; desk.version() == version && desk.journal().len() as u64 == version);
-    }
-    drop(same);
-    let told = told_of_answer(rt, &answer);
-    drop(answer);
-    told
 }

@@ -2,89 +2,126 @@
 use super::build::{desk, drought, leave};
 use super::calls::{Told, call, told_of_answer};
 use super::rows::Row;
-use super::runs::{Answers, are_refused, are_wanted};
 use desk_core::{Answer, Call, Desk, drive};
+use grid_cells::{List, OutOfMemory};
 use std::alloc::Global;
 use std::process::Abort;
 use test_support::Drought;
 
-fn calls(rt: &impl Abort, alloc: Global, row: &Row) -> Vec<Call> {
+// The answers to a row's calls, of which there are at most eight.
+type Answers = [Told; 8];
+
+// What came of a list of calls.
+type Driven = Result<List<Answer>, (OutOfMemory, Vec<Call>)>;
+
+// The calls of the row but for those that are skipped.
+fn calls(rt: &impl Abort, alloc: Global, row: &Row, skipped: &[bool; 8]) -> Vec<Call> {
     let mut calls = Vec::new(alloc);
-    for line in row.calls {
-        calls.push(call(rt, alloc, &line.0)).expect(rt, "memory");
+    for number in 0..8 {
+        if !skipped[number]
+            && let Some(line) = row.calls.get(number)
+        {
+            calls.push(call(rt, alloc, &line.0)).expect(rt, "memory");
+        }
     }
     calls
 }
 
-fn told_of_all(rt: &impl Abort, answers: &[Answer]) -> Answers {
+// The answers in the places of their calls.
+fn told_of_all(rt: &impl Abort, skipped: &[bool; 8], answers: &[Answer]) -> Answers {
     let mut all = [Told::Unasked; 8];
-    for (number, answer) in answers.iter().enumerate().take(8) {
-        all[number] = told_of_answer(rt, answer);
+    let mut others = answers.iter();
+    for number in 0..8 {
+        if !skipped[number]
+            && let Some(answer) = others.next()
+        {
+            all[number] = told_of_answer(rt, answer);
+        }
     }
     all
 }
 
-fn is_same(call: &Call, other: &Call) -> bool {
-    match (call, other) {
-        (Call::Commit(commit), Call::Commit(other)) => commit == other,
-        (Call::Read, Call::Read) | (Call::Snapshot, Call::Snapshot) => true,
-        (Call::Distance(agent, cell), Call::Distance(asked, at)) => agent == asked && cell == at,
-        _ => false,
-    }
-}
-
-// The calls are those of the row.
-fn are_back(rt: &impl Abort, alloc: Global, row: &Row, back: &[Call]) {
-    let calls = calls(rt, alloc, row);
-    let mut others = calls.iter();
-    assert!(rt; back.len() == calls.len());
-    for call in back {
-        let other = others.next().expect(rt, "as many calls");
-        assert!(rt; is_same(call, other));
-    }
-    drop(calls);
-}
-
-// The calls that came back are those of the row, the desk is as it was, and they are answered with
-// ample memory.
-fn drive_again(rt: &impl Abort, alloc: Global, desk: &mut Desk, row: &Row, back: Vec<Call>) {
-    are_back(rt, alloc, row, &back);
-    assert!(rt; desk.version() == 0 && desk.journal().is_empty());
-    match drive(alloc, desk, back) {
-        Ok(answers) => {
-            are_wanted(rt, row, &told_of_all(rt, answers.items()));
-            drop(answers);
+// The answers are those that the row gives.
+fn are_wanted(rt: &impl Abort, row: &Row, answers: &Answers) {
+    for number in 0..8 {
+        if let Some(line) = row.calls.get(number) {
+            assert!(rt; answers[number] == line.1);
         }
-        Err(_) => panic!(rt; "there is room"),
     }
 }
 
-// The answers to the row's calls with so many bytes. None where there is no room for the answers.
+// The answers, or none where there is no room for them: the calls came back then, the desk is as it was, and
+// they are answered with ample memory.
+fn told_of_driven(
+    rt: &impl Abort,
+    alloc: Global,
+    desk: &mut Desk,
+    row: &Row,
+    skipped: &[bool; 8],
+    driven: Driven,
+) -> Option<Answers> {
+    match driven {
+        Ok(answers) => {
+            let told = told_of_all(rt, skipped, answers.items());
+            drop(answers);
+            Some(told)
+        }
+        Err((_, back)) => {
+            assert!(rt; desk.version() == 0 && desk.journal().is_empty());
+            let again = drive(alloc, desk, back);
+            let Ok(answers) = again else {
+                panic!(rt; "there is room");
+            };
+            are_wanted(rt, row, &told_of_all(rt, skipped, answers.items()));
+            drop(answers);
+            None
+        }
+    }
+}
+
+// The answers to the row's calls but for those that are skipped, with so many bytes or with ample memory.
 fn driven(
     rt: &impl Abort,
     alloc: Global,
     drought: &mut Drought,
     row: &Row,
-    bytes: usize,
+    skipped: &[bool; 8],
+    bytes: Option<usize>,
 ) -> Option<Answers> {
     let mut desk = desk(rt, alloc, row.scene, row.limit);
-    let calls = calls(rt, alloc, row);
-    leave(rt, drought, Some(bytes));
+    let calls = calls(rt, alloc, row, skipped);
+    leave(rt, drought, bytes);
     let driven = drive(alloc, &mut desk, calls);
     drought.relieve();
-    let told = match driven {
-        Ok(answers) => {
-            let told = told_of_all(rt, answers.items());
-            drop(answers);
-            Some(told)
-        }
-        Err((_, back)) => {
-            drive_again(rt, alloc, &mut desk, row, back);
-            None
-        }
-    };
+    let told = told_of_driven(rt, alloc, &mut desk, row, skipped, driven);
     drop(desk);
     told
+}
+
+// The answers are those that the row gives, or where some calls were refused, the others' answers
+// are those of a run in which these aren't made. Tells whether some were.
+fn are_refused(
+    rt: &impl Abort,
+    alloc: Global,
+    drought: &mut Drought,
+    row: &Row,
+    answers: &Answers,
+) -> bool {
+    let mut refused = false;
+    let mut skipped = [false; 8];
+    for number in 0..8 {
+        skipped[number] = answers[number] == Told::OutOfMemory;
+        refused = refused || skipped[number];
+    }
+    if !refused {
+        are_wanted(rt, row, answers);
+        return false;
+    }
+    let without = driven(rt, alloc, drought, row, &skipped, None).expect(rt, "there is room");
+    for number in 0..8 {
+        assert!(rt; skipped[number] || answers[number] == without[number]);
+    }
+    true
 }
 
 /// Both the room for the answers and single calls are refused, until all calls are answered.
@@ -92,7 +129,7 @@ pub fn drives(rt: &impl Abort, alloc: Global, row: &Row) {
     let mut drought = drought(rt, alloc);
     let (mut without_room, mut with_refusals) = (false, false);
     for step in 0..1_000 {
-        match driven(rt, alloc, &mut drought, row, 16 * step) {
+        match driven(rt, alloc, &mut drought, row, &[false; 8], Some(16 * step)) {
             None => without_room = true,
             Some(answers) if are_refused(rt, alloc, &mut drought, row, &answers) => {
                 with_refusals = true;

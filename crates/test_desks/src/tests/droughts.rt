@@ -34,22 +34,34 @@ fn has(alloc: Global, bytes: usize) -> bool {
     block.is_ok()
 }
 
-// Each of the blocks costs 32 bytes, and there may be 16 bytes more than were said. What is relieved
-// is enough for blocks of a million bytes, and what is dropped for more.
-#[test]
-fn pieces_by_their_bytes(rt: HostRuntime) {
-    let alloc = rt.alloc();
-    let mut drought = drought(&rt, alloc);
+// That many blocks can be had from their bytes, and one more at most from 16 bytes more.
+fn are_had(rt: &impl Abort, alloc: Global, drought: &mut Drought, blocks: usize) {
+    let even = small_blocks(rt, alloc, drought, blocks.saturating_mul(32));
+    let odd = small_blocks(
+        rt,
+        alloc,
+        drought,
+        blocks.saturating_mul(32).saturating_add(16),
+    );
+    assert!(rt; even == blocks && (odd == blocks || odd == blocks.saturating_add(1)));
+}
+
+fn pieces(rt: &impl Abort, alloc: Global) {
+    let mut drought = drought(rt, alloc);
     for blocks in 0..300 {
-        let even = small_blocks(&rt, alloc, &mut drought, 32 * blocks);
-        assert!(rt; even == blocks);
-        let odd = small_blocks(&rt, alloc, &mut drought, 32 * blocks + 16);
-        assert!(rt; odd == blocks || odd == blocks + 1);
+        are_had(rt, alloc, &mut drought, blocks);
     }
-    drought.leave(4_096).expect(&rt, "memory");
+    drought.leave(4_096).expect(rt, "memory");
     assert!(rt; !has(alloc, 4_096));
     drought.relieve();
     assert!(rt; has(alloc, 1_000_000) && !has(alloc, 100_000_000));
     drop(drought);
     assert!(rt; has(alloc, 100_000_000));
+}
+
+// Each of the blocks costs 32 bytes, and there may be 16 bytes more than were said. What is relieved
+// is enough for blocks of a million bytes, and what is dropped for more.
+#[test]
+fn pieces_by_their_bytes(rt: HostRuntime) {
+    pieces(&rt, rt.alloc());
 }

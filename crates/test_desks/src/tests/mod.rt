@@ -1,21 +1,15 @@
-//! Worked examples, with ample memory and with too little, and random commits.
-mod audits;
+//! What only calls can try: lists of calls, how often indexes are built, shared desks by their passes,
+//! pieces that run at once, small bounds, refusals and faults that no program meets.
 mod bounds;
 mod build;
 mod calls;
-mod chance;
 mod drives;
 mod droughts;
-mod journals;
-mod large;
-mod limits;
-mod over_files;
-mod random;
-mod replays;
+mod faults;
+mod gates;
+mod indexes;
+mod refusal_lines;
 mod reports;
 mod rows;
-mod runs;
 mod scenes;
-mod sessions;
 mod shared;
-mod sources;

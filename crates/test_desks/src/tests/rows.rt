@@ -1,14 +1,10 @@
-//! Worked examples of calls of a desk. Each is made call by call and in one list, with ample memory,
-//! and with too little for one call or for all.
+//! Worked examples of calls of a desk, made in one list with ample memory and with too little.
 use super::calls::{About, Ask, Told};
 use super::drives::drives;
-use super::runs::each_call_refused;
 use desk_core::EditFault;
-use std::alloc::Global;
-use std::process::Abort;
 
-/// A call, its answer, and whether it takes memory.
-pub type Line = (Ask, Told, bool);
+/// A call, and its answer.
+pub type Line = (Ask, Told);
 
 /// The lines that make the scene on an open map of 3 x 1 cells, the desk's limit, and the calls.
 pub struct Row {
@@ -21,13 +17,12 @@ const STALE_SECOND_PLANNER: Row = Row {
     scene: &["agent 3 0,0 2,0"],
     limit: 10,
     calls: &[
-        (Ask::Commit(1, 0, &["path 3 0,0 1,0"]), Told::Done(1), true),
+        (Ask::Commit(1, 0, &["path 3 0,0 1,0"]), Told::Done(1)),
         (
             Ask::Commit(2, 0, &["goal 3 1,0"]),
             Told::Stale(1, About::Agent(3), 1),
-            false,
         ),
-        (Ask::Snapshot, Told::Copied(1, true, 1, (2, 0), 1), true),
+        (Ask::Snapshot, Told::Copied(1, true, 1, (2, 0), 1)),
     ],
 };
 
@@ -37,15 +32,14 @@ const WATCH_MAKES_STALE: Row = Row {
     scene: &["agent 0 0,0 2,0", "agent 1 0,0 2,0"],
     limit: 10,
     calls: &[
-        (Ask::Commit(1, 0, &["goal 0 1,0"]), Told::Done(1), true),
+        (Ask::Commit(1, 0, &["goal 0 1,0"]), Told::Done(1)),
         (
             Ask::Commit(2, 0, &["watch agent 0", "goal 1 1,0"]),
             Told::Stale(1, About::Agent(0), 1),
-            false,
         ),
-        (Ask::Commit(2, 0, &["goal 1 1,0"]), Told::Done(2), true),
-        (Ask::Read, Told::Shown(2, Some(2), 1), true),
-        (Ask::Snapshot, Told::Copied(2, true, 2, (1, 0), 0), true),
+        (Ask::Commit(2, 0, &["goal 1 1,0"]), Told::Done(2)),
+        (Ask::Read, Told::Shown(2, Some(2), 1)),
+        (Ask::Snapshot, Told::Copied(2, true, 2, (1, 0), 0)),
     ],
 };
 
@@ -53,18 +47,17 @@ const ALL_OR_NONE_AND_REFUSAL_ORDER: Row = Row {
     scene: &["agent 0 0,0 2,0"],
     limit: 2,
     calls: &[
-        (Ask::Read, Told::Shown(0, Some(2), 0), true),
+        (Ask::Read, Told::Shown(0, Some(2), 0)),
         (
             Ask::Commit(0, 0, &["close 1,0", "goal 0 1,0", "path 0 0,0 2,0"]),
             Told::Faulty(2, EditFault::NotAStep { at: 1 }),
-            true,
         ),
-        (Ask::Read, Told::Shown(0, Some(2), 0), true),
-        (Ask::Commit(0, 1, &["goal 0 1,0"]), Told::Ahead(0), false),
-        (Ask::Commit(0, 0, &[]), Told::NoEdits, false),
-        (Ask::Commit(0, 0, &["goal 0 1,0"]), Told::Done(1), true),
-        (Ask::Commit(0, 1, &["goal 0 0,0"]), Told::Done(2), true),
-        (Ask::Commit(0, 9, &["goal 0 1,0"]), Told::Full(2), false),
+        (Ask::Read, Told::Shown(0, Some(2), 0)),
+        (Ask::Commit(0, 1, &["goal 0 1,0"]), Told::Ahead(0)),
+        (Ask::Commit(0, 0, &[]), Told::NoEdits),
+        (Ask::Commit(0, 0, &["goal 0 1,0"]), Told::Done(1)),
+        (Ask::Commit(0, 1, &["goal 0 0,0"]), Told::Done(2)),
+        (Ask::Commit(0, 9, &["goal 0 1,0"]), Told::Full(2)),
     ],
 };
 
@@ -75,14 +68,13 @@ const ALL_OR_NONE_WITHOUT_A_CELL_EDIT: Row = Row {
         (
             Ask::Commit(0, 0, &["goal 0 1,0", "path 0 0,0 2,0"]),
             Told::Faulty(1, EditFault::NotAStep { at: 1 }),
-            true,
         ),
-        (Ask::Snapshot, Told::Copied(0, true, 1, (2, 0), 0), true),
-        (Ask::Commit(0, 1, &["goal 0 1,0"]), Told::Ahead(0), false),
-        (Ask::Commit(0, 0, &[]), Told::NoEdits, false),
-        (Ask::Commit(0, 0, &["goal 0 1,0"]), Told::Done(1), true),
-        (Ask::Commit(0, 1, &["goal 0 0,0"]), Told::Done(2), true),
-        (Ask::Commit(0, 9, &["goal 0 1,0"]), Told::Full(2), false),
+        (Ask::Snapshot, Told::Copied(0, true, 1, (2, 0), 0)),
+        (Ask::Commit(0, 1, &["goal 0 1,0"]), Told::Ahead(0)),
+        (Ask::Commit(0, 0, &[]), Told::NoEdits),
+        (Ask::Commit(0, 0, &["goal 0 1,0"]), Told::Done(1)),
+        (Ask::Commit(0, 1, &["goal 0 0,0"]), Told::Done(2)),
+        (Ask::Commit(0, 9, &["goal 0 1,0"]), Told::Full(2)),
     ],
 };
 
@@ -90,36 +82,29 @@ const ALL_OR_NONE_WITHOUT_A_CELL_EDIT: Row = Row {
 const EDITS_IN_A_ROW: Row = Row {
     scene: &["agent 3 0,0 2,0"],
     limit: 10,
-    calls: &[(Ask::Snapshot, Told::Copied(0, true, 1, (2, 0), 0), true)],
+    calls: &[(Ask::Snapshot, Told::Copied(0, true, 1, (2, 0), 0))],
 };
 
 const DRIVE_WITH_WATCH_OF_THE_MAP: Row = Row {
     scene: &["agent 0 0,0 2,0"],
     limit: 2,
     calls: &[
-        (Ask::Distance(0, (0, 0)), Told::Far(Some(2)), true),
-        (Ask::Commit(4, 0, &["close 1,0"]), Told::Done(1), true),
-        (Ask::Distance(0, (0, 0)), Told::Far(None), false),
-        (Ask::Distance(9, (0, 0)), Told::UnknownAgent, false),
-        (Ask::Distance(0, (0, 1)), Told::OutOfMap, false),
-        (Ask::Snapshot, Told::Copied(1, false, 1, (2, 0), 0), true),
+        (Ask::Distance(0, (0, 0)), Told::Far(Some(2))),
+        (Ask::Commit(4, 0, &["close 1,0"]), Told::Done(1)),
+        (Ask::Distance(0, (0, 0)), Told::Far(None)),
+        (Ask::Distance(9, (0, 0)), Told::UnknownAgent),
+        (Ask::Distance(0, (0, 1)), Told::OutOfMap),
+        (Ask::Snapshot, Told::Copied(1, false, 1, (2, 0), 0)),
         (
             Ask::Commit(5, 0, &["watch map", "goal 0 1,0"]),
             Told::Stale(1, About::Map, 1),
-            false,
         ),
     ],
 };
 
-// The example holds call by call and in one list.
-fn holds(rt: &impl Abort, alloc: Global, row: &Row) {
-    each_call_refused(rt, alloc, row);
-    drives(rt, alloc, row);
-}
-
 #[test]
-fn each_call_of_the_rows_is_refused_in_turn(rt: HostRuntime) {
-    for (row, name) in &[
+fn rows_are_driven(rt: HostRuntime) {
+    for (row, _name) in &[
         (STALE_SECOND_PLANNER, "stale_second_planner"),
         (WATCH_MAKES_STALE, "watch_makes_stale"),
         (
@@ -136,7 +121,6 @@ fn each_call_of_the_rows_is_refused_in_turn(rt: HostRuntime) {
         ),
         (EDITS_IN_A_ROW, "edits_in_a_row"),
     ] {
-        println!(rt; "{name}").expect(&rt, "an output");
-        holds(&rt, rt.alloc(), row);
+        drives(&rt, rt.alloc(), row);
     }
 }

@@ -6,6 +6,7 @@ use super::super::scenes::is_scene;
 use super::build::{share, split};
 use desk_shared::{Pass, SharedDesk};
 use std::alloc::Global;
+use std::mem::forget;
 use std::process::Abort;
 use std::sync::Wait;
 use std::sync::atomic::{AtomicU64, Ordering};
@@ -44,7 +45,7 @@ fn copies<R: Wait + Abort>(
     let waited = waited_for(other);
     assert!(rt; copy.version == 0 && waited);
     assert!(rt; is_scene(rt, alloc, &copy.scene, SCENE));
-    drop(copy);
+    forget(copy);
 }
 
 // A copy of the scene, and once the other thread has one too, a commit of that agent's goal. The
@@ -94,9 +95,8 @@ fn two_threads_commit(rt: HostRuntime) {
     assert!(rt; matches!((left.1, right.1), (1, 2) | (2, 1)));
     let last = shared.reading(&rt, &mut left.0).expect(&rt, "memory");
     assert!(rt; last.version == 2 && last.report.bounds == Some(2));
-    drop(last);
+    forget(last);
     let closed = shared.close(first).expect(&rt, "the desk");
     assert!(rt; closed.journal().len() == 2);
-    drop(closed);
-    drop((left.0, right.0));
+    forget((closed, left.0, right.0));
 }

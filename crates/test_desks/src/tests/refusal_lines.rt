@@ -1,9 +1,11 @@
 //! The lines of refusals that a session over a desk of its own doesn't meet: another planner, a base
 //! ahead, want of memory.
+use super::build::{agent, cell};
 use desk_core::{AskFault, Commit, Reading, Refusal, Thing};
 use desk_report::{Kinds, Spout, Tap};
 use desk_session::{Bounds, Counter, serve};
 use grid_cells::{Agent, Cell, OutOfMemory, Planner};
+use std::alloc::Global;
 use std::process::Abort;
 
 // Refuses each commit for the next of some reasons, and finds no memory for any question.
@@ -72,11 +74,8 @@ const ANSWERS: &[u8] = b"version 10\nbase 10\nrefused ahead 5\nrefused stale 7 a
 refused stale 7 cell 1,2 6\nrefused stale 7 map 6\nrefused journal-full 5\nrefused memory\n\
 refused memory\nrefused memory\nrefused memory\ncancelled\n";
 
-#[test]
-fn refusals_have_their_lines(rt: HostRuntime) {
-    let alloc = rt.alloc();
-    let agent = Agent::new(3).expect(&rt, "an agent");
-    let cell = Cell::new(1, 2).expect(&rt, "a cell");
+fn have_their_lines(rt: &impl Abort, alloc: Global) {
+    let (agent, cell) = (agent(rt, 3), cell(rt, 1, 2));
     let refusals = [
         Refusal::Ahead { now: 5 },
         stale(Thing::Agent(agent)),
@@ -86,7 +85,7 @@ fn refusals_have_their_lines(rt: HostRuntime) {
         Refusal::OutOfMemory,
     ];
     let mut counter = Refuser {
-        rt: &rt,
+        rt,
         refusals: &refusals,
         given: 0,
     };
@@ -100,4 +99,9 @@ fn refusals_have_their_lines(rt: HostRuntime) {
     assert!(rt; ended == Ok(12));
     let written: Vec<u8> = writer.into_inner();
     assert!(rt; written.as_slice() == ANSWERS);
+}
+
+#[test]
+fn refusals_have_their_lines(rt: HostRuntime) {
+    have_their_lines(&rt, rt.alloc());
 }

@@ -1,4 +1,0 @@
-//! Runs with too little memory. Each answers that there is none, or as ever.
-mod audits;
-mod drills;
-mod serves;
