@@ -51,11 +51,13 @@ def unheard(pipe):
 
 
 def settle(process, pipe):
-    """Waits until the program has heard all of the pipe, and waits for more or has ended."""
-    until = time.monotonic() + PATIENCE
-    while process.poll() is None and (unheard(pipe) or not sleeps(process)):
+    """Waits until the program has heard all of the pipe, and waits for more, as it is seen to do twice, or has ended."""
+    until, rests = time.monotonic() + PATIENCE, 0
+    while process.poll() is None and rests < 2:
+        rests = 0 if unheard(pipe) or not sleeps(process) else rests + 1
         if time.monotonic() > until:
             raise Wrong("the program doesn't come to rest")
+        time.sleep(0.0002)
 
 
 def leave(process, pages):
