@@ -1,7 +1,7 @@
 //! One making of a field beside one plain search, with the times that they took.
 ghost use Rattle.grid_cells.specs.Size.{Holds};
 
-use crate::flat::{Flat, UNSEEN};
+use super::flat::{Flat, UNSEEN};
 use goal_fields::Field;
 use grid_cells::{Cell, Grid, OutOfMemory};
 use std::rt::Clock;

@@ -4,8 +4,8 @@ ghost use Rattle.grid_cells.specs.Size.{Holds};
 ghost use Rattle.grid_cells.specs.Grid.{IsOpen, with_cell};
 ghost use Rattle.goal_fields.specs.Held.{StandFor};
 
-use crate::goals::{GOALS, goal_of};
-use crate::turns::since;
+use super::goals::{GOALS, goal_of};
+use super::turns::since;
 use goal_fields::Fields;
 use grid_cells::{Cell, Grid, OutOfMemory};
 use std::alloc::Global;

@@ -9,7 +9,7 @@ use Rattle.goal_fields.specs.Changes.{IsRepaired}
 use Rattle.goal_fields.specs.Held.{StandFor}
 use Rattle.goal_fields.proofs.EditLemmas.{flag_other}
 use Rattle.goal_fields.proofs.Neighbours.{cases_cell}
-use Rattle.demo_fields.proofs.held.change.Goals as goal
+use Rattle.demo_times.proofs.fields.held.change.Goals as goal
 
 -- the map differs at most at the cell that was set
 set_covers : (old new : Chart) (cell : Point) (free : Bool) → Holds old.size cell → new ≡ with_cell old cell free → Covers (cell ∷ []) old new

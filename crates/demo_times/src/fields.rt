@@ -1,10 +1,7 @@
-//! Makes the field of a goal on three large maps, beside a plain breadth-first search over flat
-//! arrays. It prints how many cells have a distance and whether both have the same. Then it holds many
-//! goals on a smaller map, closes a cell and opens it again, and prints how many cells the repairs
-//! take beside the change counts by plain searches. Standard error tells the least times, in
-//! microseconds.
-#![tactic(auto)]
-
+//! The field of a goal on three large maps, beside a plain breadth-first search over flat arrays: how
+//! many cells have a distance, and whether both have the same. Then many goals are held on a smaller
+//! map, where a cell closes and opens again: how many cells the repairs take, beside the change counts
+//! by plain searches. Standard error tells the least times, in microseconds.
 mod flat;
 mod goals;
 mod held;
@@ -31,22 +28,23 @@ const WIDTH: u32 = 248;
 /// Its rows.
 const HEIGHT: u32 = 225;
 
-fn main(rt: HostRuntime) -> anyhow::Result<()> {
+/// Prints what was found of fields.
+pub fn tell_fields<R: AllocGlobal + Clock + Print + Eprint>(rt: &R) -> anyhow::Result<()> {
     for kind in [Kind::Open, Kind::Maze, Kind::Obstacles] {
         let name = kind.name();
-        let Some(least) = least_of(&rt, kind)? else {
+        let Some(least) = least_of(rt, kind)? else {
             continue;
         };
         let (near, same) = (least.near, least.same);
-        println!(&rt; "{name}: {near} cells have a distance; the search finds the same: {same}")?;
+        println!(rt; "{name}: {near} cells have a distance; the search finds the same: {same}")?;
         let (read, searched) = (least.read.as_micros(), least.searched.as_micros());
         let made = least.made.as_micros();
-        eprintln!(&rt;
+        eprintln!(rt;
             "{name}: flat arrays made in {read}, searched in {searched}; field made in {made}"
         )?;
     }
-    if let Some((found, changes)) = held_on_map(&rt)? {
-        tell(&rt, found, changes)?;
+    if let Some((found, changes)) = held_on_map(rt)? {
+        tell(rt, found, changes)?;
     }
     Ok(())
 }

@@ -1,14 +1,15 @@
-//! Times the index and the ledger of conflicts alone, no desk round them, on six kinds of fleets, and
-//! the readings of a desk beside copies of their lines. The word `full` asks for the sizes that
-//! docs/SPEED.md tells, any other for small ones; a kind's name, as `convoy`, for that kind alone, and
-//! `readings` for readings alone.
+//! Times what a desk keeps: fields of distances; the index and the ledger of conflicts alone, no desk
+//! round them, on six kinds of fleets; and the readings of a desk beside copies of their lines. The word
+//! `full` asks for the fleets that docs/SPEED.md tells, any other for small ones; a kind's name, as
+//! `convoy`, for that kind alone, `fields` for fields alone, and `readings` for readings alone.
 //!
-//! It prints how many entries each fleet has, and how many where its edited agent has another path; of
+//! `fields` says what it prints of those. It prints how many entries each fleet has, and how many where its edited agent has another path; of
 //! a reading how many lines and entries it has, and how many lines the edit of one agent changes.
 //! `fleets` says how these numbers follow from the paths. Standard error tells what each call took, the
 //! least of several turns, and the memory that the first of them took.
 #![tactic(auto)]
 
+mod fields;
 mod fleets;
 mod kept;
 mod lanes;
@@ -18,6 +19,7 @@ mod readings;
 mod scenes;
 mod taken;
 
+use fields::tell_fields;
 use fleets::{Shape, fleet_of};
 use measured::{Effort, Found, found_in};
 use readings::{Read, readings};
@@ -138,6 +140,9 @@ fn main(rt: HostRuntime) -> anyhow::Result<()> {
     for word in env::args(&rt)?.skip(1) {
         full = full || word.as_str() == "full";
         words.push(word)?;
+    }
+    if is_asked(words.as_slice(), "fields") {
+        tell_fields(&rt)?;
     }
     let effort = if full { Effort::FULL } else { Effort::SMALL };
     run(&rt, &shapes(full), words.as_slice(), effort)?;
