@@ -11,7 +11,7 @@ import tempfile
 import time
 
 TOP = os.path.dirname(os.path.dirname(os.path.abspath(__file__)))
-PROGRAM, READERS = "mapf_desk", "desk_words"
+PROGRAM, FILES, READERS = "mapf_desk", "desk_files", "desk_words"
 WRONG, TOLD = "MAPF_DESK_WRONG", "MAPF_DESK_TOLD"
 BEGIN, END = "‹", "›"
 
@@ -82,8 +82,9 @@ def planted(text, bodies, file):
 
 
 def plant(top, crate, root, bodies):
-    """Plants wrong bodies in a crate; its root file gets the module of the switch."""
+    """Plants in a crate the wrong bodies of its files; its root file gets the module of the switch."""
     source = f"{top}/crates/{crate}/src"
+    bodies = [it for it in bodies if os.path.exists(f"{source}/{it[1]}")]
     for file in sorted({it[1] for it in bodies}):
         write(f"{source}/{file}", planted(read(f"{source}/{file}"), [it for it in bodies if it[1] == file], file))
     write(f"{source}/switch.rt", SWITCH)
@@ -97,7 +98,7 @@ def copy(top):
     shutil.copytree(f"{TOP}/crates", f"{top}/crates", ignore=skip)
     shutil.copy2(f"{TOP}/HANDLES", top)
     lines = read(f"{TOP}/crates.txt").splitlines()
-    write(f"{top}/crates.txt", "".join(f"{it} os\n" if it.split(":")[0] in (PROGRAM, READERS) else f"{it}\n" for it in lines))
+    write(f"{top}/crates.txt", "".join(f"{it} os\n" if it.split(":")[0] in (PROGRAM, FILES, READERS) else f"{it}\n" for it in lines))
     source = f"{top}/crates/{PROGRAM}/src"
     shutil.copy2(f"{top}/crates/demo_texts/src/telling.rt", f"{source}/read_as.rt")
     text = read(f"{source}/main.rt")

@@ -68,7 +68,7 @@ BODIES = [
     ("folder_not_synced", "saving.rt", "fs::open(rt, folder_of(file))?.sync_all()", "Ok(())", "refused_at_each_call"),
     ("new_file_left_behind", "saving.rt", "fs::remove_file(rt, beside.as_str())", "Ok(())", "not_saved_on_a_full_disk"),
     ("saved_in_place", "saving.rt", 'format!(in rt.alloc(); "{file}.new")', 'format!(in rt.alloc(); "{file}")', "killed_within_a_write"),
-    ("folder_taken_for_a_file", "saving.rt", "!there.is_file()", "false", "reason: serve --map m --save ."),
+    ("folder_taken_for_a_file", "looking.rt", "!there.is_file()", "false", "reason: serve --map m --save ."),
     # Checks
     ("yes_and_no_exchanged", "main.rt", "check_files(rt, check, stages, more)",
      "match check_files(rt, check, stages, more) { Ok(solved) => Ok(!solved), Err(fault) => Err(fault) }", "check_ring_by_session"),

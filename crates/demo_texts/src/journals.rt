@@ -1,6 +1,6 @@
 //! Journals: their mode where they are read, and their text of version 2.
 use bstr::ByteSlice;
-use desk_session::{read_journal, upgrade_journal};
+use desk_serving::{read_journal, upgrade_journal};
 use plan_table::Mode;
 use std::alloc::{AllocError, Global};
 

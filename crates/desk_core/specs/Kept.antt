@@ -3,9 +3,9 @@ use Rattle.std.specs.Prelude.{ℕ, ◌≤◌, Option, List, length}
 use Rattle.std.specs.Option.{ForSome}
 use Rattle.scene_edits.specs.Scene.{SceneState}
 use Rattle.desk_books.specs.Books.{BooksState, AreOf}
-use Rattle.desk_core.specs.Entries.{Entry}
-use Rattle.desk_core.specs.Stamps.{AreOnMap, WhereTheyStand}
-use Rattle.desk_core.specs.declared.stamps.Stamps.{Stamps}
+use Rattle.desk_commits.specs.Entries.{Entry}
+use Rattle.desk_commits.specs.Stamps.{AreOnMap, WhereTheyStand}
+use Rattle.desk_commits.specs.declared.stamps.Stamps.{Stamps}
 
 -- where the books stand, they are those of the scene
 abbrev pub WhereBooksStand : SceneState → Option BooksState → Type 0

@@ -1,11 +1,1 @@
-pub mod Entries
-pub mod State
-pub mod Stale
-pub mod Stamps
-pub mod Goals
 pub mod Kept
-pub mod Commits
-pub mod Questions
-pub mod Runs
-pub mod Replays
-pub mod Laws

@@ -2,15 +2,12 @@
 ghost use Rattle.std.specs.Prelude.{IfSome, IfNone, ◌≡◌};
 ghost use Rattle.scene_edits.specs.Scene.{SceneState};
 ghost use Rattle.desk_books.specs.Following.{ChangedBy};
-ghost use Rattle.desk_core.specs.Commits.{IsCurrent, Refuses, Committed};
+ghost use Rattle.desk_commits.specs.Commits.{IsCurrent, Refuses, Committed};
 ghost use Rattle.desk_core.specs.Kept.{WhereBooksStand};
 
-use crate::answers::Refusal;
-use crate::commits::Commit;
 use crate::desks::Desk;
-use crate::stale::stale;
-use crate::stamps::{Stamps, with_entry};
 use desk_books::Books;
+use desk_commits::{Commit, Refusal, Stamps, first_stale, with_entry};
 use scene_edits::{Change, EditsFault, Scene};
 use std::mem::replace;
 
@@ -47,7 +44,7 @@ impl Desk {
         if commit.edits().is_empty() {
             return Some(Refusal::NoEdits);
         }
-        match stale(&self.journal, self.stamps.as_ref(), commit) {
+        match first_stale(&self.journal, self.stamps.as_ref(), commit) {
             Some((thing, at)) => Some(Refusal::Stale { now, thing, at }),
             None => None,
         }

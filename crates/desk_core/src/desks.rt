@@ -1,14 +1,11 @@
 ghost use Rattle.std.specs.Prelude.{◌≡◌, ◌≤◌, length, IfOk};
-ghost use Rattle.desk_core.specs.State.{opening, version_of};
-ghost use Rattle.desk_core.specs.Questions.{Shows, Judges, Tells, Copies};
+ghost use Rattle.desk_commits.specs.State.{opening, version_of};
+ghost use Rattle.desk_commits.specs.Questions.{Shows, Judges, Tells, Copies};
 ghost use Rattle.desk_books.specs.Books.{AreOf};
 
-use crate::answers::{AskFault, Reading, Snapshot};
-use crate::commits::Commit;
-use crate::limits::Limit;
 use crate::questions::{goal_asked, report, solves};
-use crate::stamps::Stamps;
 use desk_books::{Books, BuildCount};
+use desk_commits::{AskFault, Commit, Limit, Reading, Snapshot, Stamps};
 use desk_report::Kinds;
 use grid_cells::{Agent, Cell, OutOfMemory};
 use scene_edits::Scene;
@@ -29,7 +26,7 @@ pub struct Desk {
 }
 
 impl Model for Desk {
-    ghost use Rattle.desk_core.specs.State.{DeskState};
+    ghost use Rattle.desk_commits.specs.State.{DeskState};
 
     ghost Value = { DeskState };
 

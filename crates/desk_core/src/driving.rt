@@ -1,8 +1,8 @@
 ghost use Rattle.std.specs.Prelude.{◌≡◌, IfOk, IfErr, OnErr};
-ghost use Rattle.desk_core.specs.Runs.{IsCall, IsRun};
+ghost use Rattle.desk_commits.specs.Runs.{IsCall, IsRun};
 
-use crate::answers::{Answer, Call};
 use crate::desks::Desk;
+use desk_commits::{Answer, Call};
 use grid_cells::{List, OutOfMemory};
 use std::alloc::Global;
 

@@ -1,26 +1,20 @@
-//! The desk: commits of edits, a journal of the accepted ones, and what is asked of the scene.
+//! The desk: its scene, its journal of accepted commits, and what is asked of it.
 #![tactic(auto)]
 
 mod accepting;
-mod answers;
-mod commits;
+mod counting;
 mod desks;
 mod driving;
-mod journals;
-mod laws;
-mod limits;
 mod questions;
-mod stale;
-mod stamps;
+mod replaying;
 
-pub use answers::{Answer, AskFault, Call, Reading, Refusal, Snapshot};
-pub use commits::{Commit, CommitFault, MOST_EDITS, MOST_WATCHES};
+pub use desk_commits::{
+    Answer, AskFault, Call, Commit, CommitFault, Journal, Limit, MOST_EDITS, MOST_ENTRIES,
+    MOST_WATCHES, Reading, Refusal, ReplayFault, Snapshot, entries_make_the_scene,
+    legal_journals_replay, one_answer_to_a_commit, runs_are_legal,
+};
 pub use desks::Desk;
 pub use driving::drive;
-pub use journals::{Journal, ReplayFault, replay};
-pub use laws::{
-    entries_make_the_scene, legal_journals_replay, one_answer_to_a_commit, runs_are_legal,
-};
-pub use limits::{Limit, MOST_ENTRIES};
 pub use mapf_rules::{Conflict, Kind, Ring, Visit};
+pub use replaying::replay;
 pub use scene_edits::{ApplyFault, Change, Edit, EditFault, EditsFault, Scene, Thing};

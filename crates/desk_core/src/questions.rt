@@ -2,12 +2,12 @@
 ghost use Rattle.std.specs.Prelude.{◌≡◌, IfOk, IfErr, Err};
 ghost use Rattle.desk_report.specs.Report.{IsReportOf};
 ghost use Rattle.desk_books.specs.Books.{AreOf};
-ghost use Rattle.desk_core.specs.Goals.{IsAsked};
-ghost use Rattle.desk_core.specs.Questions.{ArePriced, Judges, Tells};
-ghost use Rattle.desk_core.specs.State.{DeskState};
+ghost use Rattle.desk_commits.specs.Goals.{IsAsked};
+ghost use Rattle.desk_commits.specs.Questions.{ArePriced, Judges, Tells};
+ghost use Rattle.desk_commits.specs.State.{DeskState};
 
-use crate::answers::AskFault;
 use desk_books::Books;
+use desk_commits::AskFault;
 use desk_report::{Kinds, Report, settle_is_bound_and_gap};
 use grid_cells::{Agent, Cell, OutOfMemory};
 use scene_edits::Scene;

@@ -1,18 +1,18 @@
 -- A desk that was served a session goes on from the one before it, by entries that are legal there.
 use Rattle.std.proofs.Common.{◌≡◌, ℕ, List, [], ◌∷◌, ◌++◌, Option, Some, None, Result, Ok, Err, refl, sym, ap, subst, ◌∙◌}
 use Rattle.scene_edits.specs.Scene.{SceneState}
-use Rattle.desk_core.specs.Commits.{Committed}
-use Rattle.desk_core.specs.Entries.{Entry}
-use Rattle.desk_core.specs.Replays.{IsLegal}
-use Rattle.desk_core.specs.State.{DeskState, opening, grown, after}
-use Rattle.desk_core.specs.declared.answers.Refusal.{Refusal}
-use Rattle.desk_session.specs.Answer.{answering}
-use Rattle.desk_session.specs.Counting.{desk_counting}
-use Rattle.desk_session.specs.Session.{Serves}
-use Rattle.desk_session.specs.declared.bounds.Bounds.{Bounds}
-use Rattle.desk_session.specs.declared.bounds.ServeFault.{ServeFault}
-use Rattle.desk_session.specs.declared.drafts.Session.{Session}
-use Rattle.desk_session.proofs.Staying.{IsKept, serves}
+use Rattle.desk_commits.specs.Commits.{Committed}
+use Rattle.desk_commits.specs.Entries.{Entry}
+use Rattle.desk_commits.specs.Replays.{IsLegal}
+use Rattle.desk_commits.specs.State.{DeskState, opening, grown, after}
+use Rattle.desk_commits.specs.declared.answers.Refusal.{Refusal}
+use Rattle.desk_serving.specs.Answer.{answering}
+use Rattle.desk_commits.specs.Counting.{desk_counting}
+use Rattle.desk_serving.specs.Session.{Serves}
+use Rattle.desk_serving.specs.declared.bounds.Bounds.{Bounds}
+use Rattle.desk_serving.specs.declared.bounds.ServeFault.{ServeFault}
+use Rattle.desk_serving.specs.declared.drafts.Session.{Session}
+use Rattle.desk_serving.proofs.Staying.{IsKept, serves}
 use Rattle.desk_runs.specs.Opened.{Replays}
 
 -- the desk after entries that are legal at the one before

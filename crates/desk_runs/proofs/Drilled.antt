@@ -7,17 +7,17 @@ use Rattle.scene_edits.specs.Scene.{SceneState}
 use Rattle.desk_report.specs.Bytes.{AppendsFront}
 use Rattle.desk_report.specs.Report.{IsReportOf}
 use Rattle.desk_report.specs.declared.reports.Report.{Report}
-use Rattle.desk_core.specs.State.{DeskState, opening}
-use Rattle.desk_core.specs.declared.answers.Reading.{Reading}
-use Rattle.desk_core.specs.declared.limits.TheConstants.{MOST_ENTRIES}
+use Rattle.desk_commits.specs.State.{DeskState, opening}
+use Rattle.desk_commits.specs.declared.answers.Reading.{Reading}
+use Rattle.desk_commits.specs.declared.limits.TheConstants.{MOST_ENTRIES}
 use Rattle.desk_shared.specs.Calls.{IsFirst}
 use Rattle.desk_shared.specs.Passes.{PassState, Held, Sharing, AreOfPlanners, own_of}
 use Rattle.desk_runs.specs.DrillFaults.{FailsDrill, FailsUnwritten}
 use Rattle.desk_runs.specs.Drills.{AreServed, ComesTo, HasGathered, HasServed, IsEnd, drill_text, texts_of}
-use Rattle.desk_runs.specs.Opens.{Opens}
+use Rattle.desk_checks.specs.Opens.{Opens}
 use Rattle.desk_runs.specs.declared.drilling.TheConstants.{MOST_SCRIPTS}
-use Rattle.desk_runs.specs.declared.faults.RunFault.{RunFault}
-use Rattle.desk_runs.specs.declared.faults.RunFault.TheVariants.{OutOfMemory, PassLost, TooManyScripts, WriteFailed}
+use Rattle.desk_checks.specs.declared.faults.RunFault.{RunFault}
+use Rattle.desk_checks.specs.declared.faults.RunFault.TheVariants.{OutOfMemory, PassLost, TooManyScripts, WriteFailed}
 use Rattle.desk_runs.proofs.ScriptSessions.{texts_length}
 
 pub comes_to : (map : List ℕ) (scen : Option (List ℕ)) (agents : ℕ) (mode : Mode) (scripts : List (Vec ℕ Global)) (planners : ℕ) (scene : SceneState) (shared : Sharing) (began : PassState) (first : Held) (reading : Reading) (desk : DeskState) (audited : Report) (same : Bool)

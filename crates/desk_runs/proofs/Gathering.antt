@@ -6,7 +6,7 @@ use Rattle.std.proofs.lemmas.List.Elements.{All-nil, All-same}
 use Rattle.std.proofs.Math.Seq.{get_or-append_seam}
 use mathlib.Core.Logic.{dite}
 use native.Mathlib.Decide.{ℕ_discrete}
-use Rattle.desk_core.specs.Entries.{Entry}
+use Rattle.desk_commits.specs.Entries.{Entry}
 use Rattle.desk_shared.specs.Passes.{PassState, own_of, HasJust}
 use Rattle.desk_shared.specs.Calls.{IsSplit, IsJoined}
 use Rattle.desk_runs.specs.Drills.{AreJoined, HasGathered}

@@ -4,13 +4,13 @@ use Rattle.std.proofs.Common.{◌≡◌, ℕ, ◌+◌, ◌<◌, ◌≤◌, List,
 use Rattle.std.proofs.lemmas.List.{append-nil}
 use Rattle.std.proofs.lemmas.List.Elements.{All-nil, All-same}
 use mathlib.Core.List.{IsPrefix}
-use Rattle.desk_core.specs.Entries.{Entry}
-use Rattle.desk_core.specs.Replays.{IsLegal}
-use Rattle.desk_core.specs.State.{DeskState, after}
+use Rattle.desk_commits.specs.Entries.{Entry}
+use Rattle.desk_commits.specs.Replays.{IsLegal}
+use Rattle.desk_commits.specs.State.{DeskState, after}
 use Rattle.desk_shared.specs.Calls.{IsClosed, IsFirst, IsJoined, IsSplit}
 use Rattle.desk_shared.specs.Passes.{PassState, Held, Sharing, AreOfPlanners, HasJust, own_of, version_at}
 use Rattle.desk_runs.proofs.Gathering.{own_at, own_kept, one_more_joined}
-use Rattle.desk_session.specs.Windows.{window_on}
+use Rattle.desk_shared.specs.Windows.{window_on}
 use Rattle.desk_runs.specs.Hosts.{AreSeated, HasHosted, Hosts, Inputs, IsCompared, IsEnded, IsSeated}
 use Rattle.desk_runs.specs.declared.hosts.hosting.HostEnd.{HostEnd}
 use Rattle.desk_runs.specs.declared.hosts.seats.SeatFault.{SeatFault}

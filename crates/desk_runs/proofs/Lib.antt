@@ -3,13 +3,10 @@ mod Unserved
 mod ScriptSessions
 mod Numbering
 mod Gathering
-mod SameReports
 mod Coming
 mod Returning
 mod ScriptFaults
 mod Drilled
-mod OfPaths
-mod Refusing
 mod Stopping
 mod Sitting
 mod Joining

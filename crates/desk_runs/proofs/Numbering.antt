@@ -2,7 +2,7 @@
 use Rattle.std.proofs.Common.{◌≡◌, ℕ, zero, suc, ◌+◌, ◌<◌, ◌≤◌, Bool, false, true≢false, List, [], ◌∷◌, refl, sym, ap, subst, ◌∙◌, arith, slice_set, get_or, set, get_or-set_other}
 use mathlib.Core.Logic.{dite}
 use native.Mathlib.Decide.{ℕ_discrete}
-use Rattle.desk_core.specs.State.{DeskState}
+use Rattle.desk_commits.specs.State.{DeskState}
 use Rattle.desk_shared.specs.Passes.{PassState, Held, Sharing, Owns}
 use Rattle.desk_shared.specs.Calls.{IsLeast, IsSplit, KeepsNone}
 use Rattle.desk_runs.specs.Drills.{KeepsFrom, MaySplit}

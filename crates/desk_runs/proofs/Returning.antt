@@ -3,24 +3,24 @@ use Rattle.std.proofs.Common.{◌≡◌, ◌≤◌, ◌⊎◌, ℕ, List, [], �
 use Rattle.scene_edits.specs.Scene.{SceneState}
 use Rattle.scene_edits.proofs.Returning.{edits_keep_size_holds}
 use Rattle.scene_edits.specs.InOrder.{edited_all}
-use Rattle.desk_core.specs.Entries.{Entry}
-use Rattle.desk_core.specs.Questions.{Shows}
-use Rattle.desk_core.specs.Replays.{Log, IsReplay}
-use Rattle.desk_core.specs.State.{DeskState, opening, scene_after, after}
-use Rattle.desk_core.specs.declared.answers.Reading.{Reading}
-use Rattle.desk_core.specs.declared.journals.ReplayFault.{ReplayFault}
-use Rattle.desk_core.proofs.Headline.{entries_make_the_scene_holds}
-use Rattle.desk_core.proofs.LegalJournals.{legal_journals_replay_holds}
-use Rattle.desk_session.specs.JournalText.Ranges.{IsJournal}
-use Rattle.desk_session.specs.JournalText.Reading.{ReadsAs}
-use Rattle.desk_session.specs.declared.journals.faults.JournalFault.{JournalFault}
-use Rattle.desk_session.proofs.JournalText.BadLines.{one-journal}
-use Rattle.desk_session.proofs.JournalText.OneAnswer.{reads_back}
-use Rattle.desk_runs.specs.Faults.{as_told}
+use Rattle.desk_commits.specs.Entries.{Entry}
+use Rattle.desk_commits.specs.Questions.{Shows}
+use Rattle.desk_commits.specs.Replays.{Log, IsReplay}
+use Rattle.desk_commits.specs.State.{DeskState, opening, scene_after, after}
+use Rattle.desk_commits.specs.declared.answers.Reading.{Reading}
+use Rattle.desk_commits.specs.declared.journals.ReplayFault.{ReplayFault}
+use Rattle.desk_commits.proofs.Headline.{entries_make_the_scene_holds}
+use Rattle.desk_commits.proofs.LegalJournals.{legal_journals_replay_holds}
+use Rattle.desk_serving.specs.JournalText.Ranges.{IsJournal}
+use Rattle.desk_serving.specs.JournalText.Reading.{ReadsAs}
+use Rattle.desk_serving.specs.declared.journals.faults.JournalFault.{JournalFault}
+use Rattle.desk_serving.proofs.JournalText.BadLines.{one-journal}
+use Rattle.desk_serving.proofs.JournalText.OneAnswer.{reads_back}
+use Rattle.desk_checks.specs.Faults.{as_told}
 use Rattle.desk_runs.specs.Opened.{ReplaysAs}
 use Rattle.desk_runs.specs.Saved.{SavedDesksComeBack, log_of, saved_text, under}
-use Rattle.desk_runs.specs.declared.faults.RunFault.{RunFault}
-use Rattle.desk_runs.specs.declared.faults.RunFault.TheVariants.{Journal, Replay, OutOfMemory}
+use Rattle.desk_checks.specs.declared.faults.RunFault.{RunFault}
+use Rattle.desk_checks.specs.declared.faults.RunFault.TheVariants.{Journal, Replay, OutOfMemory}
 use Rattle.desk_runs.proofs.Coming.{GoesOn, goes_on, session_goes_on, opening_goes_on}
 
 same_mode : (scene : SceneState) (entries : List Entry) → (scene_after scene entries).mode ≡ scene.mode

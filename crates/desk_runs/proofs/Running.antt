@@ -1,17 +1,17 @@
 -- A run of `serve` is a session over the desk of its files, with no journal, of which the end is told.
 use Rattle.std.proofs.Common.{ℕ, List, Option, Some, None, Result, Ok, Err, inl, inr, refl, ap, subst}
 use Rattle.plan_table.specs.declared.tracks.Mode.{Mode}
-use Rattle.desk_core.specs.State.{DeskState}
-use Rattle.desk_session.specs.Answer.{answering}
-use Rattle.desk_session.specs.Counting.{desk_counting}
-use Rattle.desk_session.specs.Session.{Serves}
-use Rattle.desk_session.specs.declared.bounds.Bounds.{Bounds}
-use Rattle.desk_session.specs.declared.bounds.ServeFault.{ServeFault}
-use Rattle.desk_session.specs.declared.drafts.Session.TheVariants.{Idle}
-use Rattle.desk_runs.specs.Faults.{run_answer}
+use Rattle.desk_commits.specs.State.{DeskState}
+use Rattle.desk_serving.specs.Answer.{answering}
+use Rattle.desk_commits.specs.Counting.{desk_counting}
+use Rattle.desk_serving.specs.Session.{Serves}
+use Rattle.desk_serving.specs.declared.bounds.Bounds.{Bounds}
+use Rattle.desk_serving.specs.declared.bounds.ServeFault.{ServeFault}
+use Rattle.desk_serving.specs.declared.drafts.Session.TheVariants.{Idle}
+use Rattle.desk_checks.specs.Faults.{run_answer}
 use Rattle.desk_runs.specs.Runs.{RunsOver, Runs, run_bounds}
 use Rattle.desk_runs.specs.Sittings.{SitsOver, Sits}
-use Rattle.desk_runs.specs.declared.faults.RunFault.{RunFault}
+use Rattle.desk_checks.specs.declared.faults.RunFault.{RunFault}
 
 -- what a run answers that ended so
 abbrev pub sat_answer : Result (DeskState × Result ℕ ServeFault) RunFault → Result ℕ RunFault

@@ -2,15 +2,15 @@
 use Rattle.std.specs.Prelude.{IfErr}
 use Rattle.std.proofs.Common.{◌≡◌, ◌⊎◌, ℕ, ◌+◌, List, [], ◌∷◌, Option, Result, Ok, Err, false, inl, inr, ap, subst, ◌∙◌}
 use Rattle.plan_table.specs.declared.tracks.Mode.{Mode}
-use Rattle.desk_core.specs.State.{DeskState, opening}
-use Rattle.desk_core.specs.declared.limits.TheConstants.{MOST_ENTRIES}
-use Rattle.desk_session.specs.declared.bounds.ServeFault.{ServeFault}
+use Rattle.desk_commits.specs.State.{DeskState, opening}
+use Rattle.desk_commits.specs.declared.limits.TheConstants.{MOST_ENTRIES}
+use Rattle.desk_serving.specs.declared.bounds.ServeFault.{ServeFault}
 use Rattle.desk_shared.specs.Passes.{PassState, Sharing}
 use Rattle.desk_runs.specs.DrillFaults.{HasEnded, WasServed, IsFirstFault, IsScriptsFault, IsSharedFault, FailsUnwritten}
 use Rattle.desk_runs.specs.Drills.{IsSession}
-use Rattle.desk_runs.specs.Faults.{is_of_sink}
-use Rattle.desk_runs.specs.declared.faults.RunFault.{RunFault}
-use Rattle.desk_runs.specs.declared.faults.RunFault.TheVariants.{OutOfMemory}
+use Rattle.desk_checks.specs.Faults.{is_of_sink}
+use Rattle.desk_checks.specs.declared.faults.RunFault.{RunFault}
+use Rattle.desk_checks.specs.declared.faults.RunFault.TheVariants.{OutOfMemory}
 use Rattle.desk_runs.proofs.Numbering.{IsGiven}
 use Rattle.desk_runs.proofs.Unserved.{scene_unserved, session_told}
 

@@ -2,16 +2,16 @@
 use Rattle.std.proofs.Common.{◌≡◌, ℕ, suc, ◌+◌, ◌<◌, ◌≤◌, List, [], ◌∷◌, ◌++◌, length, Vec, Option, Some, None, Result, Ok, false, arith, refl, sym, ap, subst, ◌∙◌, append_assoc}
 use Rattle.std.specs.Global.{Global}
 use mathlib.Core.List.{IsPrefix}
-use Rattle.desk_core.specs.Entries.{Entry}
-use Rattle.desk_core.specs.State.{DeskState}
-use Rattle.desk_session.specs.Answer.{answering}
-use Rattle.desk_session.specs.Session.{Serves, is_write_failed}
-use Rattle.desk_session.specs.declared.bounds.ServeFault.{ServeFault}
-use Rattle.desk_session.specs.declared.drafts.Session.{Session}
-use Rattle.desk_session.specs.declared.drafts.Session.TheVariants.{Idle}
+use Rattle.desk_commits.specs.Entries.{Entry}
+use Rattle.desk_commits.specs.State.{DeskState}
+use Rattle.desk_serving.specs.Answer.{answering}
+use Rattle.desk_serving.specs.Session.{Serves, is_write_failed}
+use Rattle.desk_serving.specs.declared.bounds.ServeFault.{ServeFault}
+use Rattle.desk_serving.specs.declared.drafts.Session.{Session}
+use Rattle.desk_serving.specs.declared.drafts.Session.TheVariants.{Idle}
 use Rattle.desk_shared.specs.Passes.{PassState, Held, Sharing, own_of}
-use Rattle.desk_session.specs.Windows.{WindowState, window_on, window_counting}
-use Rattle.desk_session.proofs.Staying.{window_stays}
+use Rattle.desk_shared.specs.Windows.{WindowState, window_on, window_counting}
+use Rattle.desk_shared.proofs.SameWindow.{window_stays}
 use Rattle.desk_runs.specs.Drills.{IsSession, IsServed, AreServed, texts_of}
 use Rattle.desk_runs.specs.Runs.{run_bounds}
 use Rattle.desk_runs.proofs.Numbering.{IsGiven}

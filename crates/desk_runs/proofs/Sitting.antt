@@ -1,10 +1,10 @@
 -- A seat over a window leaves it on its shared desk, for its planner.
 use Rattle.std.proofs.Common.{◌≡◌, ℕ, List, Option, Result, Ok, Err, refl, sym, ap, subst, ◌∙◌}
-use Rattle.desk_session.specs.declared.bounds.ServeFault.{ServeFault}
-use Rattle.desk_session.specs.declared.drafts.Session.TheVariants.{Idle}
+use Rattle.desk_serving.specs.declared.bounds.ServeFault.{ServeFault}
+use Rattle.desk_serving.specs.declared.drafts.Session.TheVariants.{Idle}
 use Rattle.desk_shared.specs.Passes.{Held, Sharing}
-use Rattle.desk_session.specs.Windows.{WindowState, window_on, window_counting}
-use Rattle.desk_session.proofs.Staying.{IsKept, serves}
+use Rattle.desk_shared.specs.Windows.{WindowState, window_on, window_counting}
+use Rattle.desk_serving.proofs.Staying.{IsKept, serves}
 use Rattle.desk_runs.specs.Runs.{run_bounds}
 use Rattle.desk_runs.specs.Hosts.{IsEnded}
 use Rattle.desk_runs.specs.Seats.{IsHeard, Sits}

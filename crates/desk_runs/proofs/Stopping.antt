@@ -3,8 +3,8 @@ use Rattle.std.specs.Prelude.{◌⊎◌, IfErr}
 use Rattle.std.proofs.Common.{◌≡◌, inr, ℕ, List, Option, Result, Ok, Err}
 use Rattle.plan_table.specs.declared.tracks.Mode.{Mode}
 use Rattle.scene_edits.specs.Scene.{SceneState}
-use Rattle.desk_runs.specs.declared.checks.faults.CheckFault.{CheckFault}
-use Rattle.desk_runs.specs.declared.checks.faults.CheckFault.TheVariants.{WriteFailed, OutOfMemory}
+use Rattle.desk_checks.specs.declared.checks.faults.CheckFault.{CheckFault}
+use Rattle.desk_checks.specs.declared.checks.faults.CheckFault.TheVariants.{WriteFailed, OutOfMemory}
 use Rattle.desk_runs.specs.declared.courses.Courses.{Courses}
 use Rattle.desk_runs.specs.Draws.{IsDrawn, FailsDraw}
 

@@ -7,19 +7,19 @@ use Rattle.bench_reader.specs.declared.scens.ScenFault.TheVariants as scen
 use Rattle.scene_edits.specs.declared.tasks.TaskFault.{TaskFault}
 use Rattle.scene_edits.specs.declared.tasks.TaskFault.TheVariants as tasks
 use Rattle.plan_table.specs.declared.tracks.Mode.{Mode}
-use Rattle.desk_core.specs.declared.journals.ReplayFault.{ReplayFault}
-use Rattle.desk_core.specs.declared.journals.ReplayFault.TheVariants as replay
-use Rattle.desk_session.specs.declared.journals.faults.JournalFault.{JournalFault}
-use Rattle.desk_session.specs.declared.journals.faults.JournalFault.TheVariants as journal
-use Rattle.desk_session.specs.Session.{is_read_failed, is_write_failed}
-use Rattle.desk_session.specs.Start.{StopsInMap}
-use Rattle.desk_session.specs.declared.bounds.ServeFault.{ServeFault}
-use Rattle.desk_session.specs.declared.bounds.ServeFault.TheVariants as session
-use Rattle.desk_runs.specs.Faults.{as_told, is_of_source, is_of_sink}
+use Rattle.desk_commits.specs.declared.journals.ReplayFault.{ReplayFault}
+use Rattle.desk_commits.specs.declared.journals.ReplayFault.TheVariants as replay
+use Rattle.desk_serving.specs.declared.journals.faults.JournalFault.{JournalFault}
+use Rattle.desk_serving.specs.declared.journals.faults.JournalFault.TheVariants as journal
+use Rattle.desk_serving.specs.Session.{is_read_failed, is_write_failed}
+use Rattle.desk_serving.specs.Start.{StopsInMap}
+use Rattle.desk_serving.specs.declared.bounds.ServeFault.{ServeFault}
+use Rattle.desk_serving.specs.declared.bounds.ServeFault.TheVariants as session
+use Rattle.desk_checks.specs.Faults.{as_told, is_of_source, is_of_sink}
 use Rattle.desk_runs.specs.Opened.{IsDeskFault}
-use Rattle.desk_runs.specs.Opens.{IsOpenFault}
-use Rattle.desk_runs.specs.declared.faults.RunFault.{RunFault}
-use Rattle.desk_runs.specs.declared.faults.RunFault.TheVariants.{Map, Scen, Tasks, Journal, Replay, Serve}
+use Rattle.desk_checks.specs.Opens.{IsOpenFault}
+use Rattle.desk_checks.specs.declared.faults.RunFault.{RunFault}
+use Rattle.desk_checks.specs.declared.faults.RunFault.TheVariants.{Map, Scen, Tasks, Journal, Replay, Serve}
 
 -- a fault that neither the source nor the sink has
 abbrev pub IsUnserved : RunFault → Type 0

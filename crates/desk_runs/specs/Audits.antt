@@ -6,13 +6,13 @@ use Rattle.scene_edits.specs.Scene.{SceneState}
 use Rattle.desk_report.specs.Bytes.{AppendsFront}
 use Rattle.desk_report.specs.Report.{IsReportOf}
 use Rattle.desk_report.specs.declared.reports.Report.{Report}
-use Rattle.desk_core.specs.State.{DeskState, version_of}
-use Rattle.desk_core.specs.declared.limits.TheConstants.{MOST_ENTRIES}
+use Rattle.desk_commits.specs.State.{DeskState, version_of}
+use Rattle.desk_commits.specs.declared.limits.TheConstants.{MOST_ENTRIES}
 use Rattle.desk_runs.specs.Opened.{Replays, OpensDesk, IsDeskFault}
-use Rattle.desk_runs.specs.Opens.{Opens}
-use Rattle.desk_runs.specs.Reported.{reported_text}
-use Rattle.desk_runs.specs.declared.faults.RunFault.{RunFault}
-use Rattle.desk_runs.specs.declared.faults.RunFault.TheVariants.{WriteFailed, OutOfMemory}
+use Rattle.desk_checks.specs.Opens.{Opens}
+use Rattle.desk_checks.specs.Reported.{reported_text}
+use Rattle.desk_checks.specs.declared.faults.RunFault.{RunFault}
+use Rattle.desk_checks.specs.declared.faults.RunFault.TheVariants.{WriteFailed, OutOfMemory}
 
 -- what an audit that comes to its end has written
 pub record Audits (map : List ℕ) (scen : Option (List ℕ)) (agents : ℕ) (mode : Mode) (journal : Option (List ℕ)) (held0 held1 : Option (List ℕ)) : Type 0 where

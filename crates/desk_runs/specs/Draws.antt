@@ -4,17 +4,17 @@ use Rattle.plan_table.specs.declared.tracks.Mode.{Mode}
 use Rattle.scene_edits.specs.Scene.{SceneState}
 use Rattle.desk_report.specs.Report.{IsReportOf}
 use Rattle.desk_report.specs.declared.reports.Report.{Report}
-use Rattle.desk_core.specs.State.{DeskState}
-use Rattle.desk_core.specs.declared.limits.TheConstants.{MOST_ENTRIES}
+use Rattle.desk_commits.specs.State.{DeskState}
+use Rattle.desk_commits.specs.declared.limits.TheConstants.{MOST_ENTRIES}
 use Rattle.desk_pictures.specs.Growth.{GrowsAround}
 use Rattle.desk_pictures.specs.Marks.{findings_text}
-use Rattle.desk_runs.specs.Opens.{bytes_of}
+use Rattle.desk_checks.specs.Opens.{bytes_of}
 use Rattle.desk_runs.specs.Opened.{OpensDesk, IsDeskFault}
-use Rattle.desk_runs.specs.declared.faults.RunFault.{RunFault}
-use Rattle.desk_runs.specs.Checks.{IsPlanned}
-use Rattle.desk_runs.specs.CheckFaults.{of_run, IsPlanFault}
-use Rattle.desk_runs.specs.declared.checks.faults.CheckFault.{CheckFault}
-use Rattle.desk_runs.specs.declared.checks.faults.CheckFault.TheVariants.{WriteFailed, OutOfMemory}
+use Rattle.desk_checks.specs.declared.faults.RunFault.{RunFault}
+use Rattle.desk_checks.specs.Checks.{IsPlanned}
+use Rattle.desk_checks.specs.CheckFaults.{of_run, IsPlanFault}
+use Rattle.desk_checks.specs.declared.checks.faults.CheckFault.{CheckFault}
+use Rattle.desk_checks.specs.declared.checks.faults.CheckFault.TheVariants.{WriteFailed, OutOfMemory}
 use Rattle.desk_runs.specs.declared.courses.Courses.{Courses}
 use Rattle.desk_runs.specs.declared.courses.Courses.TheVariants.{Journal, Solver}
 

@@ -3,17 +3,17 @@ use Rattle.std.specs.Prelude.{◌≡◌, ◌⊎◌, ℕ, ◌+◌, ◌<◌, ◌�
 use Rattle.plan_table.specs.declared.tracks.Mode.{Mode}
 use Rattle.scene_edits.specs.Scene.{SceneState}
 use Rattle.desk_report.specs.Bytes.{AppendsFront}
-use Rattle.desk_core.specs.State.{DeskState, opening}
-use Rattle.desk_core.specs.declared.answers.Reading.{Reading}
-use Rattle.desk_core.specs.declared.limits.TheConstants.{MOST_ENTRIES}
+use Rattle.desk_commits.specs.State.{DeskState, opening}
+use Rattle.desk_commits.specs.declared.answers.Reading.{Reading}
+use Rattle.desk_commits.specs.declared.limits.TheConstants.{MOST_ENTRIES}
 use Rattle.desk_shared.specs.Passes.{PassState, Sharing}
-use Rattle.desk_session.specs.declared.bounds.ServeFault.{ServeFault}
+use Rattle.desk_serving.specs.declared.bounds.ServeFault.{ServeFault}
 use Rattle.desk_runs.specs.Drills.{IsSession, AreServed, ComesTo, drill_text}
-use Rattle.desk_runs.specs.Faults.{as_told}
-use Rattle.desk_runs.specs.Opens.{Opens, IsOpenFault}
+use Rattle.desk_checks.specs.Faults.{as_told}
+use Rattle.desk_checks.specs.Opens.{Opens, IsOpenFault}
 use Rattle.desk_runs.specs.declared.drilling.TheConstants.{MOST_SCRIPTS}
-use Rattle.desk_runs.specs.declared.faults.RunFault.{RunFault}
-use Rattle.desk_runs.specs.declared.faults.RunFault.TheVariants.{Serve, WriteFailed, PassLost, TooManyScripts, OutOfMemory}
+use Rattle.desk_checks.specs.declared.faults.RunFault.{RunFault}
+use Rattle.desk_checks.specs.declared.faults.RunFault.TheVariants.{Serve, WriteFailed, PassLost, TooManyScripts, OutOfMemory}
 
 -- the script's session for that planner ended so, through a pass of the shared desk that began where the desk was shared
 pub record HasEnded (shared : Sharing) (start : DeskState) (planner : ℕ) (script : List ℕ) (ended : Result ℕ ServeFault) : Type 0 where

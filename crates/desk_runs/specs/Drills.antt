@@ -8,21 +8,21 @@ use Rattle.scene_edits.specs.Scene.{SceneState}
 use Rattle.desk_report.specs.LineText.{line_text}
 use Rattle.desk_report.specs.Report.{IsReportOf}
 use Rattle.desk_report.specs.declared.reports.Report.{Report}
-use Rattle.desk_core.specs.Entries.{Entry}
-use Rattle.desk_core.specs.State.{DeskState, opening, after}
-use Rattle.desk_core.specs.Replays.{IsLegal}
-use Rattle.desk_core.specs.Questions.{Shows}
-use Rattle.desk_core.specs.declared.answers.Reading.{Reading}
-use Rattle.desk_core.specs.declared.limits.TheConstants.{MOST_ENTRIES}
+use Rattle.desk_commits.specs.Entries.{Entry}
+use Rattle.desk_commits.specs.State.{DeskState, opening, after}
+use Rattle.desk_commits.specs.Replays.{IsLegal}
+use Rattle.desk_commits.specs.Questions.{Shows}
+use Rattle.desk_commits.specs.declared.answers.Reading.{Reading}
+use Rattle.desk_commits.specs.declared.limits.TheConstants.{MOST_ENTRIES}
 use Rattle.desk_shared.specs.Passes.{PassState, Held, Sharing, Owns, own_of, AreOfPlanners, HasJust, GoesOn}
-use Rattle.desk_session.specs.Answer.{answering}
-use Rattle.desk_session.specs.Session.{Serves, is_write_failed}
-use Rattle.desk_session.specs.declared.bounds.ServeFault.{ServeFault}
-use Rattle.desk_session.specs.declared.drafts.Session.{Session}
-use Rattle.desk_session.specs.declared.drafts.Session.TheVariants.{Idle}
-use Rattle.desk_session.specs.Windows.{window_counting}
-use Rattle.desk_runs.specs.Opens.{Opens}
-use Rattle.desk_runs.specs.Reported.{reported_text}
+use Rattle.desk_serving.specs.Answer.{answering}
+use Rattle.desk_serving.specs.Session.{Serves, is_write_failed}
+use Rattle.desk_serving.specs.declared.bounds.ServeFault.{ServeFault}
+use Rattle.desk_serving.specs.declared.drafts.Session.{Session}
+use Rattle.desk_serving.specs.declared.drafts.Session.TheVariants.{Idle}
+use Rattle.desk_shared.specs.Windows.{window_counting}
+use Rattle.desk_checks.specs.Opens.{Opens}
+use Rattle.desk_checks.specs.Reported.{reported_text}
 use Rattle.desk_runs.specs.Runs.{run_bounds}
 
 -- the pass may give away the numbers from the first up to the planners, and no others

@@ -3,13 +3,13 @@ use Rattle.std.specs.Prelude.{◌≡◌, ◌↔◌, IsTrue, IfOk, ℕ, ◌+◌, 
 use mathlib.Core.List.{IsPrefix}
 use Rattle.desk_report.specs.Report.{IsReportOf}
 use Rattle.desk_report.specs.declared.reports.Report.{Report}
-use Rattle.desk_core.specs.Entries.{Entry}
-use Rattle.desk_core.specs.Questions.{Shows}
-use Rattle.desk_core.specs.Replays.{IsLegal}
-use Rattle.desk_core.specs.State.{DeskState, after}
-use Rattle.desk_core.specs.declared.answers.Reading.{Reading}
+use Rattle.desk_commits.specs.Entries.{Entry}
+use Rattle.desk_commits.specs.Questions.{Shows}
+use Rattle.desk_commits.specs.Replays.{IsLegal}
+use Rattle.desk_commits.specs.State.{DeskState, after}
+use Rattle.desk_commits.specs.declared.answers.Reading.{Reading}
 use Rattle.desk_shared.specs.Passes.{PassState, Held, Sharing, Owns, own_of, version_at, AreOfPlanners, HasJust}
-use Rattle.desk_session.specs.Windows.{window_counting, window_on}
+use Rattle.desk_shared.specs.Windows.{window_counting, window_on}
 use Rattle.desk_runs.specs.Drills.{AreJoined}
 use Rattle.desk_runs.specs.Seats.{Sits}
 use Rattle.desk_runs.specs.declared.hosts.hosting.HostEnd.{HostEnd}

@@ -2,15 +2,15 @@
 use Rattle.std.specs.Prelude.{◌≡◌, ◌⊎◌, ℕ, List, Option, Some, None, Result, Ok, Err}
 use Rattle.plan_table.specs.declared.tracks.Mode.{Mode}
 use Rattle.scene_edits.specs.Scene.{SceneState}
-use Rattle.desk_core.specs.State.{DeskState, opening}
-use Rattle.desk_core.specs.Replays.{Log, IsReplay}
-use Rattle.desk_core.specs.declared.journals.ReplayFault.{ReplayFault}
-use Rattle.desk_session.specs.JournalText.Reading.{ReadsAs}
-use Rattle.desk_session.specs.declared.journals.faults.JournalFault.{JournalFault}
-use Rattle.desk_runs.specs.Faults.{as_told}
-use Rattle.desk_runs.specs.Opens.{Opens, IsOpenFault}
-use Rattle.desk_runs.specs.declared.faults.RunFault.{RunFault}
-use Rattle.desk_runs.specs.declared.faults.RunFault.TheVariants.{Journal, Replay}
+use Rattle.desk_commits.specs.State.{DeskState, opening}
+use Rattle.desk_commits.specs.Replays.{Log, IsReplay}
+use Rattle.desk_commits.specs.declared.journals.ReplayFault.{ReplayFault}
+use Rattle.desk_serving.specs.JournalText.Reading.{ReadsAs}
+use Rattle.desk_serving.specs.declared.journals.faults.JournalFault.{JournalFault}
+use Rattle.desk_checks.specs.Faults.{as_told}
+use Rattle.desk_checks.specs.Opens.{Opens, IsOpenFault}
+use Rattle.desk_checks.specs.declared.faults.RunFault.{RunFault}
+use Rattle.desk_checks.specs.declared.faults.RunFault.TheVariants.{Journal, Replay}
 
 -- the desk that is opened on the scene and, where a journal's text is given, commits its entries
 abbrev pub Replays : Option (List ℕ) → SceneState → ℕ → DeskState → Type 0

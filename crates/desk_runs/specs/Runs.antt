@@ -2,20 +2,20 @@
 use Rattle.std.specs.Prelude.{◌≡◌, ◌⊎◌, ℕ, List, Option, Some, None, Result, Err}
 use Rattle.scene_edits.specs.Scene.{SceneState}
 use Rattle.plan_table.specs.declared.tracks.Mode.{Mode}
-use Rattle.desk_core.specs.State.{DeskState, opening}
-use Rattle.desk_session.specs.Answer.{answering}
-use Rattle.desk_session.specs.Counting.{desk_counting}
-use Rattle.desk_session.specs.Session.{Serves}
-use Rattle.desk_session.specs.Start.{HearsMap, StopsInMap, bounds_after}
-use Rattle.desk_session.specs.declared.bounds.Bounds.{Bounds}
-use Rattle.desk_session.specs.declared.bounds.ServeFault.{ServeFault}
-use Rattle.desk_session.specs.declared.drafts.Session.{Session}
-use Rattle.desk_session.specs.declared.drafts.Session.TheVariants.{Idle}
-use Rattle.desk_runs.specs.Faults.{as_told, run_answer}
-use Rattle.desk_runs.specs.Opens.{Opens, IsOpenFault}
-use Rattle.desk_runs.specs.declared.faults.RunFault.{RunFault}
-use Rattle.desk_runs.specs.declared.faults.RunFault.TheVariants.{Serve}
-use Rattle.desk_runs.specs.declared.serving.TheConstants.{MOST_BYTES}
+use Rattle.desk_commits.specs.State.{DeskState, opening}
+use Rattle.desk_serving.specs.Answer.{answering}
+use Rattle.desk_commits.specs.Counting.{desk_counting}
+use Rattle.desk_serving.specs.Session.{Serves}
+use Rattle.desk_serving.specs.Start.{HearsMap, StopsInMap, bounds_after}
+use Rattle.desk_serving.specs.declared.bounds.Bounds.{Bounds}
+use Rattle.desk_serving.specs.declared.bounds.ServeFault.{ServeFault}
+use Rattle.desk_serving.specs.declared.drafts.Session.{Session}
+use Rattle.desk_serving.specs.declared.drafts.Session.TheVariants.{Idle}
+use Rattle.desk_checks.specs.Faults.{as_told, run_answer}
+use Rattle.desk_checks.specs.Opens.{Opens, IsOpenFault}
+use Rattle.desk_checks.specs.declared.faults.RunFault.{RunFault}
+use Rattle.desk_checks.specs.declared.faults.RunFault.TheVariants.{Serve}
+use Rattle.desk_checks.specs.declared.bounds.TheConstants.{MOST_BYTES}
 use Rattle.desk_runs.specs.declared.serving.TheConstants.{MOST_LINES}
 
 -- the bounds of a run

@@ -1,21 +1,21 @@
 -- What is saved of a desk, and what comes of it (this project's choice).
 use Rattle.std.specs.Prelude.{◌≡◌, ◌⊎◌, ◌≤◌, ℕ, List, Option, Some, Result, Ok, Err}
 use Rattle.scene_edits.specs.Scene.{SceneState}
-use Rattle.desk_core.specs.Questions.{Shows}
-use Rattle.desk_core.specs.Replays.{Log}
-use Rattle.desk_core.specs.State.{DeskState}
-use Rattle.desk_core.specs.declared.answers.Reading.{Reading}
-use Rattle.desk_session.specs.JournalText.Lines.{journal_text}
-use Rattle.desk_session.specs.JournalText.Ranges.{IsJournal}
-use Rattle.desk_session.specs.Answer.{answering}
-use Rattle.desk_session.specs.Counting.{desk_counting}
-use Rattle.desk_session.specs.Session.{Serves}
-use Rattle.desk_session.specs.declared.bounds.Bounds.{Bounds}
-use Rattle.desk_session.specs.declared.bounds.ServeFault.{ServeFault}
-use Rattle.desk_session.specs.declared.drafts.Session.{Session}
+use Rattle.desk_commits.specs.Questions.{Shows}
+use Rattle.desk_commits.specs.Replays.{Log}
+use Rattle.desk_commits.specs.State.{DeskState}
+use Rattle.desk_commits.specs.declared.answers.Reading.{Reading}
+use Rattle.desk_serving.specs.JournalText.Lines.{journal_text}
+use Rattle.desk_serving.specs.JournalText.Ranges.{IsJournal}
+use Rattle.desk_serving.specs.Answer.{answering}
+use Rattle.desk_commits.specs.Counting.{desk_counting}
+use Rattle.desk_serving.specs.Session.{Serves}
+use Rattle.desk_serving.specs.declared.bounds.Bounds.{Bounds}
+use Rattle.desk_serving.specs.declared.bounds.ServeFault.{ServeFault}
+use Rattle.desk_serving.specs.declared.drafts.Session.{Session}
 use Rattle.desk_runs.specs.Opened.{Replays, ReplaysAs}
-use Rattle.desk_runs.specs.declared.faults.RunFault.{RunFault}
-use Rattle.desk_runs.specs.declared.faults.RunFault.TheVariants.{OutOfMemory}
+use Rattle.desk_checks.specs.declared.faults.RunFault.{RunFault}
+use Rattle.desk_checks.specs.declared.faults.RunFault.TheVariants.{OutOfMemory}
 
 -- the journal of a desk, with the mode of its scene
 abbrev pub log_of : DeskState → Log

@@ -1,11 +1,11 @@
 -- A planner's seat: what is heard there, and how that ends (this project's choice).
 use Rattle.std.specs.Prelude.{◌≡◌, ℕ, List, Option, Some, None, Result, Ok, Err}
-use Rattle.desk_session.specs.Answer.{answering}
-use Rattle.desk_session.specs.Counting.{Counting}
-use Rattle.desk_session.specs.Session.{Serves}
-use Rattle.desk_session.specs.declared.bounds.ServeFault.{ServeFault}
-use Rattle.desk_session.specs.declared.drafts.Session.{Session}
-use Rattle.desk_session.specs.declared.drafts.Session.TheVariants.{Idle}
+use Rattle.desk_serving.specs.Answer.{answering}
+use Rattle.desk_commits.specs.Counting.{Counting}
+use Rattle.desk_serving.specs.Session.{Serves}
+use Rattle.desk_serving.specs.declared.bounds.ServeFault.{ServeFault}
+use Rattle.desk_serving.specs.declared.drafts.Session.{Session}
+use Rattle.desk_serving.specs.declared.drafts.Session.TheVariants.{Idle}
 use Rattle.desk_runs.specs.Runs.{run_bounds}
 use Rattle.desk_runs.specs.declared.hosts.seats.SeatFault.{SeatFault}
 use Rattle.desk_runs.specs.declared.hosts.seats.SeatFault.TheVariants as seat

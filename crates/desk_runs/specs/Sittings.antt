@@ -1,20 +1,20 @@
 -- A session over the desk of a run's files, after which the desk is handed back (this project's choice).
 use Rattle.std.specs.Prelude.{◌≡◌, ◌⊎◌, ℕ, List, Option, Some, None, Result, Ok, Err, Bool}
 use Rattle.plan_table.specs.declared.tracks.Mode.{Mode}
-use Rattle.desk_core.specs.State.{DeskState}
-use Rattle.desk_session.specs.Answer.{answering}
-use Rattle.desk_session.specs.Counting.{desk_counting}
-use Rattle.desk_session.specs.Session.{Serves, is_read_failed, is_write_failed}
-use Rattle.desk_session.specs.Start.{HearsMap, StopsInMap, bounds_after}
-use Rattle.desk_session.specs.declared.bounds.Bounds.{Bounds}
-use Rattle.desk_session.specs.declared.bounds.ServeFault.{ServeFault}
-use Rattle.desk_session.specs.declared.drafts.Session.{Session}
-use Rattle.desk_session.specs.declared.drafts.Session.TheVariants.{Idle}
-use Rattle.desk_runs.specs.Faults.{as_told, is_of_source, is_of_sink}
+use Rattle.desk_commits.specs.State.{DeskState}
+use Rattle.desk_serving.specs.Answer.{answering}
+use Rattle.desk_commits.specs.Counting.{desk_counting}
+use Rattle.desk_serving.specs.Session.{Serves, is_read_failed, is_write_failed}
+use Rattle.desk_serving.specs.Start.{HearsMap, StopsInMap, bounds_after}
+use Rattle.desk_serving.specs.declared.bounds.Bounds.{Bounds}
+use Rattle.desk_serving.specs.declared.bounds.ServeFault.{ServeFault}
+use Rattle.desk_serving.specs.declared.drafts.Session.{Session}
+use Rattle.desk_serving.specs.declared.drafts.Session.TheVariants.{Idle}
+use Rattle.desk_checks.specs.Faults.{as_told, is_of_source, is_of_sink}
 use Rattle.desk_runs.specs.Opened.{OpensDesk, IsDeskFault}
 use Rattle.desk_runs.specs.Runs.{run_bounds}
-use Rattle.desk_runs.specs.declared.faults.RunFault.{RunFault}
-use Rattle.desk_runs.specs.declared.faults.RunFault.TheVariants.{Serve}
+use Rattle.desk_checks.specs.declared.faults.RunFault.{RunFault}
+use Rattle.desk_checks.specs.declared.faults.RunFault.TheVariants.{Serve}
 
 -- the desk of the files was served a session, which ended so and left that desk
 pub record IsSitting (map : List ℕ) (scen : Option (List ℕ)) (agents : ℕ) (mode : Mode) (limit : ℕ) (journal : Option (List ℕ)) (bounds : Bounds) (left0 left1 held0 held1 : Option (List ℕ)) (desk : DeskState) (ended : Result ℕ ServeFault) : Type 0 where

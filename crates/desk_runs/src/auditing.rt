@@ -1,19 +1,14 @@
-ghost use Rattle.std.specs.Prelude.{◌≡◌, ◌≤◌, ◌||◌, IfErr, IfOk, OnOk};
-ghost use Rattle.desk_report.specs.Report.{IsReportOf};
+ghost use Rattle.std.specs.Prelude.{◌≡◌, ◌≤◌, ◌||◌, IfErr, OnOk};
 ghost use Rattle.desk_runs.specs.Audits.{Audits, FailsAudit};
-ghost use Rattle.desk_runs.specs.Faults.{is_write_fault};
-ghost use Rattle.desk_runs.specs.Opens.{bytes_of};
+ghost use Rattle.desk_checks.specs.Faults.{is_write_fault};
+ghost use Rattle.desk_checks.specs.Opens.{bytes_of};
 
-use crate::faults::RunFault;
 use crate::opening::open_desk;
-use crate::reporting::put_report;
-use crate::scenes::Problem;
-use desk_audit::{AuditFault, NoGate, audit};
+use desk_checks::{Problem, RunFault, put_report, report_of};
 use desk_core::{Limit, MOST_ENTRIES};
-use desk_report::{Report, Sink, WriteFailed};
+use desk_report::{Sink, WriteFailed};
 use grid_cells::OutOfMemory;
 use plan_table::Mode;
-use scene_edits::Scene;
 use std::alloc::Global;
 use std::sync::Wait;
 use std::thread::Threads;
@@ -67,26 +62,5 @@ pub fn run_audit<T: Threads + Wait, W: Sink>(
     match put {
         Ok(()) => Ok(()),
         Err(WriteFailed) => Err(RunFault::WriteFailed),
-    }
-}
-
-/// The report of the scene, made from scratch by so many threads.
-///
-/// # Errors
-///
-/// Want of memory, or the start of a thread was refused.
-pub(crate) fn report_of<T: Threads + Wait>(
-    rt: &T,
-    alloc: Global,
-    scene: &Scene,
-    workers: u32,
-) -> Result<Report, OutOfMemory>
-    requires workers { (1 ≤ workers) × (workers ≤ 64) }
-    ensures { IfOk result (IsReportOf scene.now.grid scene.now.mode scene.now.rows) }
-{
-    match audit(rt, alloc, scene, workers, &NoGate) {
-        Ok(report) => Ok(report),
-        Err(AuditFault::BadWorkers) => unreachable!(),
-        Err(AuditFault::OutOfMemory) => Err(OutOfMemory),
     }
 }

@@ -1,13 +1,11 @@
 ghost use Rattle.std.specs.Prelude.{◌≡◌, ◌≢◌, ◌⊎◌, ◌≤◌, ◌||◌, IfErr, OnOk};
-ghost use Rattle.desk_runs.specs.CheckFaults.{has_write_failed};
+ghost use Rattle.desk_checks.specs.CheckFaults.{has_write_failed};
 ghost use Rattle.desk_runs.specs.Draws.{Draws, FailsDraw, IsPictureOf};
-ghost use Rattle.desk_runs.specs.Opens.{bytes_of};
+ghost use Rattle.desk_checks.specs.Opens.{bytes_of};
 
-use crate::auditing::report_of;
-use crate::checks::{CheckFault, planned_scene};
 use crate::courses::Courses;
 use crate::opening::open_desk;
-use crate::scenes::Problem;
+use desk_checks::{CheckFault, Problem, planned_scene, report_of};
 use desk_core::{Limit, MOST_ENTRIES};
 use desk_pictures::{Frame, write_picture};
 use desk_report::{Sink, WriteFailed};

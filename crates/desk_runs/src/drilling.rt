@@ -1,16 +1,15 @@
-ghost use Rattle.std.specs.Prelude.{◌≡◌, ◌↔◌, ◌≤◌, ◌||◌, length, unwrap_or, IfErr, IfOk, IsTrue};
+ghost use Rattle.std.specs.Prelude.{◌≡◌, ◌≤◌, ◌||◌, length, unwrap_or, IfErr, IfOk};
 ghost use Rattle.desk_runs.specs.DrillFaults.{FailsDrill, FailsUnwritten};
 ghost use Rattle.desk_runs.specs.Drills.{ComesTo, Drills, texts_of};
-ghost use Rattle.desk_runs.specs.Faults.{is_write_fault};
-ghost use Rattle.desk_runs.specs.Opens.{bytes_of};
+ghost use Rattle.desk_checks.specs.Faults.{is_write_fault};
+ghost use Rattle.desk_checks.specs.Opens.{bytes_of};
 
-use crate::faults::RunFault;
 use crate::hearing::{AtGate, Hearing};
 use crate::reporting::put_drill;
-use crate::scenes::{Problem, scene_of};
 use crate::scripts::serve_scripts;
 use crate::sharing::{end_sharing, last_report, share};
 use desk_audit::Gate;
+use desk_checks::{Problem, RunFault, is_same, scene_of};
 use desk_core::Reading;
 use desk_report::{Report, Sink, WriteFailed};
 use plan_table::Mode;
@@ -144,11 +143,4 @@ fn drilled<R: Threads + Wait + Sync, H: Hearing + Sync>(
     let same = is_same(&reading.report, &audited);
     drop(audited);
     Ok((reading, same))
-}
-
-/// Whether the reports are equal.
-pub(crate) fn is_same(report: &Report, other: &Report) -> bool
-    ensures { IsTrue result ↔ (report.now ≡ other.now) }
-{
-    report == other
 }

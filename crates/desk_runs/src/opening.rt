@@ -1,11 +1,10 @@
 ghost use Rattle.std.specs.Prelude.{IfOk, IfErr, unwrap_or};
 ghost use Rattle.desk_runs.specs.Opened.{OpensDesk, IsDeskFault, ReplaysAs};
-ghost use Rattle.desk_runs.specs.Opens.{bytes_of};
+ghost use Rattle.desk_checks.specs.Opens.{bytes_of};
 
-use crate::faults::RunFault;
-use crate::scenes::{Problem, scene_of};
+use desk_checks::{Problem, RunFault, scene_of};
 use desk_core::{Desk, Limit, replay};
-use desk_session::read_journal;
+use desk_serving::read_journal;
 use scene_edits::Scene;
 use std::alloc::Global;
 

@@ -2,25 +2,10 @@ ghost use Rattle.std.specs.Prelude.{◌≡◌, ◌||◌, OnErr, OnOk, is_err};
 ghost use Rattle.std.specs.Io.KnownBytes.{Appends};
 ghost use Rattle.desk_report.specs.Bytes.{AppendsFront};
 ghost use Rattle.desk_runs.specs.Drills.{drill_text, same_line};
-ghost use Rattle.desk_runs.specs.Reported.{reported_text};
 
+use desk_checks::put_report;
 use desk_core::Reading;
-use desk_report::{Report, Sink, Word, WriteFailed, put_line, write_report};
-
-/// Writes a version, and a report.
-///
-/// # Errors
-///
-/// The writer failed.
-#[tactic(auto, using(desk_report::proofs::Fronts::fronts))]
-pub fn put_report<W: Sink>(writer: &mut W, version: u64, report: &Report) -> Result<(), WriteFailed>
-    ensures ok { OnOk result (Appends (W.held writer.old) (W.held writer.new) (reported_text version report.now)) }
-    ensures err { OnErr result (AppendsFront (W.held writer.old) (W.held writer.new) (reported_text version report.now)) }
-    ensures broken { W.broken writer.new ≡ (W.broken writer.old || is_err result) }
-{
-    put_line(writer, b"version", &[Word::Number(version)])?;
-    write_report(report, writer)
-}
+use desk_report::{Sink, Word, WriteFailed, put_line};
 
 // Writes whether the audit's report is the same.
 fn put_same<W: Sink>(writer: &mut W, same: bool) -> Result<(), WriteFailed>

@@ -1,12 +1,12 @@
 ghost use Rattle.std.specs.Prelude.{◌≡◌, OnOk, OnErr, is_err, ◌||◌};
 ghost use Rattle.std.specs.Io.KnownBytes.{Appends};
 ghost use Rattle.desk_report.specs.Bytes.{AppendsFront};
-ghost use Rattle.desk_session.specs.JournalText.Ranges.{IsJournal};
+ghost use Rattle.desk_serving.specs.JournalText.Ranges.{IsJournal};
 ghost use Rattle.desk_runs.specs.Saved.{log_of, saved_text};
 
 use desk_core::Desk;
 use desk_report::{Sink, WriteFailed};
-use desk_session::write_journal;
+use desk_serving::write_journal;
 
 /// Writes the journal of a desk, from which a desk of the same scene and journal can be opened where
 /// this one was. It takes no memory.

@@ -4,13 +4,13 @@ ghost use Rattle.desk_shared.specs.Passes.{Owns};
 ghost use Rattle.desk_runs.specs.DrillFaults.{IsScriptsFault};
 ghost use Rattle.desk_runs.specs.Drills.{HasGathered, HasServed, IsSession, MaySplit, texts_of};
 
-use crate::faults::RunFault;
 use crate::heard::Heard;
 use crate::hearing::Hearing;
 use crate::serving::BOUNDS;
+use desk_checks::RunFault;
 use desk_report::Tap;
-use desk_session::{ServeFault, Window, serve};
-use desk_shared::{Pass, SharedDesk};
+use desk_serving::{ServeFault, serve};
+use desk_shared::{Pass, SharedDesk, Window};
 use grid_cells::OutOfMemory;
 use std::alloc::Global;
 use std::snapshot::Snapshot;

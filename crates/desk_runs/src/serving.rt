@@ -1,21 +1,17 @@
 ghost use Rattle.std.specs.Prelude.{◌≡◌, ◌||◌, unwrap_or};
-ghost use Rattle.desk_session.specs.Reads.{ReadsUntil};
-ghost use Rattle.desk_runs.specs.Faults.{is_read_fault, is_write_fault};
+ghost use Rattle.desk_serving.specs.Reads.{ReadsUntil};
+ghost use Rattle.desk_checks.specs.Faults.{is_read_fault, is_write_fault};
 ghost use Rattle.desk_runs.specs.Runs.{Runs};
 ghost use Rattle.desk_runs.specs.Sittings.{Sits, SitsOver, sink_failed, source_failed};
-ghost use Rattle.desk_runs.specs.Opens.{bytes_of};
+ghost use Rattle.desk_checks.specs.Opens.{bytes_of};
 
-use crate::faults::RunFault;
 use crate::opening::open_desk;
-use crate::scenes::Problem;
+use desk_checks::{MOST_BYTES, Problem, RunFault};
 use desk_core::{Desk, Limit};
 use desk_report::{Sink, Source};
-use desk_session::{Bounds, ServeFault, hear_map, serve};
+use desk_serving::{Bounds, ServeFault, hear_map, serve};
 use plan_table::Mode;
 use std::alloc::Global;
-
-/// The most bytes that a file or a session may have.
-pub const MOST_BYTES: u64 = 1_073_741_824;
 
 /// The most lines that a session may have.
 const MOST_LINES: u32 = 1_000_000;

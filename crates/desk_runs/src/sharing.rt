@@ -1,13 +1,12 @@
 //! The shared desk of a drill: how it begins, and how it ends.
 ghost use Rattle.std.specs.Prelude.{◌≡◌, ◌⊎◌, ◌≤◌, IfErr, IfOk};
-ghost use Rattle.desk_core.specs.State.{opening};
+ghost use Rattle.desk_commits.specs.State.{opening};
 ghost use Rattle.desk_report.specs.Report.{IsReportOf};
 ghost use Rattle.desk_shared.specs.Calls.{IsFirst};
 ghost use Rattle.desk_shared.specs.Passes.{Owns};
 ghost use Rattle.desk_runs.specs.Drills.{IsEnd};
 
-use crate::auditing::report_of;
-use crate::faults::RunFault;
+use desk_checks::{RunFault, report_of};
 use desk_core::{Desk, Limit, MOST_ENTRIES, Reading};
 use desk_report::Report;
 use desk_shared::{Pass, PassLost, SharedDesk};

@@ -1,9 +1,1 @@
-pub mod AllLines
-pub mod Pieces
-pub mod Progress
-pub mod Endings
-pub mod Reading
-pub mod MapLines
 pub mod MapDesk
-pub mod Staying
-pub mod JournalText

@@ -3,7 +3,7 @@ use Rattle.std.specs.Prelude.{All, Any}
 use Rattle.std.proofs.Common.{◌≡◌, ◌≢◌, ⊎_elim, ℕ, ◌<◌, List, [], ◌∷◌, ◌++◌, length, arith, refl, sym, subst, ◌∙◌}
 use Rattle.std.proofs.lemmas.List.{append-nil}
 use Rattle.std.proofs.lemmas.List.Elements.{All-head, All-drop}
-use Rattle.desk_core.specs.Entries.{Entry}
+use Rattle.desk_commits.specs.Entries.{Entry}
 use Rattle.desk_shared.specs.Passes.{PassState, own_of, MayGive, HasJust, IsOfAnother, GoesOn}
 use Rattle.desk_shared.specs.Laws.{AloneFindsWhatItSaw, OnePlannerFindsWhatItSaw}
 use Rattle.desk_shared.proofs.Beginnings.{after_prefix, own_rest, none_own}

@@ -5,7 +5,7 @@ use Rattle.std.proofs.lemmas.List.{append-nil}
 use Rattle.std.proofs.lemmas.List.Elements.{All-nil, All-cons, All-take}
 use Rattle.std.proofs.Math.Seq.{take-append_seam, drop-append_seam}
 use mathlib.Core.List.{IsPrefix}
-use Rattle.desk_core.specs.Entries.{Entry}
+use Rattle.desk_commits.specs.Entries.{Entry}
 use Rattle.desk_shared.specs.Passes.{own_if, own_of}
 use Rattle.desk_shared.specs.Turns.{longer}
 

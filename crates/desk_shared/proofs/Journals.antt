@@ -2,9 +2,9 @@
 use Rattle.std.proofs.Common.{◌≡◌, ◌≤◌, List, [], ◌∷◌, ◌++◌, length, drop, arith, refl, sym, ap, ◌∙◌, length-append, append_assoc}
 use Rattle.std.proofs.lemmas.List.{append-nil}
 use Rattle.std.proofs.Math.Seq.{drop-append_seam}
-use Rattle.desk_core.specs.Entries.{Entry}
-use Rattle.desk_core.specs.State.{DeskState, version_of, grown, after}
-use Rattle.desk_core.specs.Replays.{IsLegal}
+use Rattle.desk_commits.specs.Entries.{Entry}
+use Rattle.desk_commits.specs.State.{DeskState, version_of, grown, after}
+use Rattle.desk_commits.specs.Replays.{IsLegal}
 use Rattle.desk_shared.specs.Passes.{version_at}
 use Rattle.desk_shared.specs.Turns.{since}
 

@@ -13,9 +13,9 @@ use lib.ListN.{get_elem?}
 use lib.Seq.{set-get_or}
 use Rattle.atomic_table.specs.Table.{State, keeps, stepped, opening}
 use Rattle.atomic_table.proofs.Lists.{at_set, set_else, set_again}
-use Rattle.desk_core.specs.Entries.{Entry}
-use Rattle.desk_core.specs.State.{DeskState, after}
-use Rattle.desk_core.specs.Replays.{IsLegal}
+use Rattle.desk_commits.specs.Entries.{Entry}
+use Rattle.desk_commits.specs.State.{DeskState, after}
+use Rattle.desk_commits.specs.Replays.{IsLegal}
 use Rattle.desk_shared.proofs.Journals.{legal_within}
 use Rattle.desk_shared.specs.declared.board.Known.{Known}
 use Rattle.desk_shared.specs.declared.board.Stage.{Stage}

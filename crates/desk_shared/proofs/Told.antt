@@ -8,10 +8,10 @@ use Rattle.std.proofs.lemmas.Option.{gets}
 use mathlib.Core.Option.{some, some-injective}
 use lib.ListN.{get_elem?}
 use Rattle.atomic_table.specs.Table.{Final, Seen}
-use Rattle.desk_core.specs.Entries.{Entry}
-use Rattle.desk_core.specs.State.{DeskState, version_of, grown, after}
-use Rattle.desk_core.specs.Commits.{Accepts, Committed}
-use Rattle.desk_core.proofs.Replaying.{after-push}
+use Rattle.desk_commits.specs.Entries.{Entry}
+use Rattle.desk_commits.specs.State.{DeskState, version_of, grown, after}
+use Rattle.desk_commits.specs.Commits.{Accepts, Committed}
+use Rattle.desk_commits.proofs.Replaying.{after-push}
 use Rattle.desk_shared.specs.declared.board.Known.{Known}
 use Rattle.desk_shared.specs.declared.board.Stage.TheVariants.{Idle, Holding}
 use Rattle.desk_shared.specs.Passes.{PassState, own_of, version_at, AreOfPlanners, HasJust, GoesOn}

@@ -6,10 +6,10 @@ use mathlib.Core.List.{IsPrefix}
 use prog.Atomic.{either}
 use Rattle.atomic_table.specs.Table.{Me, rest, step, Act, keeps, takes, gives, stepped, carried_after, Valid, Allows}
 use Rattle.atomic_table.proofs.Lists.{set_here, exchanged}
-use Rattle.desk_core.specs.Entries.{Entry}
-use Rattle.desk_core.specs.State.{DeskState, grown, after}
-use Rattle.desk_core.specs.Commits.{Accepts}
-use Rattle.desk_core.proofs.Replaying.{after-push, IsLegal-push}
+use Rattle.desk_commits.specs.Entries.{Entry}
+use Rattle.desk_commits.specs.State.{DeskState, grown, after}
+use Rattle.desk_commits.specs.Commits.{Accepts}
+use Rattle.desk_commits.proofs.Replaying.{after-push, IsLegal-push}
 use Rattle.desk_shared.proofs.Journals.{limit_after, version_after, since_after}
 use Rattle.desk_shared.specs.declared.board.Known.{Known}
 use Rattle.desk_shared.specs.declared.board.Stage.TheVariants.{Making, Idle, Holding}

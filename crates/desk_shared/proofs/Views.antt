@@ -12,8 +12,8 @@ use lib.ListN.{get_elem?}
 use lib.Seq.{set-get_or}
 use Rattle.atomic_table.specs.Table.{State, step, keeps, Allows, Splits, Joins}
 use Rattle.atomic_table.proofs.Lists.{set_else, at_longer}
-use Rattle.desk_core.specs.Entries.{Entry}
-use Rattle.desk_core.specs.State.{DeskState}
+use Rattle.desk_commits.specs.Entries.{Entry}
+use Rattle.desk_commits.specs.State.{DeskState}
 use Rattle.desk_shared.specs.declared.board.Known.{Known}
 use Rattle.desk_shared.specs.declared.board.Stage.TheVariants.{Idle}
 use Rattle.desk_shared.specs.Passes.{own_of, version_at, MayGive, AreOfPlanners, HasJust}

@@ -1,10 +1,10 @@
 -- What each call of a shared desk answers, and what the pass knows then (this project's choice).
 use Rattle.std.specs.Prelude.{◌≡◌, ◌≢◌, ◌⊎◌, ℕ, ◌<◌, ◌≤◌, ◌||◌, max, Bool, true, false, List, [], ◌∷◌, ◌++◌, slice_index_or, slice_set, All, Result, Ok, Err}
 use mathlib.Core.List.{IsPrefix}
-use Rattle.desk_core.specs.Entries.{Entry}
-use Rattle.desk_core.specs.State.{DeskState, after}
-use Rattle.desk_core.specs.Commits.{Committed}
-use Rattle.desk_core.specs.declared.answers.Refusal.{Refusal}
+use Rattle.desk_commits.specs.Entries.{Entry}
+use Rattle.desk_commits.specs.State.{DeskState, after}
+use Rattle.desk_commits.specs.Commits.{Committed}
+use Rattle.desk_commits.specs.declared.answers.Refusal.{Refusal}
 use Rattle.desk_shared.specs.declared.faults.TheConstants.{MOST_PLANNERS}
 use Rattle.desk_shared.specs.declared.faults.ShareFault.{ShareFault}
 use Rattle.desk_shared.specs.declared.faults.ShareFault.TheVariants.{BadPlanners, OutOfMemory}

@@ -1,6 +1,6 @@
 -- What holds of all passes and journals.
 use Rattle.std.specs.Prelude.{◌≡◌, ◌⊎◌, ℕ, ◌<◌, List, All, Any}
-use Rattle.desk_core.specs.Entries.{Entry}
+use Rattle.desk_commits.specs.Entries.{Entry}
 use Rattle.desk_shared.specs.Passes.{PassState, MayGive, HasJust, GoesOn}
 
 -- each number of the desk is the pass's own, one that it may give away, or that of a pass that was joined into it

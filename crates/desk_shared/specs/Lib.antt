@@ -3,3 +3,4 @@ pub mod Calls
 pub mod Turns
 pub mod Laws
 pub mod Numbers
+pub mod Windows

@@ -2,9 +2,9 @@
 use Rattle.std.specs.Prelude.{◌≡◌, ◌≢◌, ℕ, ◌+◌, ◌<◌, ◌≤◌, Bool, true, false, eqb, List, [], ◌∷◌, length, drop, slice_index_or, All}
 use mathlib.Core.List.{IsPrefix}
 use Rattle.atomic_table.specs.Seated.{TableId}
-use Rattle.desk_core.specs.Entries.{Entry}
-use Rattle.desk_core.specs.State.{DeskState, version_of}
-use Rattle.desk_core.specs.Replays.{IsLegal}
+use Rattle.desk_commits.specs.Entries.{Entry}
+use Rattle.desk_commits.specs.State.{DeskState, version_of}
+use Rattle.desk_commits.specs.Replays.{IsLegal}
 
 -- what a pass knows: the desk at its sharing and for how many planners it was shared, the entries that it has seen of those made since, the greatest front that it was told, its planner number, for each number whether it may still give it away, and the number of each pass that was joined into it, with the entries that this number has for ever
 pub record PassState : Type 0 where

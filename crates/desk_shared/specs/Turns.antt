@@ -9,10 +9,10 @@ use Rattle.atomic_table.specs.Table.{State, Me, Step}
 use Rattle.atomic_table.specs.Seated.{TableId}
 use Rattle.atomic_table.specs.declared.shared.Seat.{Seat}
 use Rattle.plan_table.specs.declared.tracks.Mode.TheVariants.{Stay}
-use Rattle.desk_core.specs.Entries.{Entry}
-use Rattle.desk_core.specs.State.{DeskState, version_of, grown, after}
-use Rattle.desk_core.specs.Commits.{Accepts}
-use Rattle.desk_core.specs.Replays.{IsLegal}
+use Rattle.desk_commits.specs.Entries.{Entry}
+use Rattle.desk_commits.specs.State.{DeskState, version_of, grown, after}
+use Rattle.desk_commits.specs.Commits.{Accepts}
+use Rattle.desk_commits.specs.Replays.{IsLegal}
 use Rattle.desk_shared.specs.declared.board.Known.{Known}
 use Rattle.desk_shared.specs.declared.board.Stage.{Stage}
 use Rattle.desk_shared.specs.declared.board.Stage.TheVariants.{Making, Idle, Holding, Joined}

@@ -1,9 +1,5 @@
 //! The word `audit`.
-use crate::details::Texts;
-use crate::finishing::finish;
-use crate::named::read_files;
-use crate::stages::tell_stage;
-use crate::telling::More;
+use desk_files::{More, Texts, finish, read_files, tell_stage};
 use desk_report::Spout;
 use desk_runs::{Fault, RunFault, run_audit};
 use desk_words::AuditWords;

@@ -1,10 +1,6 @@
 //! The word `draw`.
-use crate::details::{Texts, problem_of};
 use crate::faults::ProgramFault;
-use crate::finishing::finish;
-use crate::named::read_files;
-use crate::stages::tell_stage;
-use crate::telling::More;
+use desk_files::{More, Texts, finish, problem_of, read_files, tell_stage};
 use desk_pictures::Frame;
 use desk_report::Spout;
 use desk_runs::{CheckFault, Courses, Fault, run_draw};

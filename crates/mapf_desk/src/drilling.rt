@@ -1,11 +1,6 @@
 //! The word `drill`.
-use crate::details::{Texts, problem_of};
-use crate::files::file_bytes;
-use crate::finishing::finish;
-use crate::named::read_files;
-use crate::stages::tell_stage;
 use crate::tallies::Tallies;
-use crate::telling::More;
+use desk_files::{More, Texts, file_bytes, finish, problem_of, read_files, tell_stage};
 use desk_report::Spout;
 use desk_runs::{Fault, RunFault, hear_drill};
 use desk_words::DrillWords;

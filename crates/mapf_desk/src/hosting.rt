@@ -1,13 +1,11 @@
 //! The word `host`.
 use crate::DIFFERS;
-use crate::details::{Detailed, problem_of};
 use crate::faults::ProgramFault;
-use crate::named::read_named;
 use crate::saving::save_named;
 use crate::seats::Pipes;
 use crate::serving::limit_of;
-use crate::telling::{FAULT, More};
 use desk_core::Desk;
+use desk_files::{Detailed, FAULT, More, problem_of, read_named};
 use desk_runs::{Fault, HostEnd, HostFault, RunFault, host_planners, open_desk};
 use desk_words::HostWords;
 use std::process::ExitCode;

@@ -4,26 +4,19 @@
 
 mod auditing;
 mod checking;
-mod details;
-mod doors;
 mod drawing;
 mod drilling;
 mod faults;
-mod files;
-mod finishing;
 mod hosting;
-mod named;
 mod saving;
 mod seats;
 mod serving;
 mod sittings;
-mod stages;
-mod streams;
 mod tallies;
-mod telling;
 
 use auditing::audit_files;
 use checking::check_files;
+use desk_files::{FAULT, More, tell, tell_more, tell_served};
 use desk_runs::{Fault, RunFault};
 use desk_words::{Asked, VERSION, WAITS, Words, read_words};
 use drawing::draw_files;
@@ -37,7 +30,6 @@ use std::process::ExitCode;
 use std::rt::Files;
 use std::sync::Wait;
 use std::thread::Threads;
-use telling::{FAULT, More, tell, tell_more, tell_served};
 
 /// The status where the reports of a desk and of its audit differ.
 pub const DIFFERS: u8 = 1;

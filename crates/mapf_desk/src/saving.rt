@@ -1,6 +1,6 @@
 //! A file that is whole at any moment.
-use crate::telling::More;
 use desk_core::Desk;
+use desk_files::{More, folder_of, told};
 use desk_report::Spout;
 use desk_runs::{Fault, RunFault, save_desk};
 use std::alloc::Global;
@@ -8,36 +8,6 @@ use std::fs;
 use std::fs::OpenFile;
 use std::io::{BufWriter, Error, ErrorKind, Result as Done, Write};
 use std::rt::Files;
-
-/// Looks whether a desk's journal can be saved in the file: its folder is there, and the file is no
-/// folder and no device.
-///
-/// # Errors
-///
-/// It can't be, and why.
-pub fn look_ahead<'a, R: Files + AllocGlobal>(
-    rt: &R,
-    file: &'a str,
-    more: &mut More,
-) -> Result<(), Fault<'a>> {
-    told(rt.alloc(), is_ready(rt, file), file, more)
-}
-
-// Whether something was done with the file that is to be written; more is known of why it wasn't.
-fn told<'a>(
-    alloc: Global,
-    done: Done<()>,
-    file: &'a str,
-    more: &mut More,
-) -> Result<(), Fault<'a>> {
-    match done {
-        Ok(()) => Ok(()),
-        Err(why) => {
-            more.reason(alloc, &why);
-            Err(Fault::CannotWrite { file })
-        }
-    }
-}
 
 /// Saves a desk's journal in the file: in a new file beside it, which is synced and then takes its
 /// name. So the file is whole at any moment.
@@ -83,24 +53,6 @@ pub fn save_named<'a, R: Files + AllocGlobal>(
         None => Ok(()),
         Some(file) => save_journal(rt, desk, file, more),
     }
-}
-
-// The folder that a file is in, with the slash behind it: so a file isn't opened in its place.
-fn folder_of(file: &str) -> &str {
-    match file.rfind('/') {
-        Some(end) => file.get(..=end).unwrap_or("."),
-        None => ".",
-    }
-}
-
-fn is_ready<R: Files>(rt: &R, file: &str) -> Done<()> {
-    if let Ok(there) = fs::metadata(rt, file) {
-        if !there.is_file() {
-            return Err(Error::new(ErrorKind::InvalidInput, "not a file"));
-        }
-    }
-    let _folder = fs::open(rt, folder_of(file))?;
-    Ok(())
 }
 
 // Writes the journal into the new file, and gives that the file's name.

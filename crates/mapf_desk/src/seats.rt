@@ -2,10 +2,11 @@
 ghost use Rattle.std.specs.Prelude.{None};
 ghost use Rattle.desk_runs.specs.Seats.{Sits};
 
-use crate::doors::{Doors, Stage};
 use crate::sittings::sit_between;
+use desk_commits::Counter;
+use desk_files::{Doors, Stage};
 use desk_runs::{Outcome, SeatFault, Seats};
-use desk_session::{Counter, ServeFault};
+use desk_serving::ServeFault;
 use std::alloc::{AllocError, Global};
 use std::fs::OpenOptions;
 use std::sync::Wait;

@@ -1,13 +1,10 @@
 //! The word `serve`.
-use crate::details::{Detailed, Texts};
-use crate::named::read_named;
 use crate::saving::save_named;
-use crate::streams::{Answers, Lines, Outlet};
-use crate::telling::{More, tell_more};
 use desk_core::{Desk, Limit, MOST_ENTRIES};
+use desk_files::{Answers, Detailed, Lines, More, Outlet, Texts, read_named, tell_more};
 use desk_report::Spout;
 use desk_runs::{Fault, RunFault, serve_desk};
-use desk_session::ServeFault;
+use desk_serving::ServeFault;
 use desk_words::ServeWords;
 use std::alloc::Global;
 use std::cell::RefCell;

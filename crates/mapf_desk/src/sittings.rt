@@ -2,10 +2,11 @@
 ghost use Rattle.std.specs.Prelude.{None};
 ghost use Rattle.desk_runs.specs.Seats.{IsHeard, Sits};
 
-use crate::streams::{Answers, Lines, Outlet};
+use desk_commits::Counter;
+use desk_files::{Answers, Lines, Outlet, WholeLines};
 use desk_report::{Sink, Source, Spout};
-use desk_runs::{BOUNDS, Outcome, SeatFault, WholeLines};
-use desk_session::{Counter, ServeFault, serve};
+use desk_runs::{BOUNDS, Outcome, SeatFault};
+use desk_serving::{ServeFault, serve};
 use std::alloc::Global;
 use std::cell::RefCell;
 use std::io::{BufWriter, Read, Write};

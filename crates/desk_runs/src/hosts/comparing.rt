@@ -2,8 +2,7 @@
 ghost use Rattle.std.specs.Prelude.{◌≡◌, ◌≤◌, IfOk};
 ghost use Rattle.desk_runs.specs.Hosts.{IsCompared};
 
-use crate::auditing::report_of;
-use crate::drilling::is_same;
+use desk_checks::{is_same, report_of};
 use desk_core::Desk;
 use grid_cells::OutOfMemory;
 use std::alloc::Global;

@@ -4,8 +4,6 @@ mod hosting;
 mod seats;
 mod sittings;
 mod threads;
-mod whole_lines;
 
 pub use hosting::{HostEnd, HostFault, MOST_HOSTED, host_planners};
 pub use seats::{Outcome, SeatFault, Seats};
-pub use whole_lines::WholeLines;

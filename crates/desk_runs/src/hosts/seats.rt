@@ -1,6 +1,7 @@
 ghost use Rattle.desk_runs.specs.Seats.{Sits};
 
-use desk_session::{Counter, ServeFault};
+use desk_commits::Counter;
+use desk_serving::ServeFault;
 use std::alloc::Global;
 use std::io;
 use std::sync::Wait;

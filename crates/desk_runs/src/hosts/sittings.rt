@@ -4,8 +4,7 @@ ghost use Rattle.desk_shared.specs.Passes.{Owns};
 ghost use Rattle.desk_runs.specs.Hosts.{IsEnded};
 
 use crate::hosts::seats::{Outcome, SeatFault, Seats};
-use desk_session::Window;
-use desk_shared::{Pass, SharedDesk};
+use desk_shared::{Pass, SharedDesk, Window};
 use std::alloc::Global;
 use std::snapshot::Snapshot;
 use std::sync::Wait;

@@ -1,6 +1,6 @@
 //! What a pass asks the desk in its turn, which changes nothing.
 ghost use Rattle.std.specs.Prelude.{IfOk};
-ghost use Rattle.desk_core.specs.Questions.{Shows, Judges, Tells, Copies};
+ghost use Rattle.desk_commits.specs.Questions.{Shows, Judges, Tells, Copies};
 ghost use Rattle.desk_shared.specs.Passes.{Owns};
 ghost use Rattle.desk_shared.specs.Calls.{AsksBy};
 

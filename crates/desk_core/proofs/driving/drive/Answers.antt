@@ -1,7 +1,7 @@
 use Rattle.std.proofs.Common.{◌≡◌, ◌++◌, ◌∷◌, [], length, ap, sym, ◌∙◌, append_assoc, arith}
 use Rattle.std.proofs.lemmas.List.{length_push}
 use Rattle.std.specs.Vec.Iter.{into_iter_items}
-use Rattle.desk_core.proofs.RunsOn.{IsRun-push}
+use Rattle.desk_commits.proofs.RunsOn.{IsRun-push}
 use Rattle.desk_core.proofs.driving.drive.Goals as goal
 
 pub loop-call-preserved : goal.loop-call-preserved

@@ -1,7 +1,7 @@
 use Rattle.std.proofs.Common.{◌≡◌, ◌+◌, ◌≤◌, ◌++◌, length}
 use Rattle.std.specs.Prelude.{vec_capacity}
 use Rattle.std.specs.Vec.Iter.{into_iter_items}
-use Rattle.desk_core.specs.Runs.{IsRun}
+use Rattle.desk_commits.specs.Runs.{IsRun}
 use Rattle.desk_core.proofs.driving.drive.Given as goal
 
 abbrev pub invariant-loop-call : goal.invariant-loop-call

@@ -1,4 +1,4 @@
-use Rattle.desk_core.proofs.OnMap.{paths_on}
+use Rattle.desk_commits.proofs.OnMap.{paths_on}
 use Rattle.desk_core.proofs.questions.report.Goals as goal
 
 pub returns-in-Ok-clause-priced : goal.returns-in-Ok-clause-priced

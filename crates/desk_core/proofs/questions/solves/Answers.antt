@@ -1,9 +1,9 @@
 use Rattle.std.proofs.Common.{◌≡◌, length, sym, subst, refl}
 use Rattle.scene_edits.specs.Scene.{SceneState}
 use Rattle.desk_report.specs.Report.{IsReportOf}
-use Rattle.desk_core.specs.Questions.{ArePriced}
-use Rattle.desk_core.specs.State.{version_of}
-use Rattle.desk_core.proofs.OnMap.{paths_on}
+use Rattle.desk_commits.specs.Questions.{ArePriced}
+use Rattle.desk_commits.specs.State.{version_of}
+use Rattle.desk_commits.proofs.OnMap.{paths_on}
 use Rattle.desk_core.proofs.questions.solves.Goals as goal
 
 pub returns : goal.returns

@@ -1,5 +1,5 @@
 use Rattle.std.proofs.Common.{rules}
-use Rattle.desk_runs.specs.Opens.{bytes_of}
+use Rattle.desk_checks.specs.Opens.{bytes_of}
 use Rattle.desk_runs.proofs.Stopping.{stops}
 use Rattle.desk_runs.proofs.drawing.run_draw.Goals as goal
 

@@ -1,6 +1,6 @@
 use Rattle.desk_report.proofs.Fronts.{front-more, err-of, ok-after, err-after}
 use Rattle.desk_runs.specs.Drills.{same_line}
-use Rattle.desk_runs.specs.Reported.{reported_text}
+use Rattle.desk_checks.specs.Reported.{reported_text}
 use Rattle.desk_runs.proofs.reporting.put_drill.Goals as goal
 
 pub returns-in_err-put_report-clause-err : goal.returns-in_err-put_report-clause-err

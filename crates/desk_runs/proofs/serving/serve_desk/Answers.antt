@@ -1,5 +1,5 @@
 use Rattle.desk_runs.specs.Sittings.{source_failed}
-use Rattle.desk_session.proofs.Reading.{until-then}
+use Rattle.desk_serving.proofs.Reading.{until-then}
 use Rattle.desk_runs.proofs.serving.serve_desk.Goals as goal
 
 -- The map was read to its end, and then the session's reads followed.

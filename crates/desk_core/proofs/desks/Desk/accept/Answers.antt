@@ -3,10 +3,10 @@ use Rattle.std.proofs.lemmas.List.{length_push}
 use Rattle.grid_cells.specs.Grid.{Chart}
 use Rattle.scene_edits.specs.Scene.{SceneState}
 use Rattle.scene_edits.specs.InOrder.{AreAllowed, edited_all}
-use Rattle.desk_core.specs.Entries.{Entry}
-use Rattle.desk_core.specs.State.{DeskState}
-use Rattle.desk_core.specs.Stamps.{AreOnMap, WhereTheyStand}
-use Rattle.desk_core.proofs.OnMap.{all_on, same_size_all, on_map_push}
+use Rattle.desk_commits.specs.Entries.{Entry}
+use Rattle.desk_commits.specs.State.{DeskState}
+use Rattle.desk_commits.specs.Stamps.{AreOnMap, WhereTheyStand}
+use Rattle.desk_commits.proofs.OnMap.{all_on, same_size_all, on_map_push}
 use Rattle.desk_core.proofs.desks.Desk.accept.Goals as goal
 
 pub followed-books-requires : goal.followed-books-requires

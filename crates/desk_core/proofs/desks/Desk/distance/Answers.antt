@@ -3,8 +3,8 @@ use Rattle.grid_cells.specs.Cell.{Point}
 use Rattle.grid_cells.specs.Walks.{IsDistance}
 use Rattle.scene_edits.specs.Scene.{SceneState}
 use Rattle.desk_books.specs.Books.{AreOf}
-use Rattle.desk_core.specs.State.{DeskState}
-use Rattle.desk_core.specs.Goals.{IsAsked}
+use Rattle.desk_commits.specs.State.{DeskState}
+use Rattle.desk_commits.specs.Goals.{IsAsked}
 use Rattle.desk_core.proofs.desks.Desk.distance.Goals as goal
 
 pub returns-clause-told : goal.returns-clause-told

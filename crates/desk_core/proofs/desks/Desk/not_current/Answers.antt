@@ -1,8 +1,8 @@
 use Rattle.std.proofs.Common.{◌≡◌, ◌∙◌, List, length, ap, subst, arith}
 use Rattle.std.proofs.lemmas.Bool.Decides.{nat_tests}
-use Rattle.desk_core.specs.Entries.{Entry}
-use Rattle.desk_core.specs.State.{DeskState}
-use Rattle.desk_core.specs.Stale.{IsFresh}
+use Rattle.desk_commits.specs.Entries.{Entry}
+use Rattle.desk_commits.specs.State.{DeskState}
+use Rattle.desk_commits.specs.Stale.{IsFresh}
 use Rattle.desk_core.proofs.desks.Desk.not_current.Goals as goal
 
 pub returns-in-None-clause-current : goal.returns-in-None-clause-current

@@ -1,7 +1,7 @@
 use Rattle.std.proofs.Common.{sym, ap, subst, ◌∙◌}
 use Rattle.scene_edits.specs.Scene.{SceneState}
 use Rattle.desk_books.specs.Books.{AreOf}
-use Rattle.desk_core.specs.State.{DeskState}
+use Rattle.desk_commits.specs.State.{DeskState}
 use Rattle.desk_core.proofs.desks.Desk.take_books.Goals as goal
 
 pub returns-in-Some-clause-books : goal.returns-in-Some-clause-books

@@ -1,6 +1,6 @@
 use Rattle.std.proofs.Common.{rules, arith, ℕ, [], ◌∷◌, sym, subst, None}
 use Rattle.atomic_table.specs.Table.{opening}
-use Rattle.desk_core.specs.State.{DeskState}
+use Rattle.desk_commits.specs.State.{DeskState}
 use Rattle.desk_shared.specs.Calls.{MayShare}
 use Rattle.desk_shared.specs.Turns.{Ruled, first_known}
 use Rattle.desk_shared.proofs.Kept.{starts}

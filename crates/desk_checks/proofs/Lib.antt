@@ -1,0 +1,3 @@
+mod SameReports
+mod OfPaths
+mod Refusing

@@ -1,0 +1,11 @@
+pub mod Entries
+pub mod State
+pub mod Stale
+pub mod Stamps
+pub mod Goals
+pub mod Commits
+pub mod Questions
+pub mod Runs
+pub mod Replays
+pub mod Laws
+pub mod Counting

@@ -1,0 +1,23 @@
+ghost use Rattle.desk_commits.specs.Laws.{OneAnswerToACommit, LegalJournalsReplay, RunsAreLegal, EntriesMakeTheScene};
+
+/// Besides want of memory a commit has one answer, and leaves one desk.
+pub fn one_answer_to_a_commit()
+    ensures { OneAnswerToACommit }
+{}
+
+/// A journal that is legal at the opening of a scene replays on that scene, under the same limit or
+/// a greater one: it is refused for no other cause than memory.
+pub fn legal_journals_replay()
+    ensures { LegalJournalsReplay }
+{}
+
+/// Whatever the calls, the commits that were accepted are a legal journal at the desk before, and
+/// the desk after is the one that they make.
+pub fn runs_are_legal()
+    ensures { RunsAreLegal }
+{}
+
+/// Entries make of a desk's scene the scene after them, and come after its journal.
+pub fn entries_make_the_scene()
+    ensures { EntriesMakeTheScene }
+{}

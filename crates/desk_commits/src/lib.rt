@@ -1,0 +1,23 @@
+//! Commits of edits, the journals that accepted ones make, what a desk answers, and which commits
+//! are stale. What a session puts its questions to is a `Counter`.
+#![tactic(auto)]
+
+mod answers;
+mod commits;
+mod counters;
+mod journals;
+mod laws;
+mod limits;
+mod stale;
+mod stamps;
+
+pub use answers::{Answer, AskFault, Call, Reading, Refusal, Snapshot};
+pub use commits::{Commit, CommitFault, MOST_EDITS, MOST_WATCHES};
+pub use counters::Counter;
+pub use journals::{Journal, ReplayFault};
+pub use laws::{
+    entries_make_the_scene, legal_journals_replay, one_answer_to_a_commit, runs_are_legal,
+};
+pub use limits::{Limit, MOST_ENTRIES};
+pub use stale::first_stale;
+pub use stamps::{Stamps, with_entry};

@@ -1,5 +1,0 @@
-use Rattle.desk_core.proofs.OneAnswer.{one_answer_to_a_commit_holds}
-use Rattle.desk_core.proofs.laws.one_answer_to_a_commit.Goals as goal
-
-pub returns : goal.returns
-returns c = one_answer_to_a_commit_holds

@@ -1,5 +1,0 @@
-use Rattle.desk_core.proofs.Headline.{runs_are_legal_holds}
-use Rattle.desk_core.proofs.laws.runs_are_legal.Goals as goal
-
-pub returns : goal.returns
-returns c = runs_are_legal_holds

@@ -1,0 +1,57 @@
+use crate::telling::More;
+use desk_checks::{Fault, MOST_BYTES, RunFault};
+use std::fs;
+use std::io::{ErrorKind, Read};
+use std::rt::Files;
+
+/// The bytes of a file.
+///
+/// # Errors
+///
+/// The file can't be opened or read, or has more than `MOST_BYTES` bytes; or want of memory.
+pub fn file_bytes<'a, R: Files + AllocGlobal>(
+    rt: &R,
+    file: &'a str,
+    more: &mut More,
+) -> Result<Vec<u8>, Fault<'a>> {
+    let alloc = rt.alloc();
+    let opened = match fs::open(rt, file) {
+        Ok(opened) => opened,
+        Err(why) => {
+            more.reason(alloc, &why);
+            return Err(Fault::CannotRead { file });
+        }
+    };
+    let mut bytes = Vec::new(alloc);
+    match opened.take(MOST_BYTES + 1).read_to_end(&mut bytes) {
+        Err(why) if why.kind() == ErrorKind::OutOfMemory => Err(Fault::Run(RunFault::OutOfMemory)),
+        Err(why) => {
+            more.reason(alloc, &why);
+            Err(Fault::CannotRead { file })
+        }
+        Ok(count) if count as u64 > MOST_BYTES => {
+            more.reason(alloc, &"more than 1073741824 bytes");
+            Err(Fault::CannotRead { file })
+        }
+        Ok(_) => Ok(bytes),
+    }
+}
+
+/// The bytes of a file, where one is named.
+///
+/// # Errors
+///
+/// As `file_bytes`.
+pub fn named_bytes<'a, R: Files + AllocGlobal>(
+    rt: &R,
+    file: Option<&'a str>,
+    more: &mut More,
+) -> Result<Option<Vec<u8>>, Fault<'a>> {
+    match file {
+        None => Ok(None),
+        Some(file) => match file_bytes(rt, file, more) {
+            Ok(bytes) => Ok(Some(bytes)),
+            Err(fault) => Err(fault),
+        },
+    }
+}

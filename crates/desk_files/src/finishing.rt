@@ -1,0 +1,35 @@
+//! The end of a run whose report is in a buffer.
+use crate::details::{Detailed, Texts};
+use crate::telling::More;
+use desk_checks::RunFault;
+use desk_report::Spout;
+use std::alloc::Global;
+use std::io::{BufWriter, Write};
+
+/// Sends what was written, where the run came to its end.
+///
+/// # Errors
+///
+/// The run's fault, or the writer's.
+pub fn finish<T: Drop, F: Detailed + From<RunFault> + Drop, O: Write + Drop>(
+    alloc: Global,
+    ended: Result<T, F>,
+    texts: Texts<'_>,
+    writer: Spout<BufWriter<O>>,
+    more: &mut More,
+) -> Result<T, F> {
+    let mut buffered = writer.into_inner();
+    if let Err(fault) = &ended {
+        more.put(fault.more(alloc, texts));
+    }
+    match ended {
+        Err(fault) => Err(fault),
+        Ok(value) => match buffered.flush() {
+            Ok(()) => Ok(value),
+            Err(why) => {
+                more.reason(alloc, &why);
+                Err(F::from(RunFault::WriteFailed))
+            }
+        },
+    }
+}

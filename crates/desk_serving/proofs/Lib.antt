@@ -1,0 +1,8 @@
+pub mod AllLines
+pub mod Pieces
+pub mod Progress
+pub mod Endings
+pub mod Reading
+pub mod MapLines
+pub mod Staying
+pub mod JournalText

@@ -1,0 +1,11 @@
+pub mod Drafts
+pub mod RefusalText
+pub mod Replies
+pub mod Tellings
+pub mod Table
+pub mod LinesOf
+pub mod Session
+pub mod Reads
+pub mod Answer
+pub mod Start
+pub mod JournalText

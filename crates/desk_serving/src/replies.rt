@@ -1,0 +1,33 @@
+use desk_commits::{AskFault, Reading, Refusal};
+
+/// What is wrong with a line.
+#[derive(Clone, Copy, Debug, PartialEq, Eq)]
+pub enum BadLine {
+    /// Its first word is not known.
+    Word,
+    /// It has too few or too many words, or a word that does not fit.
+    Shape,
+    /// Nothing is being gathered.
+    NotBegun,
+    /// As much is gathered as a commit may hold.
+    Full,
+}
+
+/// What a line is answered.
+#[derive(Debug, Drop)]
+pub enum Reply {
+    Silent,
+    Bad { line: u32, why: BadLine },
+    /// The line found no memory, and had no effect.
+    NoMemory,
+    Version(u64),
+    Base(u64),
+    Kept,
+    Cancelled,
+    Refused(Refusal),
+    Shown(Reading),
+    /// A distance in steps, if there is one.
+    Far(Option<u32>),
+    NotAsked(AskFault),
+    Solves(bool),
+}
