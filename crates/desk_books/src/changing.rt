@@ -35,25 +35,39 @@ impl Books {
     }
 
     // The agent comes, with that row.
-    pub(crate) fn enter(
-        mut self,
-        agent: Agent,
-        row: &Row,
-        scene: &Scene,
-    ) -> Result<Books, OutOfMemory>
+    pub(crate) fn enter(self, agent: Agent, row: &Row, scene: &Scene) -> Result<Books, OutOfMemory>
         requires know { Know scene.now.mode scene.now.grid agent None self }
         requires inside { Holds scene.now.grid.size row.now.goal }
         ensures { IfOk result (Renews scene.now.mode scene.now.grid agent None (Some row.now) self) }
     {
-        self.fleet = self.fleet.admit(agent, row.track(scene.mode()))?;
-        self.prices = self.prices.put(agent, row.goal, &row.plan, scene.grid())?;
-        self.lines = with_line(self.lines, agent, row, self.prices.fields());
-        Ok(self)
+        let Books {
+            alloc,
+            fleet,
+            prices,
+            lines,
+        } = self;
+        let Ok(fleet) = fleet.admit(agent, row.track(scene.mode())) else {
+            drop(prices);
+            drop(lines);
+            return Err(OutOfMemory);
+        };
+        let Ok(prices) = prices.put(agent, row.goal, &row.plan, scene.grid()) else {
+            drop(fleet);
+            drop(lines);
+            return Err(OutOfMemory);
+        };
+        let lines = with_line(lines, agent, row, prices.fields());
+        Ok(Books {
+            alloc,
+            fleet,
+            prices,
+            lines,
+        })
     }
 
     // The agent goes, with that row.
     fn leave(
-        mut self,
+        self,
         agent: Agent,
         goal: Cell,
         plan: &Plan,
@@ -61,17 +75,30 @@ impl Books {
     ) -> Result<Books, OutOfMemory>
         ensures { IfOk result (Renews scene.now.mode scene.now.grid agent (Some (record { goal = goal; plan = plan.now })) None self) }
     {
-        self.fleet = self
-            .fleet
-            .retract(agent, track_of(goal, plan, scene.mode()))?;
-        self.prices.take(agent, goal);
-        self.lines = without_line(self.lines, agent);
-        Ok(self)
+        let Books {
+            alloc,
+            fleet,
+            mut prices,
+            lines,
+        } = self;
+        let Ok(fleet) = fleet.retract(agent, track_of(goal, plan, scene.mode())) else {
+            drop(prices);
+            drop(lines);
+            return Err(OutOfMemory);
+        };
+        prices.take(agent, goal);
+        let lines = without_line(lines, agent);
+        Ok(Books {
+            alloc,
+            fleet,
+            prices,
+            lines,
+        })
     }
 
     // The agent stays, and its row changes.
     fn revise(
-        mut self,
+        self,
         agent: Agent,
         old: &FormerRow<'_>,
         row: &Row,
@@ -84,10 +111,29 @@ impl Books {
     {
         let mode = scene.mode();
         let was = track_of(old.goal, old.plan, mode);
-        self.fleet = self.fleet.revise(agent, was, row.track(mode), old.alike)?;
-        self.prices = reprice(self.prices, agent, old, row, scene.grid())?;
-        self.lines = with_line(self.lines, agent, row, self.prices.fields());
-        Ok(self)
+        let Books {
+            alloc,
+            fleet,
+            prices,
+            lines,
+        } = self;
+        let Ok(fleet) = fleet.revise(agent, was, row.track(mode), old.alike) else {
+            drop(prices);
+            drop(lines);
+            return Err(OutOfMemory);
+        };
+        let Ok(prices) = reprice(prices, agent, old, row, scene.grid()) else {
+            drop(fleet);
+            drop(lines);
+            return Err(OutOfMemory);
+        };
+        let lines = with_line(lines, agent, row, prices.fields());
+        Ok(Books {
+            alloc,
+            fleet,
+            prices,
+            lines,
+        })
     }
 }
 

@@ -56,8 +56,15 @@ impl FleetBooks {
         ensures books { IfOk result (Reroutes agent None (Some (route_of track.entry)) self) }
         ensures touched { IfOk result (λ books. books.index.touched ≡ min (self.index.touched + records_apart nothing (route_of track.entry)) u64.MAX) }
     {
-        let index = self.index.put(agent, track)?;
-        let conflicts = self.conflicts.admit(agent, track, &index)?;
+        let FleetBooks { index, conflicts } = self;
+        let Ok(index) = index.put(agent, track) else {
+            drop(conflicts);
+            return Err(OutOfMemory);
+        };
+        let Ok(conflicts) = conflicts.admit(agent, track, &index) else {
+            drop(index);
+            return Err(OutOfMemory);
+        };
         Ok(FleetBooks { index, conflicts })
     }
 
@@ -70,8 +77,12 @@ impl FleetBooks {
         ensures books { IfOk result (Reroutes agent (Some (route_of track.entry)) None self) }
         ensures touched { IfOk result (λ books. books.index.touched ≡ min (self.index.touched + records_apart (route_of track.entry) nothing) u64.MAX) }
     {
-        let index = self.index.take(agent, track);
-        let conflicts = self.conflicts.retract(agent, track, &index)?;
+        let FleetBooks { index, conflicts } = self;
+        let index = index.take(agent, track);
+        let Ok(conflicts) = conflicts.retract(agent, track, &index) else {
+            drop(index);
+            return Err(OutOfMemory);
+        };
         Ok(FleetBooks { index, conflicts })
     }
 
@@ -98,8 +109,15 @@ impl FleetBooks {
         let Some(since) = since_of(old, new, known) else {
             return Ok(self);
         };
-        let index = self.index.swap(agent, old, new, since)?;
-        let conflicts = self.conflicts.revise(agent, old, new, since, &index)?;
+        let FleetBooks { index, conflicts } = self;
+        let Ok(index) = index.swap(agent, old, new, since) else {
+            drop(conflicts);
+            return Err(OutOfMemory);
+        };
+        let Ok(conflicts) = conflicts.revise(agent, old, new, since, &index) else {
+            drop(index);
+            return Err(OutOfMemory);
+        };
         Ok(FleetBooks { index, conflicts })
     }
 

@@ -15,16 +15,29 @@ use scene_edits::Scene;
 
 impl Books {
     // The map becomes that of the scene, which has another state at no other cell than those.
-    pub(crate) fn flip(mut self, cells: &[Cell], scene: &Scene) -> Result<Books, OutOfMemory>
+    pub(crate) fn flip(self, cells: &[Cell], scene: &Scene) -> Result<Books, OutOfMemory>
         requires { (old : Chart) × (rows : Rows) × Keep scene.now.mode old rows self × (old.size ≡ scene.now.grid.size) × Covers cells.now old scene.now.grid }
         ensures { IfOk result (λ books. (old : Chart) (rows : Rows) → Keep scene.now.mode old rows self
             → old.size ≡ scene.now.grid.size → Covers cells.now old scene.now.grid → Keep scene.now.mode scene.now.grid rows books) }
     {
-        self.lines = unflipped(self.lines, cells, &self.prices, scene.grid());
-        self.prices = self
-            .prices
-            .flip(self.alloc, cells, &self.fleet, scene.grid())?;
-        Ok(self)
+        let Books {
+            alloc,
+            fleet,
+            prices,
+            lines,
+        } = self;
+        let lines = unflipped(lines, cells, &prices, scene.grid());
+        let Ok(prices) = prices.flip(alloc, cells, &fleet, scene.grid()) else {
+            drop(fleet);
+            drop(lines);
+            return Err(OutOfMemory);
+        };
+        Ok(Books {
+            alloc,
+            fleet,
+            prices,
+            lines,
+        })
     }
 
     // The agents that are listed get the rows that they have in the scene.

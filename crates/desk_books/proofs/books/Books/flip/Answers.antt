@@ -8,6 +8,6 @@ returns c = λ old rows keep size covers.
     let rest : Keep c.args.scene.now.mode old rows (record { fleet = c.self.inside.fleet; prices = c.self.inside.prices; lines = None }) = record { fleet = was.fleet; prices = was.prices; lines = tt } in
     record {
       fleet = was.fleet;
-      prices = rw c.grid-2.ensures.grid at (c.in_ok-self-inside.ensures.kept c.args.scene.now.mode old rows rest (rw c.grid-2.ensures.grid size) (rw c.grid-2.ensures.grid covers));
-      lines = rw c.grid.ensures.grid at (c.unflipped.ensures old rows was.prices (rw c.grid.ensures.grid size) (rw c.grid.ensures.grid covers) was.lines);
+      prices = rw c.grid-2.ensures.grid at (c.in-Ok.ensures.kept c.args.scene.now.mode old rows rest (rw c.grid-2.ensures.grid size) (rw c.grid-2.ensures.grid covers));
+      lines = rw c.grid.ensures.grid at (c.unflipped-lines.ensures old rows was.prices (rw c.grid.ensures.grid size) (rw c.grid.ensures.grid covers) was.lines);
     }

@@ -4,4 +4,4 @@ use Rattle.desk_books.proofs.fleet.FleetBooks.admit.Goals as goal
 pub returns-clause-books : goal.returns-clause-books
 returns-clause-books c = λ fleet are own.
     let was = rw (← c.self.view_is) at are in
-    follow_route _ _ _ _ _ _ _ c.in_ok-index.ensures.stands c.in_ok-conflicts.ensures fleet was.index was.entries own
+    follow_route _ _ _ _ _ _ _ c.in-Ok.ensures.stands c.in-Ok-admit.ensures fleet was.index was.entries own

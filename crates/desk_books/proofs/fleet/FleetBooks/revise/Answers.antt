@@ -7,7 +7,7 @@ use Rattle.desk_books.proofs.fleet.FleetBooks.revise.Goals as goal
 pub returns-clause-books : goal.returns-clause-books
 returns-clause-books c = λ fleet are own.
     let was = rw (← c.self.view_is) at are in
-    follow_route _ _ _ _ _ _ _ c.in_ok-index.ensures.stands c.in_ok-conflicts.ensures fleet was.index was.entries own
+    follow_route _ _ _ _ _ _ _ c.in-Ok.ensures.stands c.in-Ok-revise.ensures fleet was.index was.entries own
 
 pub returns-in_default-clause-books : goal.returns-in_default-clause-books
 returns-in_default-clause-books c = λ fleet are own. are_same _ fleet c.args.agent (Some (route_of c.args.new)) (own ∙ ap Some c.in_default.ensures.one) are
