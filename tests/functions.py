@@ -16,6 +16,14 @@ class Function(NamedTuple):
     opening: int  # the line that ends in the brace before its body
     last: int
     is_recursive: bool  # it calls itself by its name
+    is_of_trait: bool  # it stands in a trait or in an impl of one, which say what functions stand there
+
+
+class Owner(NamedTuple):
+    """A trait, or the type of an impl."""
+
+    names: list  # that its functions stand below
+    is_of_trait: bool
 
 
 def module_of(file):
@@ -40,20 +48,20 @@ def without_parameters(text):
 
 
 def owner_of(line, module, types):
-    """The names that the functions of an impl or a trait stand below, where the line begins one."""
+    """What the functions of an impl or a trait stand in, where the line begins one."""
     trait = TRAIT.match(line)
     if trait:
-        return [*module, trait[1]]
+        return Owner([*module, trait[1]], True)
     if not re.match(r"impl\b", line):
         return None
     parts = without_parameters(line.removeprefix("impl")).split(" where ")[0].rstrip("{ ").split(" for ")
     name = head(parts[-1])
     if len(parts) == 1:
         places = types.get(name, [module])
-        return [*(module if module in places else places[0]), name]
+        return Owner([*(module if module in places else places[0]), name], False)
     # (what an impl of `From<T>` is called has the name of T in it)
     of = re.search(r"<(?:\w+::)*(\w+)", parts[0])
-    return [*module, name + head(parts[0]) + (of[1] if of and head(parts[0]) == "From" else "")]
+    return Owner([*module, name + head(parts[0]) + (of[1] if of and head(parts[0]) == "From" else "")], True)
 
 
 def body_of(lines, first, indent):
@@ -72,6 +80,11 @@ def body_of(lines, first, indent):
     return None, len(lines) - 1
 
 
+def own_calls(name, is_within):
+    """Finds the name where a function calls itself by it, which may stand within a trait or an impl."""
+    return re.compile(rf"(?:(?<=\bself\.)|(?<=\bSelf::)){name}(?=\()" if is_within else rf"(?<![\w:.]){name}(?=(?:::<[^>]*>)?\()")
+
+
 def functions_in(file, text, types):
     module, lines, owner, at = module_of(file), text.split("\n"), None, 0
     while at < len(lines):
@@ -84,15 +97,17 @@ def functions_in(file, text, types):
             first = at
             opening, at = body_of(lines, first, found[1])
             if opening is not None and not is_test:
-                calls = rf"(?<![\w:.]){found[2]}(?:::<[^>]*>)?\(" if not found[1] else rf"(?:\bself\.|\bSelf::){found[2]}\("
-                is_recursive = bool(re.search(calls, "\n".join(lines[first + 1 : at])))
-                yield Function((*(owner if found[1] else module), found[2]), file, first, opening, at, is_recursive)
+                is_recursive = bool(own_calls(found[2], bool(found[1])).search("\n".join(lines[first + 1 : at])))
+                names, is_of_trait = owner if found[1] else (module, False)
+                yield Function((*names, found[2]), file, first, opening, at, is_recursive, is_of_trait)
         at += 1
 
 
-def without_bodies(text, functions):
-    """The text of a file with a body for these of its functions that does nothing."""
+def without_bodies(text, functions, behind=()):
+    """The text of a file with a body for these of its functions that does nothing, and with further texts behind the lines told beside them."""
     lines = text.split("\n")
+    for at, more in behind:
+        lines[at] += more
     for it in functions:
         for at in range(it.opening + 1, it.last):
             lines[at] = None

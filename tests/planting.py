@@ -1,8 +1,13 @@
-"""Wrong bodies of a crate, planted side by side in copies of it, where all other functions have no bodies and one hole for their proofs."""
+"""Wrong bodies of a crate, planted side by side in a copy of it, where all other functions have no bodies and one hole for their proofs.
+
+A wrong body of a function that an earlier one changes stands in a twin of it (twins.py); a further copy is made where there can be none.
+"""
 import shutil
+from functools import cached_property
 from pathlib import Path
 
 from functions import functions_of, without_bodies
+from twins import Twin, twin_of
 
 PARTS = ("src", "specs", "proofs")
 # (one hole for all: the checker prints the goal of each)
@@ -58,33 +63,49 @@ class Copy:
     """A copy of a crate with some wrong bodies in it."""
 
     def __init__(self, folder, texts, functions):
-        self.folder, self.crate, self.texts, self.functions, self.edits = folder, folder.name, texts, functions, []
+        self.folder, self.crate, self.functions, self.edits = folder, folder.name, functions, []
+        # (the texts as they are, those with wrong bodies, and wrong bodies that stand behind them)
+        self.right, self.texts, self.twins = texts, texts, {}
         self.size = sum(map(len, texts.values()))
 
     def take(self, edit):
-        """Plants a wrong body, unless others stand here that it can't stand beside."""
-        is_shared = edit.is_of_functions and all(it.is_of_functions for it in self.edits)
-        taken = {path for it in self.edits for path in it.paths}
-        texts = edit.changed(self.texts)
-        if texts is None or self.edits and (not is_shared or taken & set(edit.paths)):
+        """Plants a wrong body, in a twin where others change its function, unless it can't stand beside the others here."""
+        if self.edits and not all(it.is_of_functions for it in [edit, *self.edits]):
             return False
+        texts, is_taken = edit.changed(self.texts), any(path in it.paths for it in self.edits for path in edit.paths)
+        if texts is None or is_taken:
+            twin = self.twin(edit)
+            if not twin:
+                return False
+            self.twins[edit.name] = twin
+        else:
+            self.texts = texts
         self.edits.append(edit)
-        self.texts = texts
         return True
 
-    @property
+    def twin(self, edit):
+        """A twin with that wrong body, if it changes one function alone, which can have one."""
+        inside = next((it for it in self.functions if [it.path] == edit.paths), None)
+        return inside and twin_of(self.folder, inside, edit.name, edit.changed(self.right)[inside.file])
+
+    def places(self, edit):
+        """The functions that a wrong body changes here."""
+        return [self.twins[edit.name].path] if edit.name in self.twins else edit.paths
+
+    @cached_property
     def witness(self):
-        """A function that isn't changed and has answers of its own; the one with the least of them."""
+        """A right twin, which has to be proved, of the function with the least answers of its own that isn't changed; else that function."""
         changed = {path for it in self.edits for path in it.paths}
         sizes = [(self.answers(it), it.path, it) for it in self.functions if it.path not in changed]
-        return min([it for it in sizes if it[0]] or sizes)[2]
+        least = min([it for it in sizes if it[0]] or sizes)[2]
+        return twin_of(self.folder, least, "right", self.right[least.file]) or least
 
     def answers(self, function):
         file = self.folder / "proofs" / "/".join(function.path) / "Answers.antt"
         return file.stat().st_size if file.exists() else 0
 
     def tried(self):
-        return [*{path: 0 for it in self.edits for path in it.paths}, self.witness.path]
+        return [*{path: 0 for it in self.edits for path in self.places(it)}, self.witness.path]
 
     def write(self, room):
         """Writes the copy into a folder."""
@@ -93,8 +114,12 @@ class Copy:
                 shutil.copytree(self.folder / part, room / part)
         # (the proof of a function that calls itself stands elsewhere: it is proved)
         taken = [it for it in self.functions if not it.is_recursive and it.path not in self.tried()]
+        twins = [it for it in [*self.twins.values(), self.witness] if isinstance(it, Twin)]
         for file, text in self.texts.items():
-            (room / file).write_text(without_bodies(text, [it for it in taken if it.file == file]))
+            behind = [(it.function.last, it.text) for it in twins if it.function.file == file]
+            (room / file).write_text(without_bodies(text, [it for it in taken if it.file == file], behind))
+        for twin in twins:
+            twin.write_proof(self.folder, room)
         for path in {it.path for it in taken}:
             folder = room / "proofs" / "/".join(path)
             shutil.rmtree(folder, ignore_errors=True)

@@ -2,10 +2,12 @@
 """Sees that the checker refuses each wrong body of crates/*/must-fail, at the function that it changes, by a goal of its own.
 
 wrong_functions.py PROVED [CRATE..]     all of them, or those of some crates; PROVED is a folder where `rt ci` has proved the crates
-The wrong bodies of a crate are planted side by side in one copy of it, in a further one where they change the same function
-or more than bodies. What isn't changed there has no body and a hole for its proof, so it is taken at its contract, which
-`rt ci` has proved; the changed functions are proved for real, and so is one more, which has to be proved. The copies of a
-crate are checked one after the other, and each takes over what the ones before it have checked and it has unchanged.
+The wrong bodies of a crate are planted side by side in one copy of it. Where several change the same function, the others stand
+behind it in twins: functions of its contract and its proof, each named after it and its wrong body (PUT__FAULT). Those that
+change more than bodies, or a function of a trait that another one changes too, are planted in further copies. What isn't changed
+has no body and a hole for its proof, so it is taken at its contract, which `rt ci` has proved; the changed functions are proved
+for real, and so is a twin with a right body, which has to be proved. The copies of a crate are checked one after the other, and
+each takes over what the ones before it have checked and it has unchanged.
 The last line is 'N passed, M failed'; status 1 where one failed.
 """
 import os
@@ -115,9 +117,9 @@ def outcomes(copy, said):
     if not lines or refusal(copy, copy.witness.path, said):
         found.append((f"{copy.crate}, {'::'.join(copy.witness.path)} as it is", "", f"not proved: {lines}"))
     for edit in copy.edits:
-        by = [(path, refusal(copy, path, said, not edit.is_of_functions)) for path in edit.paths]
+        by = [(path, refusal(copy, path, said, not edit.is_of_functions)) for path in copy.places(edit)]
         good = next((f"refused at {'::'.join(path)}: {goal[:200]}" for path, goal in by if goal), None)
-        why = None if good else f"no goal of its own is refused: {[told_of(copy, path, said) for path in edit.paths]}"
+        why = None if good else f"no goal of its own is refused: {[told_of(copy, path, said) for path in copy.places(edit)]}"
         found.append((label(edit), good, why))
     return found
 
