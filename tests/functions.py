@@ -104,7 +104,7 @@ def functions_in(file, text, types):
 
 
 def without_bodies(text, functions, behind=()):
-    """The text of a file with a body for these of its functions that does nothing, and with further texts behind the lines told beside them."""
+    """The text of a file with a body for these of its functions that does nothing, and with further texts behind the lines told."""
     lines = text.split("\n")
     for at, more in behind:
         lines[at] += more

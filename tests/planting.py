@@ -94,7 +94,7 @@ class Copy:
 
     @cached_property
     def witness(self):
-        """A right twin, which has to be proved, of the function with the least answers of its own that isn't changed; else that function."""
+        """A right twin of a function that isn't changed, of that with the least answers of its own; or that one, if it can have none."""
         changed = {path for it in self.edits for path in it.paths}
         sizes = [(self.answers(it), it.path, it) for it in self.functions if it.path not in changed]
         least = min([it for it in sizes if it[0]] or sizes)[2]
