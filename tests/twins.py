@@ -51,10 +51,12 @@ def is_cited(folder, function):
     return any(name in it for it in others for name in names)
 
 
-def has_proofs_of_closures(folder, function):
-    """Whether proofs of its closures stand in a folder of their own, which tells their names in another way."""
+def has_proofs_elsewhere(folder, function):
+    """Whether a proof of its closures, or of calls of its own that aren't seen here, tells its name in another way."""
     path = function.path
-    return any((folder / "proofs" / "/".join([*path[:at], "fn", *path[at:]])).exists() for at in range(len(path)))
+    of_closures = [folder / "proofs" / "/".join([*path[:at], "fn", *path[at:]]) for at in range(len(path))]
+    of_calls = proofs_of(folder, function)[1:] if not function.is_recursive else []
+    return any(it.exists() for it in [*of_closures, *of_calls])
 
 
 def ends_an_item(line):
@@ -69,7 +71,7 @@ def twin_of(folder, function, fault, text):
         first -= 1
     # (functions that call each other have one proof)
     is_in_cycle = any("#[cycle" in it for it in lines[first : function.first])
-    if function.is_of_trait or is_in_cycle or has_proofs_of_closures(folder, function) or is_cited(folder, function):
+    if function.is_of_trait or is_in_cycle or has_proofs_elsewhere(folder, function) or is_cited(folder, function):
         return None
     # (no other function has a name in two such parts)
     old, new = function.path[-1], f"{function.path[-1]}__{fault}"
