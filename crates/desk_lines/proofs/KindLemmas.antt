@@ -1,13 +1,8 @@
 -- How a list of kinds is read word by word.
-use Rattle.std.proofs.Common.{◌≡◌, ℕ, true, if◌then◌else◌, List, [], ◌∷◌, Option, Some, None}
+use Rattle.std.proofs.Common.{◌≡◌, ℕ, true, List, [], ◌∷◌}
 use Rattle.std.proofs.Math.Bool.{or_assoc, or-false}
-use Rattle.std.specs.List.{list_all}
 use Rattle.desk_report.specs.declared.kinds.Kinds.{Kinds}
-use Rattle.desk_lines.specs.Kinds.{is_kind, named_kinds, joined}
-
--- those kinds and the kinds of the words
-abbrev pub kinds_after : Kinds → List (List ℕ) → Option Kinds
-kinds_after kinds words = if list_all is_kind words then Some (joined kinds (named_kinds words)) else None
+use Rattle.desk_lines.specs.Kinds.{is_kind, named_kinds, joined, kinds_after}
 
 -- one more word is read
 pub kinds_after-kind : (kinds : Kinds) (word : List ℕ) (words : List (List ℕ)) → is_kind word ≡ true → kinds_after kinds (word ∷ words) ≡ kinds_after (joined kinds (named_kinds (word ∷ []))) words

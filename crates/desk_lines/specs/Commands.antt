@@ -1,5 +1,6 @@
 -- The first words of session lines (this project's choice).
 use Rattle.std.specs.Prelude.{ℕ, Bool, false, ◌==◌, Option, Some, None, List, [], ◌∷◌, codes, bytes_eq, if◌then◌else◌}
+use Rattle.std.specs.Option.{option_map}
 use Rattle.desk_lines.specs.declared.commands.EditCommand.{EditCommand}
 use Rattle.desk_lines.specs.declared.commands.EditCommand.TheVariants.{Add, Drop, Goal, Path, Tail, Open, Close}
 use Rattle.desk_lines.specs.declared.commands.Command.{Command}
@@ -9,6 +10,17 @@ use Rattle.desk_lines.specs.declared.commands.Command.TheVariants.{Edit, Begin, 
 abbrev pub is_remark : List ℕ → Bool
 is_remark [] = false
 is_remark (byte ∷ word) = byte == 35
+
+-- the edits that the first words of lines ask for
+abbrev pub edit_command_of : List ℕ → Option EditCommand
+edit_command_of word =
+    if bytes_eq word (codes "agent") then Some Add else
+    if bytes_eq word (codes "drop") then Some Drop else
+    if bytes_eq word (codes "goal") then Some Goal else
+    if bytes_eq word (codes "path") then Some Path else
+    if bytes_eq word (codes "tail") then Some Tail else
+    if bytes_eq word (codes "open") then Some Open else
+    if bytes_eq word (codes "close") then Some Close else None
 
 -- what the first words of lines ask for
 abbrev pub command_of : List ℕ → Option Command
@@ -20,11 +32,4 @@ command_of word =
     if bytes_eq word (codes "version") then Some Version else
     if bytes_eq word (codes "report") then Some Report else
     if bytes_eq word (codes "distance") then Some Distance else
-    if bytes_eq word (codes "solves") then Some Solves else
-    if bytes_eq word (codes "agent") then Some (Edit Add) else
-    if bytes_eq word (codes "drop") then Some (Edit Drop) else
-    if bytes_eq word (codes "goal") then Some (Edit Goal) else
-    if bytes_eq word (codes "path") then Some (Edit Path) else
-    if bytes_eq word (codes "tail") then Some (Edit Tail) else
-    if bytes_eq word (codes "open") then Some (Edit Open) else
-    if bytes_eq word (codes "close") then Some (Edit Close) else None
+    if bytes_eq word (codes "solves") then Some Solves else option_map Edit (edit_command_of word)

@@ -35,3 +35,7 @@ joined those these = record {
   swap = those.swap || these.swap;
   cycle = those.cycle || these.cycle;
 }
+
+-- those kinds and the kinds of the words
+abbrev pub kinds_after : Kinds → List (List ℕ) → Option Kinds
+kinds_after kinds words = if list_all is_kind words then Some (joined kinds (named_kinds words)) else None

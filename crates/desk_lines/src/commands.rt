@@ -1,5 +1,7 @@
 ghost use Rattle.std.specs.Prelude.{◌≡◌};
-ghost use Rattle.desk_lines.specs.Commands.{is_remark, command_of};
+ghost use Rattle.desk_lines.specs.Commands.{is_remark, edit_command_of, command_of};
+
+use crate::values::is_word;
 
 /// The edits, by the first words of their lines.
 #[derive(Clone, Copy, Debug)]
@@ -37,41 +39,50 @@ pub(crate) fn is_remark(word: &[u8]) -> bool
     }
 }
 
+// The edit that a line with that first word asks for.
+fn edit_command_of(word: &[u8]) -> Option<EditCommand>
+    ensures { result ≡ edit_command_of word.now }
+{
+    if is_word(word, b"agent") {
+        Some(EditCommand::Add)
+    } else if is_word(word, b"drop") {
+        Some(EditCommand::Drop)
+    } else if is_word(word, b"goal") {
+        Some(EditCommand::Goal)
+    } else if is_word(word, b"path") {
+        Some(EditCommand::Path)
+    } else if is_word(word, b"tail") {
+        Some(EditCommand::Tail)
+    } else if is_word(word, b"open") {
+        Some(EditCommand::Open)
+    } else if is_word(word, b"close") {
+        Some(EditCommand::Close)
+    } else {
+        None
+    }
+}
+
 /// What a line with that first word asks for.
 pub(crate) fn command_of(word: &[u8]) -> Option<Command>
     ensures { result ≡ command_of word.now }
 {
-    if word == b"begin".as_slice() {
+    if is_word(word, b"begin") {
         Some(Command::Begin)
-    } else if word == b"watch".as_slice() {
+    } else if is_word(word, b"watch") {
         Some(Command::Watch)
-    } else if word == b"commit".as_slice() {
+    } else if is_word(word, b"commit") {
         Some(Command::Commit)
-    } else if word == b"cancel".as_slice() {
+    } else if is_word(word, b"cancel") {
         Some(Command::Cancel)
-    } else if word == b"version".as_slice() {
+    } else if is_word(word, b"version") {
         Some(Command::Version)
-    } else if word == b"report".as_slice() {
+    } else if is_word(word, b"report") {
         Some(Command::Report)
-    } else if word == b"distance".as_slice() {
+    } else if is_word(word, b"distance") {
         Some(Command::Distance)
-    } else if word == b"solves".as_slice() {
+    } else if is_word(word, b"solves") {
         Some(Command::Solves)
-    } else if word == b"agent".as_slice() {
-        Some(Command::Edit(EditCommand::Add))
-    } else if word == b"drop".as_slice() {
-        Some(Command::Edit(EditCommand::Drop))
-    } else if word == b"goal".as_slice() {
-        Some(Command::Edit(EditCommand::Goal))
-    } else if word == b"path".as_slice() {
-        Some(Command::Edit(EditCommand::Path))
-    } else if word == b"tail".as_slice() {
-        Some(Command::Edit(EditCommand::Tail))
-    } else if word == b"open".as_slice() {
-        Some(Command::Edit(EditCommand::Open))
-    } else if word == b"close".as_slice() {
-        Some(Command::Edit(EditCommand::Close))
     } else {
-        None
+        Some(Command::Edit(edit_command_of(word)?))
     }
 }

@@ -1,7 +1,8 @@
 ghost use Rattle.std.specs.Prelude.{◌≡◌, ◌∷◌, [], false, true, MatchOption};
 ghost use Rattle.bench_reader.specs.Words.{words_of};
-ghost use Rattle.desk_lines.specs.Kinds.{kinds_of, is_kind, named_kinds, joined};
+ghost use Rattle.desk_lines.specs.Kinds.{kinds_of, is_kind, named_kinds, joined, kinds_after};
 
+use crate::values::is_word;
 use bench_reader::next_word;
 use desk_report::Kinds;
 
@@ -10,11 +11,11 @@ fn kind_of(word: &[u8]) -> Option<Kinds>
     ensures { MatchOption result (is_kind word.now ≡ false) (λ kind. (is_kind word.now ≡ true) × (kind ≡ named_kinds (word.now ∷ []))) }
 {
     let kind = Kinds {
-        vertex: word == b"vertex".as_slice(),
-        edge: word == b"edge".as_slice(),
-        follow: word == b"follow".as_slice(),
-        swap: word == b"swap".as_slice(),
-        cycle: word == b"cycle".as_slice(),
+        vertex: is_word(word, b"vertex"),
+        edge: is_word(word, b"edge"),
+        follow: is_word(word, b"follow"),
+        swap: is_word(word, b"swap"),
+        cycle: is_word(word, b"cycle"),
     };
     if kind.vertex || kind.edge || kind.follow || kind.swap || kind.cycle {
         Some(kind)
@@ -36,15 +37,23 @@ fn joined(those: Kinds, these: Kinds) -> Kinds
     }
 }
 
-/// The kinds that the words of a line name.
-pub(crate) fn kinds_of(line: &[u8]) -> Option<Kinds>
-    ensures { result ≡ kinds_of (words_of line.now) }
+// Those kinds and the ones that the words of a line name.
+fn kinds_after(those: Kinds, line: &[u8]) -> Option<Kinds>
+    ensures { result ≡ kinds_after those (words_of line.now) }
 {
-    let (word, mut rest) = next_word(line)?;
-    let mut kinds = kind_of(word)?;
+    let mut kinds = those;
+    let mut rest = line;
     while let Some((word, behind)) = next_word(rest) {
         kinds = joined(kinds, kind_of(word)?);
         rest = behind;
     }
     Some(kinds)
+}
+
+/// The kinds that the words of a line name.
+pub(crate) fn kinds_of(line: &[u8]) -> Option<Kinds>
+    ensures { result ≡ kinds_of (words_of line.now) }
+{
+    let (word, rest) = next_word(line)?;
+    kinds_after(kind_of(word)?, rest)
 }

@@ -17,7 +17,7 @@ use scene_edits::{Edit, Thing};
 use std::alloc::Global;
 
 /// What a session line asks for.
-#[derive(Debug, Drop)]
+#[derive(Drop)]
 pub enum Request {
     /// A blank line or a remark: nothing, and no answer.
     Silent,

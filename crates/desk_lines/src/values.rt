@@ -1,9 +1,16 @@
-ghost use Rattle.std.specs.Prelude.{◌≡◌, ◌+◌, [], take, drop, MatchOption};
+ghost use Rattle.std.specs.Prelude.{◌≡◌, ◌+◌, [], take, drop, bytes_eq, MatchOption};
 ghost use Rattle.std.specs.List.{before_first, after_first, position};
 ghost use Rattle.desk_lines.specs.Values.{agent_of, time_of, place_of, cell_of, is_comma};
 
 use bench_reader::number_of;
 use grid_cells::{Agent, Cell, MOST_SIDE, Step};
+
+/// Whether the word is that name.
+pub(crate) fn is_word(word: &[u8], name: &[u8]) -> bool
+    ensures { result ≡ bytes_eq word.now name.now }
+{
+    word == name
+}
 
 /// The agent that a word names.
 pub(crate) fn agent_of(word: &[u8]) -> Option<Agent>

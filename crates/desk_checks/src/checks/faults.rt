@@ -8,7 +8,7 @@ use scene_edits::EditFault;
 use thiserror::Error;
 
 /// Why there is no verdict on a text of paths, or no picture.
-#[derive(Clone, Copy, Debug, PartialEq, Eq, Error)]
+#[derive(Clone, Copy, Debug, Error)]
 pub enum CheckFault {
     /// The text spells no paths.
     #[error("paths: {0}")]

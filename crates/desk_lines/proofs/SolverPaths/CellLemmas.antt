@@ -1,11 +1,13 @@
 -- How a list of cells is read part by part.
-use Rattle.std.proofs.Common.{◌≡◌, ℕ, ◌<◌, Err, List, [], ◌∷◌, ◌++◌, length, refl, ap, ◌∙◌, arith, Option, Some, None, MatchOption, Bor, ◌==◌}
+use Rattle.std.proofs.Common.{◌≡◌, ℕ, ◌<◌, Err, List, [], ◌∷◌, ◌++◌, length, refl, ap, sym, ◌∙◌, ◌⊎◌, inl, inr, arith, Option, Some, None, MatchOption, Bor, ◌==◌}
 use Rattle.std.proofs.lemmas.List.Splits.{length-slice_split}
 use Rattle.std.specs.Option.{option_map_or}
 use Rattle.grid_cells.specs.Cell.{Point}
 use Rattle.desk_lines.specs.SolverPaths.Lines.{cut}
+use Rattle.desk_lines.specs.SolverPaths.Answers.{IsRead}
 use Rattle.desk_lines.specs.SolverPaths.Cells.{join_of, cell_in, parts_of, cells_from}
-use Rattle.desk_lines.specs.declared.solver_paths.faults.PathsFault.TheVariants.{BadCell}
+use Rattle.desk_lines.specs.declared.solver_paths.faults.PathsFault.{PathsFault}
+use Rattle.desk_lines.specs.declared.solver_paths.faults.PathsFault.TheVariants.{BadCell, OutOfMemory}
 use Rattle.desk_lines.specs.declared.solver_paths.cells.Notation.{Notation}
 use Rattle.desk_lines.proofs.SolverPaths.LineLemmas.{cut-none, cut-some}
 
@@ -27,12 +29,17 @@ part_read : (notation : Notation) (line : ℕ) (front : List ℕ) (cells : List 
 part_read notation line front cells rest part below split =
     ap (cells_from notation line front cells) split ∙ cells_from-more notation line front cells part (parts_of below) (some_part below)
 
--- a part without a cell
-pub part_bad : (notation : Notation) (line : ℕ) (front : List ℕ) (cells : List Point) (rest part below : List ℕ) → parts_of rest ≡ part ∷ parts_of below → cell_in notation front part ≡ None → cells_from notation line front cells (parts_of rest) ≡ Err (BadCell line (length cells))
-part_bad notation line front cells rest part below split none =
-    part_read notation line front cells rest part below split ∙ rw none refl
+-- a part without a cell, or want of memory
+pub part_bad : (notation : Notation) (line : ℕ) (front : List ℕ) (cells : List Point) (rest part below : List ℕ) (fault : PathsFault) → parts_of rest ≡ part ∷ parts_of below → (fault ≡ OutOfMemory) ⊎ ((fault ≡ BadCell line (length cells)) × (cell_in notation front part ≡ None)) → IsRead (cells_from notation line front cells (parts_of rest)) (Err fault)
+part_bad notation line front cells rest part below fault split (inl memory) = inr (ap Err memory)
+part_bad notation line front cells rest part below fault split (inr bad) =
+    inl (ap Err bad.0 ∙ sym (part_read notation line front cells rest part below split ∙ rw bad.1 refl))
+
+after_cell : (notation : Notation) (line : ℕ) (cells after : List Point) (below : List ℕ) (found : Option Point) → MatchOption found ⊥ (λ cell. after ≡ cells ++ cell ∷ []) → option_map_or (λ cell. cells_from notation line (join_of notation) (cells ++ cell ∷ []) (parts_of below)) found (Err (BadCell line (length cells))) ≡ cells_from notation line (join_of notation) after (parts_of below)
+after_cell notation line cells after below None good = absurd good
+after_cell notation line cells after below (Some cell) good = rw good refl
 
 -- a part with a cell
-pub part_good : (notation : Notation) (line : ℕ) (front : List ℕ) (cells : List Point) (rest part below : List ℕ) (cell : Point) → parts_of rest ≡ part ∷ parts_of below → cell_in notation front part ≡ Some cell → cells_from notation line front cells (parts_of rest) ≡ cells_from notation line (join_of notation) (cells ++ cell ∷ []) (parts_of below)
-part_good notation line front cells rest part below cell split some =
-    part_read notation line front cells rest part below split ∙ rw some refl
+pub part_good : (notation : Notation) (line : ℕ) (front : List ℕ) (cells after : List Point) (rest part below : List ℕ) → parts_of rest ≡ part ∷ parts_of below → MatchOption (cell_in notation front part) ⊥ (λ cell. after ≡ cells ++ cell ∷ []) → cells_from notation line front cells (parts_of rest) ≡ cells_from notation line (join_of notation) after (parts_of below)
+part_good notation line front cells after rest part below split good =
+    part_read notation line front cells rest part below split ∙ after_cell notation line cells after below (cell_in notation front part) good

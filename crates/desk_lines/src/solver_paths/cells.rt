@@ -1,5 +1,7 @@
-ghost use Rattle.std.specs.Prelude.{◌≡◌, ◌<◌, [], ◌∷◌, length, MatchOption, IfSome};
-ghost use Rattle.desk_lines.specs.SolverPaths.Cells.{join_of, cell_of, cell_in, parts_of, cells_of};
+ghost use Rattle.std.specs.Prelude.{◌≡◌, ◌⊎◌, ◌<◌, [], ◌∷◌, ◌++◌, length, Some, None, MatchOption, IfSome, OnOk, IfErr};
+ghost use Rattle.grid_cells.specs.declared.sizes.TheConstants.{MOST_SIDE};
+ghost use Rattle.desk_lines.specs.declared.solver_paths.faults.PathsFault.TheVariants.{BadCell, OutOfMemory};
+ghost use Rattle.desk_lines.specs.SolverPaths.Cells.{join_of, ordered, cell_of, cell_in, parts_of, cells_of};
 ghost use Rattle.desk_lines.specs.SolverPaths.Answers.{IsRead};
 
 use crate::solver_paths::faults::PathsFault;
@@ -27,17 +29,23 @@ fn join_of(notation: Notation) -> &'static [u8]
     }
 }
 
+// The cell of the two numbers between brackets.
+fn ordered(notation: Notation, first: u32, second: u32) -> Option<Cell>
+    requires { (first < MOST_SIDE) × (second < MOST_SIDE) }
+    ensures { result ≡ Some (ordered notation first second) }
+{
+    match notation {
+        Notation::Commas => Cell::new(first, second),
+        Notation::Arrows => Cell::new(second, first),
+    }
+}
+
 // The cell that stands between brackets.
 fn cell_of(notation: Notation, pair: &[u8]) -> Option<Cell>
     ensures { result ≡ cell_of notation pair.now }
 {
     let (first, second) = cut(pair, b',')?;
-    let first = place_of(first)?;
-    let second = place_of(second)?;
-    match notation {
-        Notation::Commas => Cell::new(first, second),
-        Notation::Arrows => Cell::new(second, first),
-    }
+    ordered(notation, place_of(first)?, place_of(second)?)
 }
 
 // The cell of a part that ends before its `)`: the front, `(` and the pair.
@@ -56,6 +64,26 @@ fn closed(text: &[u8]) -> Option<(&[u8], &[u8])>
     cut(text, b')')
 }
 
+// Adds the cell of a part that ends before its `)`.
+fn add_cell(
+    cells: &mut Vec<Cell>,
+    notation: Notation,
+    line: usize,
+    front: &[u8],
+    part: &[u8],
+) -> Result<(), PathsFault>
+    ensures ok { OnOk result (MatchOption (cell_in notation front.now part.now) ⊥ (λ cell. cells.new.items ≡ cells.old.items ++ cell ∷ [])) }
+    ensures err { IfErr result (λ fault. (fault ≡ OutOfMemory) ⊎ ((fault ≡ BadCell line (length cells.old.items)) × (cell_in notation front.now part.now ≡ None))) }
+{
+    let Some(cell) = cell_in(notation, front, part) else {
+        return Err(PathsFault::BadCell {
+            line,
+            cell: cells.len(),
+        });
+    };
+    cells.push(cell).map_err(|_| PathsFault::OutOfMemory)
+}
+
 /// The cells of a list, in their order.
 ///
 /// # Errors
@@ -72,13 +100,7 @@ pub(crate) fn cells_of(
     let mut front: &[u8] = b"";
     let mut rest = text;
     while let Some((part, below)) = closed(rest) {
-        let Some(cell) = cell_in(notation, front, part) else {
-            return Err(PathsFault::BadCell {
-                line,
-                cell: cells.len(),
-            });
-        };
-        cells.push(cell).map_err(|_| PathsFault::OutOfMemory)?;
+        add_cell(&mut cells, notation, line, front, part)?;
         front = join_of(notation);
         rest = below;
     }

@@ -1,49 +1,79 @@
-use thiserror::Error;
+use std::error::Error;
+use std::fmt;
 
 /// Why a text is no file of paths. Lines count from 1, blank ones too; cells of a line from 0.
-#[derive(Clone, Copy, Debug, PartialEq, Eq, Error)]
+#[derive(Clone, Copy)]
 pub enum PathsFault {
     /// The first line that isn't blank begins no form.
-    #[error("no form of paths in line {line}")]
     NoForm { line: usize },
     /// Before `solution=` stands a line that isn't `key=value`.
-    #[error("bad header in line {line}")]
     BadHeader { line: usize },
     /// A second line `starts=`, or a second line `goals=`.
-    #[error("repeated list in line {line}")]
     RepeatedList { line: usize },
     /// The text is over before `solution=`.
-    #[error("missing solution")]
     MissingSolution,
     /// The line doesn't begin with the next time and a colon.
-    #[error("bad time in line {line}")]
     BadTime { line: usize },
     /// The line is of another agent than the next one, or of none: by agent it doesn't begin with
     /// `Agent`, a space, the next agent and a colon.
-    #[error("bad agent in line {line}")]
     BadAgent { line: usize },
     /// The line is neither a remark nor a line `path AGENT CELL..` of a session.
-    #[error("bad path in line {line}")]
     BadPath { line: usize },
     /// What stands there is no cell, or isn't parted from the one before as the form says, or is
     /// more than may stand at the end.
-    #[error("bad cell {cell} in line {line}")]
     BadCell { line: usize, cell: usize },
     /// A list without a cell.
-    #[error("no cells in line {line}")]
     NoCells { line: usize },
     /// Another number of cells than in the text's first list.
-    #[error("cell count in line {line}")]
     CellCount { line: usize },
     /// The line is of more than `MOST_AGENTS` agents, or of the agent behind them.
-    #[error("too many agents in line {line}")]
     TooManyAgents { line: usize },
     /// A path of a last index above `MOST_LAST_INDEX`.
-    #[error("too long in line {line}")]
     TooLong { line: usize },
     /// The text is over before its first path.
-    #[error("no paths")]
     NoPaths,
-    #[error("out of memory")]
+    /// There was no memory.
     OutOfMemory,
 }
+
+impl PathsFault {
+    // What is wrong, and in which line.
+    fn told(self) -> (&'static str, Option<usize>) {
+        match self {
+            PathsFault::NoForm { line } => ("no form of paths", Some(line)),
+            PathsFault::BadHeader { line } => ("bad header", Some(line)),
+            PathsFault::RepeatedList { line } => ("repeated list", Some(line)),
+            PathsFault::MissingSolution => ("missing solution", None),
+            PathsFault::BadTime { line } => ("bad time", Some(line)),
+            PathsFault::BadAgent { line } => ("bad agent", Some(line)),
+            PathsFault::BadPath { line } => ("bad path", Some(line)),
+            PathsFault::BadCell { line, .. } => ("bad cell", Some(line)),
+            PathsFault::NoCells { line } => ("no cells", Some(line)),
+            PathsFault::CellCount { line } => ("cell count", Some(line)),
+            PathsFault::TooManyAgents { line } => ("too many agents", Some(line)),
+            PathsFault::TooLong { line } => ("too long", Some(line)),
+            PathsFault::NoPaths => ("no paths", None),
+            PathsFault::OutOfMemory => ("out of memory", None),
+        }
+    }
+}
+
+impl fmt::Display for PathsFault {
+    fn fmt<W: fmt::Write>(&self, f: &mut fmt::Formatter<W>) -> fmt::Result {
+        if let PathsFault::BadCell { line, cell } = self {
+            return write!(f, "bad cell {cell} in line {line}");
+        }
+        match self.told() {
+            (what, Some(line)) => write!(f, "{what} in line {line}"),
+            (what, None) => f.write_str(what),
+        }
+    }
+}
+
+impl fmt::Debug for PathsFault {
+    fn fmt<W: fmt::Write>(&self, f: &mut fmt::Formatter<W>) -> fmt::Result {
+        fmt::Display::fmt(self, f)
+    }
+}
+
+impl Error for PathsFault {}

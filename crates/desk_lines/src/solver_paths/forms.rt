@@ -7,6 +7,7 @@ ghost use Rattle.desk_lines.specs.SolverPaths.Lines.{written_from};
 use crate::commands::is_remark;
 use crate::solver_paths::faults::PathsFault;
 use crate::solver_paths::lines::{behind, next_written};
+use crate::values::is_word;
 use bench_reader::next_word;
 
 /// How a file of paths is written.
@@ -25,7 +26,7 @@ fn is_of_session(line: &[u8]) -> bool
     ensures { result ≡ is_of_session (words_of line.now) }
 {
     match next_word(line) {
-        Some((word, _)) => is_remark(word) || word == b"path".as_slice(),
+        Some((word, _)) => is_remark(word) || is_word(word, b"path"),
         None => false,
     }
 }

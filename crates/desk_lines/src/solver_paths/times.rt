@@ -11,6 +11,7 @@ use crate::solver_paths::heads::{Head, agents_told, with_line};
 use crate::solver_paths::lines::{labelled, next_written};
 use crate::solver_paths::paths::SolverPaths;
 use crate::solver_paths::rows::{add_row, row_of};
+use crate::values::is_word;
 use grid_cells::{Cell, List};
 use plan_table::MOST_LAST_INDEX;
 use std::alloc::Global;
@@ -83,7 +84,7 @@ pub(crate) fn read_by_time(alloc: Global, text: &[u8]) -> Result<SolverPaths, Pa
     let mut rest = text;
     let mut number = 1;
     while let Some((line, bytes, below)) = next_written(rest, number) {
-        if bytes == b"solution=".as_slice() {
+        if is_word(bytes, b"solution=") {
             return read_times(alloc, head, below, line + 1);
         }
         head = with_line(alloc, head, line, bytes)?;

@@ -1,8 +1,8 @@
 use Rattle.std.proofs.Common.{◌≡◌, ap, sym, ◌∙◌, [], ◌∷◌}
 use Rattle.bench_reader.specs.Words.{words_of}
-use Rattle.desk_lines.specs.Kinds.{joined, named_kinds}
-use Rattle.desk_lines.proofs.KindLemmas.{kinds_after, kinds_after-kind}
-use Rattle.desk_lines.proofs.kinds.kinds_of.Goals as goal
+use Rattle.desk_lines.specs.Kinds.{joined, named_kinds, kinds_after}
+use Rattle.desk_lines.proofs.KindLemmas.{kinds_after-kind}
+use Rattle.desk_lines.proofs.kinds.kinds_after.Goals as goal
 
 pub loop-word-preserved : goal.loop-word-preserved
 loop-word-preserved c =
