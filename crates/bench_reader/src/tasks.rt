@@ -2,7 +2,7 @@ use grid_cells::Cell;
 
 /// A task of a scenario: an agent is to go from `start` to `goal`. A bucket holds tasks of about
 /// the same length.
-#[derive(Clone, Copy, Debug, PartialEq, Eq)]
+#[derive(Clone, Copy, PartialEq, Eq)]
 pub struct Task {
     pub bucket: u32,
     pub start: Cell,

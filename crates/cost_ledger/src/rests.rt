@@ -5,7 +5,7 @@ use grid_cells::Agent;
 use std::collections::BTreeSet;
 
 /// When an agent comes to rest. Rests compare by time, then agent.
-#[derive(Clone, Copy, Debug, PartialEq, Eq, PartialOrd, Ord)]
+#[derive(Clone, Copy, PartialEq, Eq, PartialOrd, Ord)]
 pub struct Rest {
     pub time: u32,
     pub agent: Agent,

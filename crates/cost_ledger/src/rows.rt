@@ -14,7 +14,7 @@ use std::collections::BTreeMap;
 use std::marker::Model;
 
 /// The rows of agents, by agent.
-#[derive(Debug, Drop)]
+#[derive(Drop)]
 pub struct Rows {
     rows: BTreeMap<Agent, Row>,
 }

@@ -9,14 +9,14 @@ use std::collections::BTreeSet;
 use std::marker::Model;
 
 /// An agent that aims at a goal. Aims compare by goal, then agent.
-#[derive(Clone, Copy, Debug, PartialEq, Eq, PartialOrd, Ord)]
+#[derive(Clone, Copy, PartialEq, Eq, PartialOrd, Ord)]
 pub struct Aim {
     pub goal: Cell,
     pub agent: Agent,
 }
 
 /// A set of aims, in their order.
-#[derive(Debug, Drop)]
+#[derive(Drop)]
 pub struct Aims {
     aims: BTreeSet<Aim>,
 }

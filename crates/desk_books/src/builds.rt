@@ -4,7 +4,7 @@ ghost use Rattle.std.specs.Prelude.{◌≡◌, ◌+◌, min};
 use std::marker::Model;
 
 /// How often books were made, held at the greatest u64. It can only grow.
-#[derive(Debug, Drop)]
+#[derive(Drop)]
 pub struct BuildCount {
     number: u64,
 }

@@ -14,7 +14,7 @@ use std::alloc::Global;
 use std::collections::BTreeMap;
 
 /// An agent that changes name, and the row that it had before them.
-#[derive(Clone, Copy, Debug)]
+#[derive(Clone, Copy)]
 pub struct Former<'a> {
     pub agent: Agent,
     // These are of no meaning where there is no plan.
@@ -25,7 +25,7 @@ pub struct Former<'a> {
 
 /// A row that an agent had, and below which time its path is known to be in the cells of the path
 /// that the agent has after the changes.
-#[derive(Clone, Copy, Debug)]
+#[derive(Clone, Copy)]
 pub struct FormerRow<'a> {
     pub goal: Cell,
     pub alike: u32,

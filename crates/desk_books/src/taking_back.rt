@@ -17,7 +17,7 @@ const FOR_EVER: u32 = u32::MAX;
 
 /// What is kept for an agent while changes are taken back: its row, if it had one, and below which
 /// time the row's path is known to be in the cells of the path that the agent has after the changes.
-#[derive(Clone, Copy, Debug)]
+#[derive(Clone, Copy)]
 pub(crate) struct Kept<'a> {
     // These are of no meaning where there is no plan.
     pub(crate) goal: Cell,

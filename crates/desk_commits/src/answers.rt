@@ -43,7 +43,7 @@ impl From<OutOfMemory> for AskFault {
 }
 
 /// The report of the desk's scene, at that version.
-#[derive(Debug, Drop, PartialEq)]
+#[derive(Drop, PartialEq)]
 pub struct Reading {
     pub version: u64,
     pub report: Report,
@@ -66,7 +66,7 @@ pub enum Call {
 }
 
 /// What a desk answers to a call.
-#[derive(Debug, Drop)]
+#[derive(Drop)]
 pub enum Answer {
     /// The commit was accepted, and made this version.
     Done(u64),

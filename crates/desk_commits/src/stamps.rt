@@ -12,7 +12,7 @@ use scene_edits::{Edit, Thing};
 use std::alloc::Global;
 
 /// Stamps of agents by number, of cells by their place on the map, and of the map.
-#[derive(Debug, Drop)]
+#[derive(Drop)]
 pub struct Stamps {
     pub size: Size,
     pub agents: Vec<u32>,

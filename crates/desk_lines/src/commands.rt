@@ -4,7 +4,7 @@ ghost use Rattle.desk_lines.specs.Commands.{is_remark, edit_command_of, command_
 use crate::values::is_word;
 
 /// The edits, by the first words of their lines.
-#[derive(Clone, Copy, Debug)]
+#[derive(Clone, Copy)]
 pub enum EditCommand {
     Add,
     Drop,
@@ -16,7 +16,7 @@ pub enum EditCommand {
 }
 
 /// What the first word of a session line asks for.
-#[derive(Clone, Copy, Debug)]
+#[derive(Clone, Copy)]
 pub enum Command {
     Edit(EditCommand),
     Begin,

@@ -4,7 +4,7 @@ ghost use Rattle.desk_report.specs.Solves.{is_named};
 use mapf_rules::Kind;
 
 /// Kinds of conflicts that a planner asks about: `vertex` stands for Vertex and Parked entries.
-#[derive(Clone, Copy, Debug, PartialEq, Eq)]
+#[derive(Clone, Copy, PartialEq, Eq)]
 pub struct Kinds {
     pub vertex: bool,
     pub edge: bool,

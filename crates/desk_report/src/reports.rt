@@ -7,7 +7,7 @@ use mapf_rules::{Conflict, Visit};
 
 /// What is said of one agent: its settle time in steps, whether it is finished, its lower bound in
 /// steps, and its gap, the steps that its settle time has above the bound.
-#[derive(Clone, Copy, Debug, PartialEq, Eq)]
+#[derive(Clone, Copy, PartialEq, Eq)]
 pub struct AgentLine {
     pub agent: Agent,
     pub settle: u32,
@@ -18,7 +18,7 @@ pub struct AgentLine {
 
 /// What is said of a map and a fleet's plans. The totals are given only where every agent has what
 /// they are made of.
-#[derive(Debug, Drop, PartialEq)]
+#[derive(Drop, PartialEq)]
 pub struct Report {
     pub conflicts: List<Conflict>,
     pub visits: List<Visit>,

@@ -7,7 +7,7 @@ use std::alloc::Global;
 use std::marker::Model;
 
 /// A commit that is being gathered.
-#[derive(Debug, Drop)]
+#[derive(Drop)]
 pub struct Gathered {
     pub(crate) base: u64,
     pub(crate) watch: List<Thing>,
@@ -43,7 +43,7 @@ impl Gathered {
 }
 
 /// Where a session is.
-#[derive(Debug, Drop)]
+#[derive(Drop)]
 pub enum Session {
     Idle,
     Gathering(Gathered),

@@ -1,7 +1,7 @@
 use desk_commits::{AskFault, Reading, Refusal};
 
 /// What is wrong with a line.
-#[derive(Clone, Copy, Debug, PartialEq, Eq)]
+#[derive(Clone, Copy, PartialEq, Eq)]
 pub enum BadLine {
     /// Its first word is not known.
     Word,
@@ -14,7 +14,7 @@ pub enum BadLine {
 }
 
 /// What a line is answered.
-#[derive(Debug, Drop)]
+#[derive(Drop)]
 pub enum Reply {
     Silent,
     Bad { line: u32, why: BadLine },

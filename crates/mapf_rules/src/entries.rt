@@ -8,7 +8,7 @@ use grid_cells::{Agent, Cell, List, Step};
 pub type Ring = List<Agent>;
 
 /// The kinds of entries, in the order in which they are listed.
-#[derive(Clone, Copy, Debug, PartialEq, Eq)]
+#[derive(Clone, Copy, PartialEq, Eq)]
 pub enum Kind {
     Vertex,
     Parked,
@@ -21,7 +21,7 @@ pub enum Kind {
 /// An entry of the conflict list: who is in conflict, when and where. A step entry stands at the
 /// time at which its step begins. Entries compare by kind, then by their fields in turn, which is
 /// the order in which they are listed.
-#[derive(Clone, Debug, Drop, PartialEq, Eq, PartialOrd, Ord)]
+#[derive(Clone, Drop, PartialEq, Eq, PartialOrd, Ord)]
 pub enum Conflict {
     /// Two agents are in one cell, and one of them still moves or is to leave.
     Vertex {

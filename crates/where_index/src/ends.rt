@@ -5,7 +5,7 @@ use grid_cells::{Cell, Step};
 use plan_table::Track;
 
 /// Where and when a path ends, and whether its agent leaves then.
-#[derive(Clone, Copy, Debug, PartialEq, Eq)]
+#[derive(Clone, Copy, PartialEq, Eq)]
 pub struct End {
     pub last: u32,
     pub cell: Cell,

@@ -12,14 +12,14 @@ use std::marker::Model;
 
 /// An agent that is in a cell at a time, and where it is one step later: in the same cell, if it
 /// waits. Spots compare by time, agent and the cell that the agent goes to.
-#[derive(Clone, Copy, Debug, PartialEq, Eq, PartialOrd, Ord)]
+#[derive(Clone, Copy, PartialEq, Eq, PartialOrd, Ord)]
 pub struct Spot {
     pub time: u32,
     pub step: Move,
 }
 
 /// The spots of one cell, in their order.
-#[derive(Debug, Drop)]
+#[derive(Drop)]
 pub struct SpotSet {
     spots: BTreeSet<Spot>,
 }

@@ -8,14 +8,14 @@ use plan_table::Track;
 use std::marker::Model;
 
 /// From one cell to another in a step, or to the same one, where an agent waits.
-#[derive(Clone, Copy, Debug, PartialEq, Eq)]
+#[derive(Clone, Copy, PartialEq, Eq)]
 pub struct Hop {
     pub from: Cell,
     pub to: Cell,
 }
 
 /// The cells of a path, or none, and whether the agent leaves after the last one.
-#[derive(Debug, Drop)]
+#[derive(Drop)]
 pub struct Trail<'a> {
     cells: &'a [Cell],
     leaves: bool,

@@ -4,7 +4,7 @@ ghost use Rattle.where_index.specs.Flows.{leads};
 use grid_cells::Cell;
 
 /// A way to move on a map.
-#[derive(Clone, Copy, Debug, PartialEq, Eq)]
+#[derive(Clone, Copy, PartialEq, Eq)]
 pub enum Way {
     Up,
     Left,

@@ -11,7 +11,7 @@ use crate::values::is_word;
 use bench_reader::next_word;
 
 /// How a file of paths is written.
-#[derive(Clone, Copy, Debug, PartialEq, Eq)]
+#[derive(Clone, Copy, PartialEq, Eq)]
 pub enum Form {
     /// A line for each time, with the cells of all agents, as LaCAM and PIBT write it.
     ByTime,

@@ -9,7 +9,7 @@ use grid_cells::{Cell, List};
 use std::alloc::Global;
 
 /// What a text by time says before its paths.
-#[derive(Debug, Drop)]
+#[derive(Drop)]
 pub(crate) struct Head {
     pub(crate) starts: Option<List<Cell>>,
     pub(crate) goals: Option<List<Cell>>,

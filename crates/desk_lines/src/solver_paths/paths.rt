@@ -9,7 +9,7 @@ use std::alloc::Global;
 
 /// What a file of paths spells: the agents' starts and goals, where it tells them, and for each
 /// agent, from 0, its cells from time 0 on.
-#[derive(Debug, Drop)]
+#[derive(Drop)]
 pub struct SolverPaths {
     pub form: Form,
     pub starts: Option<List<Cell>>,

@@ -4,7 +4,7 @@ use crate::bytes::sink::{Sink, WriteFailed};
 use std::io::{ErrorKind, Write};
 
 /// A sink over a writer. A write that was interrupted is made again.
-#[derive(Debug, Drop)]
+#[derive(Drop)]
 pub struct Spout<W> {
     inner: W,
     failed: bool,

@@ -6,7 +6,7 @@ use crate::bytes::source::{ReadFailed, Source};
 use std::io::{ErrorKind, Read};
 
 /// A source over a reader. A read that was interrupted is made again.
-#[derive(Debug, Drop)]
+#[derive(Drop)]
 pub struct Tap<R> {
     inner: R,
     failed: bool,

@@ -4,14 +4,14 @@ use plan_table::Mode;
 use scene_edits::{Edit, Thing};
 
 /// The version of a journal's text. Version 1 is of mode Stay.
-#[derive(Clone, Copy, Debug, PartialEq, Eq)]
+#[derive(Clone, Copy, PartialEq, Eq)]
 pub enum Heading {
     First,
     Second(Mode),
 }
 
 /// The numbers of the first line of an entry, the last two being how many watches and edits it has.
-#[derive(Clone, Copy, Debug, PartialEq, Eq)]
+#[derive(Clone, Copy, PartialEq, Eq)]
 pub struct Head {
     pub planner: Planner,
     pub base: u64,
@@ -20,7 +20,7 @@ pub struct Head {
 }
 
 /// An entry, as far as it is read.
-#[derive(Debug, Drop)]
+#[derive(Drop)]
 pub struct Begun {
     pub head: Head,
     pub watch: List<Thing>,
@@ -28,7 +28,7 @@ pub struct Begun {
 }
 
 /// Where a reader of a journal is.
-#[derive(Debug, Drop)]
+#[derive(Drop)]
 pub enum Place {
     /// Nothing is read.
     Start,
