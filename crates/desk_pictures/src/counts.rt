@@ -8,8 +8,11 @@ use crate::pieces::{Piece, Written, put_filled};
 use desk_report::{Report, Sink};
 use mapf_rules::Kind;
 
-// How many entries of the kind there are.
-fn count_of(report: &Report, kind: Kind) -> u64 {
+// How many entries of the kind there are, or visits.
+fn count_of(report: &Report, kind: Option<Kind>) -> u64 {
+    let Some(kind) = kind else {
+        return report.visits.items().len() as u64;
+    };
     let entries = report.conflicts.items();
     entries.iter().filter(|entry| entry.kind() == kind).count() as u64
 }
@@ -44,14 +47,15 @@ fn put_row<'a, W: Sink>(
     )
 }
 
-// Where the row of each kind is, its sign and its name.
-const KINDS: &[(u64, &[u8], &[u8], Kind)] = &[
-    (170, b"v", b"vertex", Kind::Vertex),
-    (200, b"p", b"parked", Kind::Parked),
-    (230, b"e", b"edge", Kind::Edge),
-    (260, b"f", b"follow", Kind::Following),
-    (290, b"s", b"swap", Kind::Swapping),
-    (320, b"c", b"cycle", Kind::Cycle),
+// Where the row of each kind is, its sign and its name; the last is that of visits.
+const ROWS: &[(u64, &[u8], &[u8], Option<Kind>)] = &[
+    (170, b"v", b"vertex", Some(Kind::Vertex)),
+    (200, b"p", b"parked", Some(Kind::Parked)),
+    (230, b"e", b"edge", Some(Kind::Edge)),
+    (260, b"f", b"follow", Some(Kind::Following)),
+    (290, b"s", b"swap", Some(Kind::Swapping)),
+    (320, b"c", b"cycle", Some(Kind::Cycle)),
+    (350, b"x", b"visit to a closed cell", None),
 ];
 
 /// Puts a row for each kind of what a report has.
@@ -59,33 +63,30 @@ pub fn put_rows<W: Sink>(sink: &mut W, report: &Report) -> Written
     ensures ok { OnOk result (Grows (W.held sink.old) (W.held sink.new)) }
     ensures broken { W.broken sink.new ≡ (W.broken sink.old || is_err result) }
 {
-    for (down, sign, name, kind) in KINDS {
+    for (down, sign, name, kind) in ROWS {
         put_row(sink, *down, sign, name, count_of(report, *kind))?;
     }
-    let visits = report.visits.items().len() as u64;
-    put_row(sink, 350, b"x", b"visit to a closed cell", visits)
+    Ok(())
 }
 
-// A total, or `none`.
-fn put_sum<W: Sink>(sink: &mut W, down: u64, name: &[u8], total: Option<u64>) -> Written
-    ensures ok { OnOk result (Grows (W.held sink.old) (W.held sink.new)) }
-    ensures broken { W.broken sink.new ≡ (W.broken sink.old || is_err result) }
-{
-    let height = Piece::Number(down);
-    put_filled(
-        sink,
-        b"<text x='4' y='~'>~</text><text class='n' x='300' y='~'>~</text>\n",
-        &[height, Piece::Text(name), height, Piece::Given(total)],
-    )
-}
+// The totals, each a number or `none`.
+const TOTALS: &[u8] = b"\
+<text x='4' y='395'>sum of costs</text><text class='n' x='300' y='395'>~</text>
+<text x='4' y='420'>makespan</text><text class='n' x='300' y='420'>~</text>
+<text x='4' y='445'>sum of bounds</text><text class='n' x='300' y='445'>~</text>
+<text x='4' y='470'>gap</text><text class='n' x='300' y='470'>~</text>
+";
 
 /// Puts the totals.
 pub fn put_totals<W: Sink>(sink: &mut W, report: &Report) -> Written
     ensures ok { OnOk result (Grows (W.held sink.old) (W.held sink.new)) }
     ensures broken { W.broken sink.new ≡ (W.broken sink.old || is_err result) }
 {
-    put_sum(sink, 395, b"sum of costs", report.sum)?;
-    put_sum(sink, 420, b"makespan", report.makespan.map(u64::from))?;
-    put_sum(sink, 445, b"sum of bounds", report.bounds)?;
-    put_sum(sink, 470, b"gap", report.total_gap)
+    let pieces = [
+        Piece::Given(report.sum),
+        Piece::Given(report.makespan.map(u64::from)),
+        Piece::Given(report.bounds),
+        Piece::Given(report.total_gap),
+    ];
+    put_filled(sink, TOTALS, &pieces)
 }

@@ -4,7 +4,7 @@ ghost use Rattle.desk_pictures.specs.Marks.{is_at, moves, class_text};
 use grid_cells::{Agent, Step};
 
 /// What a picture shows of a scene.
-#[derive(Clone, Copy, Debug)]
+#[derive(Clone, Copy)]
 pub struct Frame {
     /// The one time of a still picture, in steps; without it the agents move.
     pub at: Option<Step>,

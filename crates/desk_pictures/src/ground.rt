@@ -64,19 +64,23 @@ fn put_rows<W: Sink>(sink: &mut W, grid: &Grid) -> Written
     Ok(())
 }
 
-// A floor of that class.
-fn put_floor<W: Sink>(sink: &mut W, grid: &Grid, class: &[u8]) -> Written
+// The floor, in whose text are places for the map's width and height.
+fn put_floor<W: Sink>(sink: &mut W, grid: &Grid, text: &[u8]) -> Written
     ensures ok { OnOk result (Grows (W.held sink.old) (W.held sink.new)) }
     ensures broken { W.broken sink.new ≡ (W.broken sink.old || is_err result) }
 {
     let size = grid.size();
-    let (width, height) = (Piece::Count(size.width()), Piece::Count(size.height()));
-    put_filled(
-        sink,
-        b"<rect class='~' x='-.5' y='-.5' width='~' height='~'/>\n",
-        &[Piece::Text(class), width, height],
-    )
+    let pieces = [Piece::Count(size.width()), Piece::Count(size.height())];
+    put_filled(sink, text, &pieces)
 }
+
+// The floor as it is painted, and the lines over it.
+const FLOOR: &[u8] = b"<rect class='floor' x='-.5' y='-.5' width='~' height='~'/>\n";
+
+const NET: &[u8] = b"\
+<pattern id='net' x='-.5' y='-.5' width='1' height='1' patternUnits='userSpaceOnUse'><path class='thread' d='M1 0H0V1'/></pattern>
+<rect class='net' x='-.5' y='-.5' width='~' height='~'/>
+";
 
 // Lines between the cells, where they are large enough.
 fn put_net<W: Sink>(sink: &mut W, grid: &Grid) -> Written
@@ -87,11 +91,7 @@ fn put_net<W: Sink>(sink: &mut W, grid: &Grid) -> Written
     if size.width() > MOST_PARTED || size.height() > MOST_PARTED {
         return Ok(());
     }
-    put_letters(
-        sink,
-        b"<pattern id='net' x='-.5' y='-.5' width='1' height='1' patternUnits='userSpaceOnUse'><path class='thread' d='M1 0H0V1'/></pattern>\n",
-    )?;
-    put_floor(sink, grid, b"net")
+    put_floor(sink, grid, NET)
 }
 
 /// Puts the floor, and over it the closed cells.
@@ -99,7 +99,7 @@ pub fn put_ground<W: Sink>(sink: &mut W, grid: &Grid) -> Written
     ensures ok { OnOk result (Grows (W.held sink.old) (W.held sink.new)) }
     ensures broken { W.broken sink.new ≡ (W.broken sink.old || is_err result) }
 {
-    put_floor(sink, grid, b"floor")?;
+    put_floor(sink, grid, FLOOR)?;
     put_net(sink, grid)?;
     put_letters(
         sink,

@@ -95,19 +95,26 @@ fn mode_text(mode: Mode) -> &'static [u8] {
     }
 }
 
-// What is shown: how many agents, on a map of what size, in which mode.
-fn put_scene<W: Sink>(sink: &mut W, scene: &Scene) -> Written
+// What is shown, between the two texts: how many agents, on a map of what size, in which mode.
+fn put_scene<'a, W: Sink>(
+    sink: &mut W,
+    before: &'a [u8],
+    scene: &Scene,
+    behind: &'a [u8],
+) -> Written
     ensures ok { OnOk result (Grows (W.held sink.old) (W.held sink.new)) }
     ensures broken { W.broken sink.new ≡ (W.broken sink.old || is_err result) }
 {
     let size = scene.grid().size();
     let pieces = [
+        Piece::Text(before),
         Piece::Count(scene.plans().count()),
         Piece::Count(size.width()),
         Piece::Count(size.height()),
         Piece::Text(mode_text(scene.mode())),
+        Piece::Text(behind),
     ];
-    put_filled(sink, b"~ agents, ~ x ~, mode ~", &pieces)
+    put_filled(sink, b"~~ agents, ~ x ~, mode ~~", &pieces)
 }
 
 /// Puts the title of the whole picture.
@@ -115,9 +122,7 @@ pub fn put_title<W: Sink>(sink: &mut W, scene: &Scene) -> Written
     ensures ok { OnOk result (Grows (W.held sink.old) (W.held sink.new)) }
     ensures broken { W.broken sink.new ≡ (W.broken sink.old || is_err result) }
 {
-    put_letters(sink, b"<title>mapf_desk: ")?;
-    put_scene(sink, scene)?;
-    put_letters(sink, b"</title>\n")
+    put_scene(sink, b"<title>mapf_desk: ", scene, b"</title>\n")
 }
 
 /// Puts the end of the map's part, the key, and the picture's end.
@@ -133,11 +138,10 @@ pub fn put_legend<W: Sink>(
 {
     put_filled(
         sink,
-        b"</svg>\n<g id='key' transform='translate(~ 20)'>\n<text class='head' y='22'>",
+        b"</svg>\n<g id='key' transform='translate(~ 20)'>\n",
         &[Piece::Number(u64::from(sheet.across) + 64)],
     )?;
-    put_scene(sink, scene)?;
-    put_letters(sink, b"</text>\n")?;
+    put_scene(sink, b"<text class='head' y='22'>", scene, b"</text>\n")?;
     put_verdict(sink, report)?;
     put_time(sink, frame, scene.plans())?;
     put_rows(sink, report)?;

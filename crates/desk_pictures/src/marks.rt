@@ -112,7 +112,6 @@ fn put_each_mark<W: Sink>(
 }
 
 // The group of the entries' marks, in the report's order.
-#[tactic(auto, using(crate::proofs::Growth::texts), unfolding(crate::specs::Marks::marks_text))]
 fn put_marks<W: Sink>(sink: &mut W, frame: &Frame, scene: &Scene, entries: &[Conflict]) -> Written
     ensures ok { OnOk result (Appends (W.held sink.old) (W.held sink.new) (marks_text frame.now.at (tracks_of scene.now.mode scene.now.rows) entries.now)) }
     ensures broken { W.broken sink.new ≡ (W.broken sink.old || is_err result) }

@@ -12,32 +12,32 @@ use desk_report::Sink;
 use grid_cells::{Agent, Cell, Step};
 use plan_table::{Mode, Plans, Row};
 
-// An agent that leaves is gone at the time after its last.
-fn put_leave<W: Sink>(sink: &mut W, leaves: bool, last: u32) -> Written
+// The end of an agent that moves: if it leaves, it is gone at the time after its last.
+fn put_end<W: Sink>(sink: &mut W, mode: Mode, row: &Row) -> Written
     ensures ok { OnOk result (Grows (W.held sink.old) (W.held sink.new)) }
     ensures broken { W.broken sink.new ≡ (W.broken sink.old || is_err result) }
 {
-    if !leaves {
-        return Ok(());
+    if !row.track(mode).leaves {
+        return put_letters(sink, b"</g></g>\n");
     }
-    let end = Piece::Seconds(last.saturating_add(1));
+    let end = Piece::Seconds(row.plan.last().saturating_add(1));
     put_filled(
         sink,
-        b"<set attributeName='visibility' to='hidden' begin='~s'/>",
+        b"<set attributeName='visibility' to='hidden' begin='~s'/></g></g>\n",
         &[end],
     )
 }
 
-// The agent's body at the cell: a circle with its number.
-fn put_body<W: Sink>(sink: &mut W, agent: Agent, cell: Cell) -> Written
+// The text, and the agent's body at the cell: a circle with its number.
+fn put_body<W: Sink>(sink: &mut W, text: &[u8], agent: Agent, cell: Cell) -> Written
     ensures ok { OnOk result (Grows (W.held sink.old) (W.held sink.new)) }
     ensures broken { W.broken sink.new ≡ (W.broken sink.old || is_err result) }
 {
     let (x, y) = (Piece::Count(cell.x()), Piece::Count(cell.y()));
     put_filled(
         sink,
-        b"<use href='#body' x='~' y='~'/><text x='~' y='~'>~</text>",
-        &[x, y, x, y, Piece::Count(agent.number())],
+        b"~<use href='#body' x='~' y='~'/><text x='~' y='~'>~</text>",
+        &[Piece::Text(text), x, y, x, y, Piece::Count(agent.number())],
     )
 }
 
@@ -47,11 +47,9 @@ fn put_mover<W: Sink>(sink: &mut W, mode: Mode, agent: Agent, row: &Row) -> Writ
     ensures broken { W.broken sink.new ≡ (W.broken sink.old || is_err result) }
 {
     put_group(sink, agent)?;
-    put_letters(sink, b"<g>")?;
-    put_body(sink, agent, row.plan.at(Step::new(0)))?;
+    put_body(sink, b"<g>", agent, row.plan.at(Step::new(0)))?;
     put_motion(sink, &row.plan)?;
-    put_leave(sink, row.track(mode).leaves, row.plan.last())?;
-    put_letters(sink, b"</g></g>\n")
+    put_end(sink, mode, row)
 }
 
 // An agent at a time, if it is anywhere.
@@ -63,7 +61,7 @@ fn put_still<W: Sink>(sink: &mut W, mode: Mode, agent: Agent, row: &Row, time: S
         return Ok(());
     }
     put_group(sink, agent)?;
-    put_body(sink, agent, row.plan.at(time))?;
+    put_body(sink, b"", agent, row.plan.at(time))?;
     put_letters(sink, b"</g>\n")
 }
 

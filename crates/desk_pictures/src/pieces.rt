@@ -13,7 +13,7 @@ use desk_report::{Sink, WriteFailed, put_all, put_given, put_number};
 pub type Written = Result<(), WriteFailed>;
 
 /// A piece of the text. No piece has a quote, a bracket or an ampersand but those of a text.
-#[derive(Clone, Copy, Debug)]
+#[derive(Clone, Copy)]
 pub enum Piece<'a> {
     /// These letters, as they are.
     Text(&'a [u8]),
@@ -98,7 +98,6 @@ pub fn put_filled<W: Sink>(sink: &mut W, text: &[u8], pieces: &[Piece]) -> Writt
     put_letters(sink, rest)
 }
 
-#[tactic(auto, using(crate::proofs::Growth::texts))]
 fn put_half<W: Sink>(sink: &mut W, number: u64) -> Written
     ensures ok { OnOk result (Appends (W.held sink.old) (W.held sink.new) (half_text number)) }
     ensures broken { W.broken sink.new ≡ (W.broken sink.old || is_err result) }
@@ -114,7 +113,6 @@ fn half_of(number: u64) -> &'static [u8]
     if number % 2 == 0 { b"" } else { b".5" }
 }
 
-#[tactic(auto, using(crate::proofs::Growth::texts))]
 fn put_thousandths<W: Sink>(sink: &mut W, number: u64) -> Written
     ensures ok { OnOk result (Appends (W.held sink.old) (W.held sink.new) (thousandths_text number)) }
     ensures broken { W.broken sink.new ≡ (W.broken sink.old || is_err result) }
@@ -127,7 +125,6 @@ fn put_thousandths<W: Sink>(sink: &mut W, number: u64) -> Written
 }
 
 // A step takes 0.4 seconds.
-#[tactic(auto, using(crate::proofs::Growth::texts))]
 fn put_seconds<W: Sink>(sink: &mut W, time: u32) -> Written
     ensures ok { OnOk result (Appends (W.held sink.old) (W.held sink.new) (seconds_text time)) }
     ensures broken { W.broken sink.new ≡ (W.broken sink.old || is_err result) }

@@ -6,14 +6,14 @@ ghost use Rattle.desk_pictures.specs.Growth.{Grows};
 
 use crate::agents::put_group;
 use crate::frames::Frame;
-use crate::pieces::{Piece, Written, put_filled, put_letters};
+use crate::pieces::{Piece, Written, put_filled};
 use crate::ways::put_offset;
 use desk_report::Sink;
 use grid_cells::{Agent, Cell, Step};
 use plan_table::{Plans, Row};
 
 // The ways of a step.
-#[derive(Clone, Copy, Debug, PartialEq, Eq)]
+#[derive(Clone, Copy, PartialEq, Eq)]
 enum Way {
     Up,
     Left,
@@ -45,11 +45,9 @@ fn put_stroke<W: Sink>(sink: &mut W, from: Cell, cell: Cell) -> Written
         return Ok(());
     }
     if from.y() == cell.y() {
-        put_letters(sink, b"h")?;
-        return put_offset(sink, from.x(), cell.x());
+        return put_offset(sink, b"h", from.x(), cell.x());
     }
-    put_letters(sink, b"v")?;
-    put_offset(sink, from.y(), cell.y())
+    put_offset(sink, b"v", from.y(), cell.y())
 }
 
 // Where the line has turned last: at the cell, where it goes on another way there, or where it had before.

@@ -18,7 +18,7 @@ pub const EDGE: u32 = 36;
 const KEY_HEIGHT: u32 = 640;
 
 /// The sizes of a picture: of the map in the units of the sheet, and of signs in cells.
-#[derive(Clone, Copy, Debug, PartialEq, Eq)]
+#[derive(Clone, Copy)]
 pub struct Sheet {
     /// How wide the map is drawn.
     pub across: u32,

@@ -8,7 +8,7 @@ use mapf_rules::{Conflict, position};
 use plan_table::{Mode, Plans};
 
 /// A point of the picture, in halves of a cell: a cell's middle has twice its column and row.
-#[derive(Clone, Copy, Debug, PartialEq, Eq)]
+#[derive(Clone, Copy)]
 pub struct Spot {
     pub across: u32,
     pub down: u32,

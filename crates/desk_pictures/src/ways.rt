@@ -39,16 +39,22 @@ fn comma_at(at: usize) -> &'static [u8] {
     if at == 0 { b"" } else { b";" }
 }
 
-/// Puts how far the place is from the start.
-pub fn put_offset<W: Sink>(sink: &mut W, start: u32, place: u32) -> Written
+// What stands before how far the place is from the start.
+fn sign_of(start: u32, place: u32) -> &'static [u8] {
+    if place < start { b"-" } else { b"" }
+}
+
+/// Puts the text, and how far the place is from the start.
+pub fn put_offset<W: Sink>(sink: &mut W, text: &[u8], start: u32, place: u32) -> Written
     ensures ok { OnOk result (Grows (W.held sink.old) (W.held sink.new)) }
     ensures broken { W.broken sink.new ≡ (W.broken sink.old || is_err result) }
 {
-    if place < start {
-        let back = u64::from(start - place);
-        return put_some(sink, &[Piece::Text(b"-"), Piece::Number(back)]);
-    }
-    put_some(sink, &[Piece::Number(u64::from(place - start))])
+    let pieces = [
+        Piece::Text(text),
+        Piece::Text(sign_of(start, place)),
+        Piece::Count(place.abs_diff(start)),
+    ];
+    put_some(sink, &pieces)
 }
 
 // The place at that index, from the start, where it is a corner or all are told; nothing elsewhere.
@@ -60,10 +66,8 @@ fn put_place<W: Sink>(sink: &mut W, cells: &[Cell], start: Cell, at: usize, all:
         return Ok(());
     }
     let cell = cells[at];
-    put_letters(sink, comma_at(at))?;
-    put_offset(sink, start.x(), cell.x())?;
-    put_letters(sink, b",")?;
-    put_offset(sink, start.y(), cell.y())
+    put_offset(sink, comma_at(at), start.x(), cell.x())?;
+    put_offset(sink, b",", start.y(), cell.y())
 }
 
 fn put_places<W: Sink>(sink: &mut W, cells: &[Cell], start: Cell, all: bool) -> Written
