@@ -38,6 +38,50 @@ fn report_of(alloc: Global, scene: &Scene, whole: Part) -> Result<Report, OutOfM
     Ok(report)
 }
 
+// The part of all agents, made by threads over the index; none where that was refused.
+fn whole_of<G: Gate, R: Threads + Wait>(
+    rt: &R,
+    alloc: Global,
+    scene: &Scene,
+    index: &Sightings,
+    workers: u32,
+    gate: &G,
+) -> Option<Part>
+    requires some { 0 < workers }
+    requires index { IsIndexOf (tracks_of scene.now.mode scene.now.rows) index.now }
+    ensures { IfSome result (IsPart scene.now.grid scene.now.mode scene.now.rows 0 (length scene.now.rows)) }
+{
+    thread::scope(
+        thread::scope_env(),
+        rt,
+        |scope| -> Option<Part>
+            requires some { 0 < workers }
+            requires index { IsIndexOf (tracks_of scene.now.mode scene.now.rows) index.now }
+            ensures { IfSome result (IsPart scene.entry.now.grid scene.entry.now.mode scene.entry.now.rows 0 (length scene.entry.now.rows)) }
+        { in_scope(rt, alloc, scope, scene, index, workers, gate) },
+    )
+}
+
+// The report of the scene, made over an index of its own.
+fn told<G: Gate, R: Threads + Wait>(
+    rt: &R,
+    alloc: Global,
+    scene: &Scene,
+    workers: u32,
+    gate: &G,
+) -> Result<Report, OutOfMemory>
+    requires { 0 < workers }
+    ensures { IfOk result (IsReportOf scene.now.grid scene.now.mode scene.now.rows) }
+{
+    let index = Sightings::new(alloc, scene.mode(), scene.plans())?;
+    let found = whole_of(rt, alloc, scene, &index, workers, gate);
+    drop(index);
+    match found {
+        Some(whole) => report_of(alloc, scene, whole),
+        None => Err(OutOfMemory),
+    }
+}
+
 /// The report of the scene, made from scratch by that many threads. It uses no state but the
 /// scene's: it makes an index of its own, of which each piece tells its agents' part, and joins the
 /// parts.
@@ -58,25 +102,8 @@ pub fn audit<G: Gate, R: Threads + Wait>(
     if workers == 0 || workers > MOST_WORKERS {
         return Err(AuditFault::BadWorkers);
     }
-    let index = match Sightings::new(alloc, scene.mode(), scene.plans()) {
-        Ok(index) => index,
-        Err(_) => return Err(AuditFault::OutOfMemory),
-    };
-    let index = &index;
-    let found = thread::scope(
-        thread::scope_env(),
-        rt,
-        |scope| -> Option<Part>
-            requires some { 0 < workers }
-            requires index { IsIndexOf (tracks_of scene.now.mode scene.now.rows) index.now }
-            ensures { IfSome result (IsPart scene.entry.now.grid scene.entry.now.mode scene.entry.now.rows 0 (length scene.entry.now.rows)) }
-        { in_scope(rt, alloc, scope, scene, index, workers, gate) },
-    );
-    match found {
-        None => Err(AuditFault::OutOfMemory),
-        Some(whole) => match report_of(alloc, scene, whole) {
-            Ok(report) => Ok(report),
-            Err(_) => Err(AuditFault::OutOfMemory),
-        },
+    match told(rt, alloc, scene, workers, gate) {
+        Ok(report) => Ok(report),
+        Err(_) => Err(AuditFault::OutOfMemory),
     }
 }

@@ -5,7 +5,7 @@ pub trait Gate: Sync {
 }
 
 /// A gate that is open: a piece passes it at once.
-#[derive(Clone, Copy, Debug)]
+#[derive(Clone, Copy)]
 pub struct NoGate;
 
 impl Gate for NoGate {

@@ -28,11 +28,7 @@ fn none_noted(alloc: Global, many: u32) -> Result<Vec<Option<Option<u32>>>, OutO
     ensures none { IfOk result (λ bounds. (k : ℕ) → slice_index_or bounds.items k None ≡ None) }
     ensures len { IfOk result (λ bounds. length bounds.items ≡ many) }
 {
-    let mut bounds = Vec::with_capacity(alloc, many as usize)?;
-    for _ in 0..many {
-        bounds.push(None)?;
-    }
-    Ok(bounds)
+    Ok(vec![in alloc; None; many as usize]?)
 }
 
 // Notes a lower bound at the place.

@@ -7,7 +7,7 @@ use grid_cells::{Agent, Cell, OutOfMemory};
 use std::alloc::Global;
 
 /// An agent, and a time at which it is in a cell that is known.
-#[derive(Clone, Copy, Debug, PartialEq, Eq)]
+#[derive(Clone, Copy)]
 pub struct Pass {
     pub time: u32,
     pub agent: Agent,

@@ -1,7 +1,9 @@
-use Rattle.std.proofs.Common.{take, ◌+◌, inl, inr, arith}
+use Rattle.std.proofs.Common.{List, take, ◌+◌, inl, inr, subst, arith}
+use Rattle.std.proofs.lemmas.List.{take_all}
 use Rattle.plan_table.specs.Route.{tracks_of}
 use Rattle.mapf_rules.specs.Naming.{IsOfPair}
-use Rattle.desk_audit.specs.Seeking.{IsOfMet}
+use Rattle.desk_audit.specs.declared.tables.Pass.{Pass}
+use Rattle.desk_audit.specs.Seeking.{Finds, IsOfMet}
 use Rattle.desk_audit.proofs.Finding.{finds_then, finds_as, met_split}
 use Rattle.desk_audit.proofs.adding.add_met.Goals as goal
 use Rattle.desk_audit.proofs.adding.add_met.Goals.{then-pass-time+in_ok-add_pair, else-pass-time}
@@ -22,3 +24,8 @@ loop-pass-preserved c =
           rw w.entries-is (finds_as fleet c.args.agent _ _ now more
           (λ e stands of. elim (split e of) [ inl before ↦ before | inr here ↦ absurd (omega (arith, here.0, w.if-pass-time.false)) ]) c.loop-pass.invariant)
     ]
+
+pub returns : goal.returns
+returns c =
+    let fleet = tracks_of c.args.mode c.args.plans.now.rows in
+    subst (λ (met : List Pass). Finds fleet c.args.agent c.args.entries.now.items c.loop-pass.entries.items (IsOfMet c.args.time c.args.agent met)) (take_all c.loop-pass.pass-index c.args.met.now (omega arith)) c.loop-pass.invariant

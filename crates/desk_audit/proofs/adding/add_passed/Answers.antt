@@ -1,7 +1,9 @@
-use Rattle.std.proofs.Common.{take, ◌+◌, inl, inr, arith}
+use Rattle.std.proofs.Common.{List, take, ◌+◌, inl, inr, subst, arith}
+use Rattle.std.proofs.lemmas.List.{take_all}
 use Rattle.plan_table.specs.Route.{tracks_of}
 use Rattle.mapf_rules.specs.Naming.{IsOfPair}
-use Rattle.desk_audit.specs.Seeking.{IsOfPassed}
+use Rattle.desk_audit.specs.declared.tables.Pass.{Pass}
+use Rattle.desk_audit.specs.Seeking.{Finds, IsOfPassed}
 use Rattle.desk_audit.proofs.Finding.{finds_then, finds_as, passed_split}
 use Rattle.desk_audit.proofs.adding.add_passed.Goals as goal
 use Rattle.desk_audit.proofs.adding.add_passed.Goals.{then-after-pass+then-pass-last+in_ok-add_pair, else-after-pass, else-after-pass-via-then-after-pass+else-pass-last, else-after-pass-via-else-after-pass}
@@ -28,3 +30,8 @@ loop-pass-preserved c =
             ]
           ]) c.loop-pass.invariant)
     ]
+
+pub returns : goal.returns
+returns c =
+    let fleet = tracks_of c.args.mode c.args.plans.now.rows in
+    subst (λ (passes : List Pass). Finds fleet c.args.agent c.args.entries.now.items c.loop-pass.entries.items (IsOfPassed fleet c.args.after c.args.agent passes)) (take_all c.loop-pass.pass-index c.args.passes.now (omega arith)) c.loop-pass.invariant

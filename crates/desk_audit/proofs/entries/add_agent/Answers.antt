@@ -1,8 +1,9 @@
-use Rattle.std.proofs.Common.{◌≡◌, ◌+◌, Some, sym, ap, ◌∙◌, arith}
+use Rattle.std.proofs.Common.{◌≡◌, ◌+◌, Some, sym, ap, ◌∙◌, inl, inr, arith}
+use Rattle.std.proofs.lemmas.Bool.{cases_lt}
 use Rattle.std.proofs.lemmas.Option.{same_Some}
 use Rattle.plan_table.specs.Route.{tracks_of}
 use Rattle.plan_table.proofs.Fleets.{row_here}
-use Rattle.mapf_rules.specs.Naming.{first_agent}
+use Rattle.mapf_rules.specs.Naming.{time_of, first_agent}
 use Rattle.desk_audit.proofs.Finding.{finds_then}
 use Rattle.desk_audit.proofs.Places.{on_path, last_of_row, place_of_position, same_cell}
 use Rattle.desk_audit.proofs.entries.add_agent.Goals as goal
@@ -37,10 +38,12 @@ add_rest-requires-clause-there c =
     (← c.new-2.ensures) c.at-cell.ensures
 
 pub loop-time-preserved : goal.loop-time-preserved
-loop-time-preserved c = finds_then _ _ _ _ _ _ _ _ c.loop-time.invariant c.in_ok-add_step.ensures (λ e stands named. grind arith)
+loop-time-preserved c = finds_then _ _ _ _ _ _ _ _ c.loop-time.invariant c.in_ok-add_step.ensures
+    (λ e stands named. elim (cases_lt (time_of e) c.loop-time.time) [ inl early ↦ inl (early, named.1) | inr late ↦ inr (omega (arith, named.0), named.1) ])
 
 pub returns : goal.returns
 returns c a at =
     let here = row_here _ c.count-agents.ensures.by_agent c.args.rank _ _ c.entry_at-entry.ensures in
     rw (same_Some c.entry_at-entry.result.0 a (sym here.1 ∙ at)) at (finds_then _ _ _ _ _ _ _
-    (λ entry. first_agent entry ≡ c.entry_at-entry.result.0) c.loop-time.invariant c.in_ok-add_rest.ensures (λ e stands named. grind arith))
+    (λ entry. first_agent entry ≡ c.entry_at-entry.result.0) c.loop-time.invariant c.in_ok-add_rest.ensures
+    (λ e stands named. elim (cases_lt (time_of e) c.loop-time.time) [ inl early ↦ inl (early, named) | inr late ↦ inr (omega arith, named) ]))
