@@ -1,4 +1,4 @@
-ghost use Rattle.std.specs.Prelude.{◌≡◌, ◌≢◌, [], ◌∷◌, length, MatchOption, MatchResult};
+ghost use Rattle.std.specs.Prelude.{◌≡◌, ◌≢◌, ◌<◌, [], ◌∷◌, length, MatchOption, MatchResult};
 ghost use Rattle.std.specs.Option.{ok_or};
 ghost use Rattle.bench_reader.specs.Words.{words_of, number_of};
 ghost use Rattle.bench_reader.specs.ScenText.{AreFields};
@@ -32,21 +32,25 @@ pub(crate) struct TaskWords<'a> {
     optimal: &'a [u8],
 }
 
+// The first three words of a line, and the line behind them.
+fn three_words(line: &[u8]) -> Option<(&[u8], &[u8], &[u8], &[u8])>
+    ensures { MatchOption result (length (words_of line.now) < 3) (λ r. words_of line.now ≡ r.0.now ∷ r.1.now ∷ r.2.now ∷ words_of r.3.now) }
+{
+    let (first, rest) = next_word(line)?;
+    let (second, rest) = next_word(rest)?;
+    let (third, rest) = next_word(rest)?;
+    Some((first, second, third, rest))
+}
+
 /// The words of a line that has nine.
 pub(crate) fn task_words(line: &[u8]) -> Option<TaskWords<'_>>
     ensures { MatchOption result (length (words_of line.now) ≢ 9)
         (λ w. words_of line.now ≡ w.bucket.now ∷ w.map.now ∷ w.width.now ∷ w.height.now
         ∷ w.start_x.now ∷ w.start_y.now ∷ w.goal_x.now ∷ w.goal_y.now ∷ w.optimal.now ∷ []) }
 {
-    let (bucket, rest) = next_word(line)?;
-    let (map, rest) = next_word(rest)?;
-    let (width, rest) = next_word(rest)?;
-    let (height, rest) = next_word(rest)?;
-    let (start_x, rest) = next_word(rest)?;
-    let (start_y, rest) = next_word(rest)?;
-    let (goal_x, rest) = next_word(rest)?;
-    let (goal_y, rest) = next_word(rest)?;
-    let (optimal, rest) = next_word(rest)?;
+    let (bucket, map, width, rest) = three_words(line)?;
+    let (height, start_x, start_y, rest) = three_words(rest)?;
+    let (goal_x, goal_y, optimal, rest) = three_words(rest)?;
     if next_word(rest).is_some() {
         return None;
     }
