@@ -45,7 +45,6 @@ pub fn put_answer<W: Sink>(sink: &mut W, yes: bool) -> Result<(), WriteFailed>
 }
 
 /// Puts a cell, as its column, a comma and its row.
-#[tactic(auto, using(crate::proofs::Fronts::fronts))]
 pub fn put_cell<W: Sink>(sink: &mut W, cell: Cell) -> Result<(), WriteFailed>
     ensures ok { OnOk result (Appends (W.held sink.old) (W.held sink.new) (cell_text cell)) }
     ensures err { OnErr result (AppendsFront (W.held sink.old) (W.held sink.new) (cell_text cell)) }

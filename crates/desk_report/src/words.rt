@@ -12,7 +12,7 @@ use crate::values::{put_answer, put_cell, put_given, put_number};
 use grid_cells::{Agent, Cell, Step};
 
 /// A word of a line. All but a text are made of letters, digits and a comma, with no space.
-#[derive(Clone, Copy, Debug)]
+#[derive(Clone, Copy)]
 pub enum Word<'a> {
     /// These letters, as they are.
     Text(&'a [u8]),
@@ -65,7 +65,6 @@ pub fn put_word<W: Sink>(sink: &mut W, word: &Word) -> Result<(), WriteFailed>
 }
 
 /// Puts a space and a word.
-#[tactic(auto, using(crate::proofs::Fronts::fronts))]
 pub fn put_next<W: Sink>(sink: &mut W, word: &Word) -> Result<(), WriteFailed>
     ensures ok { OnOk result (Appends (W.held sink.old) (W.held sink.new) (32 ∷ word_text word.now)) }
     ensures err { OnErr result (AppendsFront (W.held sink.old) (W.held sink.new) (32 ∷ word_text word.now)) }
