@@ -11,6 +11,7 @@ from .running import is_answered, put, remove, run, want
 
 TURNS = 3  # in which a fleet is edited, and edited back
 SIDES = 168, 120  # columns and rows of the large maps
+MOST = 1024  # columns and rows of a map of as many cells as there may be
 
 
 def convoys(rows, agents):
@@ -113,7 +114,8 @@ def beside(cell):
 
 def search(letters, goal, closed):
     """The least number of steps from each cell to the goal, where there is a way, by a plain breadth-first search."""
-    is_open = lambda cell: 0 <= cell[0] < SIDES[0] and 0 <= cell[1] < SIDES[1] and letters[cell[1]][cell[0]] == "." and cell != closed
+    columns, rows = len(letters[0]), len(letters)
+    is_open = lambda cell: 0 <= cell[0] < columns and 0 <= cell[1] < rows and letters[cell[1]][cell[0]] == "." and cell != closed
     ring = [goal] if is_open(goal) else []
     found = dict.fromkeys(ring, 0)
     for cell in ring:
@@ -151,6 +153,15 @@ def distances(kind):
     are_told(letters, [("agent", 0, shapes.CORNER, shapes.CORNER)], [("distance", 0, it) for it in cells], told)
 
 
+def distances_on_most_cells(kind):
+    """On a map of as many cells as there may be each fourth cell of each fourth row is asked for its distance, and of each side the last one."""
+    letters = shapes.letters_of(kind, MOST, MOST)
+    found, places = search(letters, shapes.CORNER, None), [*range(0, MOST, 4), MOST - 1]
+    cells = [(x, y) for y in places for x in places]
+    told = {None: "".join(f"distance {found.get(it, 'none')}\n" for it in cells)}
+    are_told(letters, [("agent", 0, shapes.CORNER, shapes.CORNER)], [("distance", 0, it) for it in cells], told)
+
+
 def distances_to_many_goals():
     """Cells beside one that closes and opens, and that cell, are asked for the distances to 200 goals, which are those from there."""
     fleet = shapes.held(200, *SIDES)
@@ -170,4 +181,5 @@ def tests():
         yield f"lines_of_reports_with_{name}", lambda own_goals=own_goals: lines_of_reports(own_goals)
     for kind in ("open", "maze", "obstacles"):
         yield f"distances_on_a_large_map_{kind}", lambda kind=kind: distances(kind)
+        yield f"distances_on_most_cells_{kind}", lambda kind=kind: distances_on_most_cells(kind)
     yield distances_to_many_goals.__name__, distances_to_many_goals
