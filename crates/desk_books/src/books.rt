@@ -102,6 +102,11 @@ impl Books {
         report
     }
 
+    /// Lets the books go. How each of their parts is dropped is proved here, and in no crate above.
+    pub fn let_go(self) {
+        drop(self);
+    }
+
     /// The distance in steps of the cell to the goal of an agent of the scene, if there is one.
     pub fn distance(&self, from: Cell, goal: Cell) -> Option<u32>
         ensures { (scene : SceneState) (agent : ℕ) (row : Row) → AreOf scene self.now → row_of scene.rows agent ≡ Some row

@@ -77,7 +77,9 @@ impl Desk {
         match self.scene.apply_all(commit.edits()) {
             Ok(changes) => {
                 let books = followed(self.books.take(), changes.items(), &self.scene);
-                drop(replace(&mut self.books, books));
+                if let Some(before) = replace(&mut self.books, books) {
+                    before.let_go();
+                }
             }
             Err(EditsFault::Faulty { index, why }) => {
                 return Err((Refusal::Faulty { index, why }, commit));

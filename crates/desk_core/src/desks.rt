@@ -14,7 +14,6 @@ use std::fmt::{Debug, Error, Formatter, Write};
 use std::marker::Model;
 
 /// A scene, and the journal of the commits that made it of the scene at the opening.
-#[derive(Drop)]
 pub struct Desk {
     pub(crate) alloc: Global,
     pub(crate) scene: Scene,
@@ -23,6 +22,24 @@ pub struct Desk {
     pub(crate) stamps: Option<Stamps>,
     pub(crate) books: Option<Books>,
     builds: BuildCount,
+}
+
+// How the parts are dropped is proved here, and in no crate that drops one.
+impl Drop for Desk {
+    fn drop(self) {
+        let Desk {
+            alloc: _,
+            scene: _scene,
+            journal: _journal,
+            limit: _,
+            stamps: _stamps,
+            books,
+            builds: _builds,
+        } = self;
+        if let Some(books) = books {
+            books.let_go();
+        }
+    }
 }
 
 impl Model for Desk {
@@ -160,7 +177,9 @@ impl Desk {
         requires { AreOf self.old.scene books }
         ensures { self.new ≡ self.old }
     {
-        drop(self.books.replace(books));
+        if let Some(before) = self.books.replace(books) {
+            before.let_go();
+        }
     }
 
     // The books of the scene: those that stand, and else new ones. None stand until they are put back.

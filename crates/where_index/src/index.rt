@@ -18,13 +18,25 @@ use std::collections::BTreeMap;
 use std::marker::Model;
 
 /// Which agents stand and move where: it stands for a finite map from agents to tracks.
-#[derive(Drop)]
 pub struct WhereIndex {
     pub(crate) alloc: Global,
     pub(crate) records: Records,
     pub(crate) ends: BTreeMap<Agent, End>,
     pub(crate) horizon: u32,
     touched: u64,
+}
+
+// How the parts are dropped is proved here, and in no crate that drops one.
+impl Drop for WhereIndex {
+    fn drop(self) {
+        let WhereIndex {
+            alloc: _,
+            records: _records,
+            ends: _ends,
+            horizon: _,
+            touched: _,
+        } = self;
+    }
 }
 
 impl Model for WhereIndex {
