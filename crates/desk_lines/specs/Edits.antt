@@ -15,9 +15,9 @@ add_of (agent ∷ start ∷ goal ∷ []) = with_all edit.Add (agent_of agent) (c
 add_of _ = None
 
 -- AGENT CELL..
-abbrev pub path_of : List (List ℕ) → Option Edit
-path_of [] = None
-path_of (agent ∷ words) = with_both edit.Path (agent_of agent) (cells_of words)
+abbrev pub path_edit_of : List (List ℕ) → Option Edit
+path_edit_of [] = None
+path_edit_of (agent ∷ words) = with_both edit.Path (agent_of agent) (cells_of words)
 
 -- AGENT TIME CELL..
 abbrev pub tail_of : List (List ℕ) → Option Edit
@@ -29,7 +29,7 @@ abbrev pub edit_of : EditCommand → List (List ℕ) → Option Edit
 edit_of Add words = add_of words
 edit_of Drop words = option_map edit.Drop (only_agent words)
 edit_of Goal words = option_map (λ named. edit.Goal named.0 named.1) (agent_and_cell words)
-edit_of Path words = path_of words
+edit_of Path words = path_edit_of words
 edit_of Tail words = tail_of words
 edit_of Open words = option_map edit.Open (only_cell words)
 edit_of Close words = option_map edit.Close (only_cell words)

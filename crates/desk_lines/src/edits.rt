@@ -1,7 +1,7 @@
 ghost use Rattle.std.specs.Prelude.{◌≡◌};
 ghost use Rattle.bench_reader.specs.Words.{words_of};
 ghost use Rattle.desk_lines.specs.Faults.{IsShaped};
-ghost use Rattle.desk_lines.specs.Edits.{add_of, path_of, tail_of, edit_of};
+ghost use Rattle.desk_lines.specs.Edits.{add_of, path_edit_of, tail_of, edit_of};
 
 use crate::cells::cells_of;
 use crate::commands::EditCommand;
@@ -30,8 +30,8 @@ fn add_of(line: &[u8]) -> Option<Edit>
 }
 
 // The edit of a line AGENT CELL..
-fn path_of(alloc: Global, line: &[u8]) -> Result<Edit, LineFault>
-    ensures { IsShaped (path_of (words_of line.now)) result }
+fn path_edit_of(alloc: Global, line: &[u8]) -> Result<Edit, LineFault>
+    ensures { IsShaped (path_edit_of (words_of line.now)) result }
 {
     let (agent, rest) = next_word(line).ok_or(LineFault::Shape)?;
     let agent = agent_of(agent).ok_or(LineFault::Shape)?;
@@ -72,7 +72,7 @@ pub(crate) fn edit_of(alloc: Global, command: EditCommand, line: &[u8]) -> Resul
             .map(|agent| Edit::Drop { agent })
             .ok_or(LineFault::Shape),
         EditCommand::Goal => goal_of(line).ok_or(LineFault::Shape),
-        EditCommand::Path => path_of(alloc, line),
+        EditCommand::Path => path_edit_of(alloc, line),
         EditCommand::Tail => tail_of(alloc, line),
         EditCommand::Open => only_cell(line)
             .map(|cell| Edit::Open { cell })

@@ -23,10 +23,10 @@ path_fault line cells =
     if nat_lt MOST_LAST_INDEX (cells - 1) then Some (TooLong line) else None
 
 -- the path of those cells
-abbrev pub path_of : ℕ → List ℕ → Result (List Point) PathsFault
-path_of line cells = and_then (cells_of Arrows line cells) (λ path. unless (path_fault line (length path)) path)
+abbrev pub path_behind : ℕ → List ℕ → Result (List Point) PathsFault
+path_behind line cells = and_then (cells_of Arrows line cells) (λ path. unless (path_fault line (length path)) path)
 
 -- the path of an agent
 abbrev pub path_at : ℕ → ℕ → List ℕ → Result (List Point) PathsFault
 path_at agent line bytes =
-    option_map_or (λ cells. if nat_le MOST_AGENTS agent then Err (TooManyAgents line) else path_of line cells) (cells_behind agent bytes) (Err (BadAgent line))
+    option_map_or (λ cells. if nat_le MOST_AGENTS agent then Err (TooManyAgents line) else path_behind line cells) (cells_behind agent bytes) (Err (BadAgent line))

@@ -1,6 +1,6 @@
 -- Lists of cells in brackets: with commas `(x,y),(x,y),..`, with arrows `(row,column)->(row,column)->..`.
 -- What joins two cells may stand behind the last one too.
-use Rattle.std.specs.Prelude.{ℕ, ◌==◌, ◌||◌, Option, Some, Result, Ok, Err, List, [], ◌∷◌, ◌++◌, length, codes, bytes_eq, if◌then◌else◌}
+use Rattle.std.specs.Prelude.{ℕ, ◌≡◌, ◌==◌, ◌||◌, Option, Some, None, Result, Ok, Err, List, [], ◌∷◌, ◌++◌, length, codes, bytes_eq, if◌then◌else◌}
 use Rattle.std.specs.Option.{option_and_then, option_map_or}
 use Rattle.std.specs.List.{slice_split}
 use Rattle.grid_cells.specs.Cell.{Point, point}
@@ -31,6 +31,10 @@ cell_of notation pair =
 -- the cell of a part that ends before its `)`: what joins it to the one before, `(`, and the pair
 abbrev pub cell_in : Notation → List ℕ → List ℕ → Option Point
 cell_in notation front part = option_and_then (cell_of notation) (option_and_then (behind (codes "(")) (behind front part))
+
+-- the fault of a part that is no cell, at its place in the list
+abbrev pub IsBadCell : Notation → ℕ → ℕ → List ℕ → List ℕ → PathsFault → Type 0
+IsBadCell notation line at front part fault = (fault ≡ BadCell line at) × (cell_in notation front part ≡ None)
 
 -- a text cut at each `)`
 abbrev pub parts_of : List ℕ → List (List ℕ)

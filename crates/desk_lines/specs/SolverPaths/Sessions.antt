@@ -14,14 +14,14 @@ use Rattle.desk_lines.specs.declared.solver_paths.faults.PathsFault.{PathsFault}
 use Rattle.desk_lines.specs.declared.solver_paths.faults.PathsFault.TheVariants.{BadPath, BadAgent, TooManyAgents}
 
 -- the path of an edit, where that of the agent `due` is the next
-abbrev pub path_of : ℕ → ℕ → Edit → Result (List Point) PathsFault
-path_of due line (Path agent path) =
+abbrev pub path_told : ℕ → ℕ → Edit → Result (List Point) PathsFault
+path_told due line (Path agent path) =
     if agent == due then (if nat_le MOST_AGENTS due then Err (TooManyAgents line) else unless (path_fault line (length path)) path) else
     Err (BadAgent line)
-path_of due line _ = Err (BadPath line)
+path_told due line _ = Err (BadPath line)
 
 -- the path in what a line asks for; a remark has none
 abbrev pub path_in : ℕ → ℕ → Result Request LineFault → Result (Option (List Point)) PathsFault
 path_in due line (Ok request.Silent) = Ok None
-path_in due line (Ok (request.Edit edit)) = and_then (path_of due line edit) (λ path. Ok (Some path))
+path_in due line (Ok (request.Edit edit)) = and_then (path_told due line edit) (λ path. Ok (Some path))
 path_in due line _ = Err (BadPath line)

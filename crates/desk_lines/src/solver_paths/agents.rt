@@ -1,7 +1,7 @@
 ghost use Rattle.std.specs.Prelude.{◌≡◌, ◌<◌, OnOk};
 ghost use Rattle.std.specs.Option.{option_copied};
 ghost use Rattle.scene_edits.specs.declared.scenes.TheConstants.{MOST_AGENTS};
-ghost use Rattle.desk_lines.specs.SolverPaths.Agents.{cells_behind, path_fault, path_of, path_at};
+ghost use Rattle.desk_lines.specs.SolverPaths.Agents.{cells_behind, path_fault, path_behind, path_at};
 ghost use Rattle.desk_lines.specs.SolverPaths.Answers.{IsRead};
 
 use crate::solver_paths::cells::{Notation, cells_of};
@@ -33,8 +33,8 @@ pub(crate) fn path_fault(line: usize, cells: usize) -> Option<PathsFault>
 }
 
 // The path of those cells.
-fn path_of(alloc: Global, line: usize, cells: &[u8]) -> Result<List<Cell>, PathsFault>
-    ensures { IsRead (path_of line cells.now) result }
+fn path_behind(alloc: Global, line: usize, cells: &[u8]) -> Result<List<Cell>, PathsFault>
+    ensures { IsRead (path_behind line cells.now) result }
 {
     let path = cells_of(alloc, Notation::Arrows, line, cells)?;
     match path_fault(line, path.items().len()) {
@@ -59,5 +59,5 @@ pub(crate) fn path_at(
     if agent >= MOST_AGENTS {
         return Err(PathsFault::TooManyAgents { line });
     }
-    path_of(alloc, line, cells)
+    path_behind(alloc, line, cells)
 }

@@ -1,7 +1,7 @@
 ghost use Rattle.std.specs.Prelude.{◌≡◌, ◌⊎◌, ◌<◌, [], ◌∷◌, ◌++◌, length, Some, None, MatchOption, IfSome, OnOk, IfErr};
 ghost use Rattle.grid_cells.specs.declared.sizes.TheConstants.{MOST_SIDE};
 ghost use Rattle.desk_lines.specs.declared.solver_paths.faults.PathsFault.TheVariants.{BadCell, OutOfMemory};
-ghost use Rattle.desk_lines.specs.SolverPaths.Cells.{join_of, ordered, cell_of, cell_in, parts_of, cells_of};
+ghost use Rattle.desk_lines.specs.SolverPaths.Cells.{join_of, ordered, cell_of, cell_in, parts_of, cells_of, IsBadCell};
 ghost use Rattle.desk_lines.specs.SolverPaths.Answers.{IsRead};
 
 use crate::solver_paths::faults::PathsFault;
@@ -73,7 +73,7 @@ fn add_cell(
     part: &[u8],
 ) -> Result<(), PathsFault>
     ensures ok { OnOk result (MatchOption (cell_in notation front.now part.now) ⊥ (λ cell. cells.new.items ≡ cells.old.items ++ cell ∷ [])) }
-    ensures err { IfErr result (λ fault. (fault ≡ OutOfMemory) ⊎ ((fault ≡ BadCell line (length cells.old.items)) × (cell_in notation front.now part.now ≡ None))) }
+    ensures err { IfErr result (λ fault. (fault ≡ OutOfMemory) ⊎ IsBadCell notation line (length cells.old.items) front.now part.now fault) }
 {
     let Some(cell) = cell_in(notation, front, part) else {
         return Err(PathsFault::BadCell {

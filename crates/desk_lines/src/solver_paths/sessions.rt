@@ -1,7 +1,7 @@
 ghost use Rattle.std.specs.Prelude.{◌≡◌, ◌<◌, IfOk, IfSome};
 ghost use Rattle.scene_edits.specs.declared.scenes.TheConstants.{MOST_AGENTS};
 ghost use Rattle.desk_lines.specs.Requests.{request_of};
-ghost use Rattle.desk_lines.specs.SolverPaths.Sessions.{path_of, path_in};
+ghost use Rattle.desk_lines.specs.SolverPaths.Sessions.{path_told, path_in};
 ghost use Rattle.desk_lines.specs.SolverPaths.Answers.{IsRead};
 
 use crate::requests::{LineFault, Request, read_line};
@@ -12,8 +12,8 @@ use scene_edits::{Edit, MOST_AGENTS};
 use std::alloc::Global;
 
 // The path of an edit, where that agent's is due.
-fn path_of(due: u32, line: usize, edit: Edit) -> Result<List<Cell>, PathsFault>
-    ensures is { result ≡ path_of due line edit }
+fn path_told(due: u32, line: usize, edit: Edit) -> Result<List<Cell>, PathsFault>
+    ensures is { result ≡ path_told due line edit }
     ensures bound { IfOk result (λ _. due < MOST_AGENTS) }
 {
     let Edit::Path { agent, cells } = edit else {
@@ -43,7 +43,7 @@ pub(crate) fn path_in(
 {
     match read_line(alloc, bytes) {
         Ok(Request::Silent) => Ok(None),
-        Ok(Request::Edit(edit)) => Ok(Some(path_of(due, line, edit)?)),
+        Ok(Request::Edit(edit)) => Ok(Some(path_told(due, line, edit)?)),
         Err(LineFault::OutOfMemory) => Err(PathsFault::OutOfMemory),
         Ok(_) | Err(LineFault::Word | LineFault::Shape) => Err(PathsFault::BadPath { line }),
     }
