@@ -1,4 +1,4 @@
-//! What tests of several crates share: values written as text, sources that fail or count their calls,
+//! What tests of several crates share: values written as text, a source that counts its calls,
 //! gates, reports' texts, numbers that look like chance, and a process without memory.
 #![tactic(auto)]
 
@@ -7,7 +7,6 @@ mod droughts;
 mod gates;
 mod places;
 mod reports;
-mod sessions;
 mod streams;
 mod tracks;
 mod values;
@@ -17,7 +16,6 @@ pub use droughts::{Drought, take_all};
 pub use gates::{Meeting, Turnstile};
 pub use places::{are_at, cells_at};
 pub use reports::{KINDS, conflicts_alone, text_of};
-pub use sessions::{GATHERED_COMMIT, Line};
-pub use streams::{Repeated, Torn};
+pub use streams::Repeated;
 pub use tracks::{since, stays};
 pub use values::{cells, edit, edits, open_grid, plan, row, scene, thing};
