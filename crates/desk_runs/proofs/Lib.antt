@@ -1,12 +1,7 @@
-mod Running
-mod Unserved
 mod ScriptSessions
 mod Numbering
 mod Gathering
-mod Coming
-mod Returning
 mod ScriptFaults
 mod Drilled
-mod Stopping
 mod Sitting
 mod Joining

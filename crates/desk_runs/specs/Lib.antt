@@ -1,10 +1,3 @@
-pub mod Opened
-pub mod Runs
-pub mod Sittings
-pub mod Saved
-pub mod Audits
 pub mod Drills
 pub mod DrillFaults
-pub mod Draws
-pub mod Seats
 pub mod Hosts

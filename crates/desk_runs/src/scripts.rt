@@ -6,7 +6,6 @@ ghost use Rattle.desk_runs.specs.Drills.{HasGathered, HasServed, IsSession, MayS
 
 use crate::heard::Heard;
 use crate::hearing::Hearing;
-use crate::serving::BOUNDS;
 use desk_checks::RunFault;
 use desk_report::Tap;
 use desk_serving::{ServeFault, serve};
@@ -17,6 +16,7 @@ use std::snapshot::Snapshot;
 use std::sync::Wait;
 use std::thread;
 use std::thread::{Promise, PromisedHandle, Scope, Threads};
+use text_runs::BOUNDS;
 
 // What the thread of a script gives back: the pass, and how the session ended.
 type Ended = (Pass, Result<u32, ServeFault>);

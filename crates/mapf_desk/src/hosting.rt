@@ -1,13 +1,10 @@
 //! The word `host`.
 use crate::DIFFERS;
-use crate::faults::ProgramFault;
-use crate::saving::save_named;
-use crate::seats::Pipes;
-use crate::serving::limit_of;
 use desk_core::Desk;
 use desk_files::{Detailed, FAULT, More, problem_of, read_named};
 use desk_runs::{Fault, HostEnd, HostFault, RunFault, host_planners, open_desk};
 use desk_words::HostWords;
+use file_runs::{Pipes, ProgramFault, limit_of, save_named};
 use std::process::ExitCode;
 use std::rt::Files;
 use std::sync::Wait;

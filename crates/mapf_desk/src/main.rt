@@ -2,28 +2,16 @@
 //! drills planners that share it, checks the paths that a solver wrote, and draws pictures.
 #![tactic(auto)]
 
-mod auditing;
-mod checking;
-mod drawing;
 mod drilling;
-mod faults;
 mod hosting;
-mod saving;
-mod seats;
-mod serving;
-mod sittings;
 mod tallies;
 
-use auditing::audit_files;
-use checking::check_files;
 use desk_files::{FAULT, More, tell, tell_more, tell_served};
 use desk_runs::{Fault, RunFault};
 use desk_words::{Asked, VERSION, WAITS, Words, read_words};
-use drawing::draw_files;
 use drilling::drill_files;
-use faults::ProgramFault;
+use file_runs::{ProgramFault, audit_files, check_files, draw_files, serve_streams};
 use hosting::host_files;
-use serving::serve_streams;
 use std::env;
 use std::io::{Error, ErrorKind, IsTerminal};
 use std::process::ExitCode;

@@ -3,7 +3,6 @@ ghost use Rattle.std.specs.Prelude.{◌≤◌, IfErr, IfOk};
 ghost use Rattle.desk_runs.specs.Hosts.{Hosts, IsHostFault};
 
 use crate::hosts::comparing::compare;
-use crate::hosts::seats::{Outcome, SeatFault, Seats};
 use crate::hosts::threads::host_threads;
 use desk_core::Desk;
 use desk_shared::SharedDesk;
@@ -11,22 +10,10 @@ use grid_cells::OutOfMemory;
 use std::alloc::Global;
 use std::sync::Wait;
 use std::thread::Threads;
-use thiserror::Error;
+use text_runs::{HostFault, Outcome, SeatFault, Seats};
 
 /// The most planners beside the operator.
 pub const MOST_HOSTED: u32 = 255;
-
-/// Why planners weren't hosted to their end.
-#[derive(Clone, Copy, Debug, PartialEq, Eq, Error)]
-pub enum HostFault {
-    #[error("too many planners")]
-    TooManyPlanners,
-    /// The shared desk did not come back at its end.
-    #[error("pass lost")]
-    PassLost,
-    #[error("out of memory")]
-    OutOfMemory,
-}
 
 /// What came of a desk that was hosted.
 #[derive(Drop)]

@@ -1,0 +1,68 @@
+//! The word `audit`.
+use desk_checks::{Fault, RunFault};
+use desk_files::{More, Texts, finish, read_files, tell_stage};
+use desk_report::Spout;
+use desk_words::AuditWords;
+use std::io;
+use std::io::BufWriter;
+use std::rt::Files;
+use std::sync::Wait;
+use std::thread::Threads;
+use text_runs::run_audit;
+
+/// Audits as the words ask for, onto standard output. Where it is wanted, its stages are told on
+/// standard error.
+///
+/// # Errors
+///
+/// What the words lack, a file that can't be read, or the run's fault.
+pub fn audit_files<'a, R: Files + AllocGlobal + Print + Eprint + Threads + Wait>(
+    rt: &R,
+    words: &AuditWords<'a>,
+    stages: bool,
+    more: &mut More,
+) -> Result<(), Fault<'a>> {
+    if words.agents > 0 && words.scen.is_none() {
+        return Err(Fault::AgentsWithoutScen);
+    }
+    tell_stage(rt, stages, "reading the files");
+    let named = match read_files(rt, Some(words.map), words.scen, words.journal, more) {
+        Ok(named) => named,
+        Err(fault) => return Err(fault),
+    };
+    let ended = audit_texts(rt, named.texts(), words, stages, more);
+    drop(named);
+    match ended {
+        Ok(()) => Ok(()),
+        Err(fault) => Err(Fault::Run(fault)),
+    }
+}
+
+// Audits the texts onto standard output.
+fn audit_texts<R: AllocGlobal + Print + Eprint + Threads + Wait>(
+    rt: &R,
+    texts: Texts<'_>,
+    words: &AuditWords<'_>,
+    stages: bool,
+    more: &mut More,
+) -> Result<(), RunFault> {
+    let alloc = rt.alloc();
+    let Ok(buffered) = BufWriter::new(alloc, io::writer(rt)) else {
+        return Err(RunFault::OutOfMemory);
+    };
+    let mut writer = Spout::new(buffered);
+    let workers = words.workers.clamp(1, 64);
+    tell_stage(rt, stages, "opening the desk, and auditing it");
+    let ended = run_audit(
+        rt,
+        alloc,
+        texts.map.unwrap_or(b""),
+        texts.scen,
+        words.agents,
+        words.mode,
+        texts.journal,
+        workers,
+        &mut writer,
+    );
+    finish(alloc, ended, texts, writer, more)
+}

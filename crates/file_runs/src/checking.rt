@@ -1,0 +1,66 @@
+//! The word `check`.
+use crate::faults::ProgramFault;
+use desk_checks::{CheckFault, Fault, run_check};
+use desk_files::{More, Texts, finish, problem_of, read_files, tell_stage};
+use desk_report::Spout;
+use desk_words::CheckWords;
+use std::io;
+use std::io::BufWriter;
+use std::rt::Files;
+use std::sync::Wait;
+use std::thread::Threads;
+
+/// Checks a solver's paths as the words ask for, onto standard output, and answers whether they
+/// solve the problem. Where it is wanted, its stages are told on standard error.
+///
+/// # Errors
+///
+/// What the words lack, a file that can't be read, or why there is no verdict.
+pub fn check_files<'a, R: Files + AllocGlobal + Print + Eprint + Threads + Wait>(
+    rt: &R,
+    words: &CheckWords<'a>,
+    stages: bool,
+    more: &mut More,
+) -> Result<bool, ProgramFault<'a>> {
+    if words.agents.is_some() && words.scen.is_none() {
+        return Err(ProgramFault::Desk(Fault::AgentsWithoutScen));
+    }
+    tell_stage(rt, stages, "reading the files");
+    let named = match read_files(rt, Some(words.map), words.scen, Some(words.paths), more) {
+        Ok(named) => named,
+        Err(fault) => return Err(ProgramFault::Desk(fault)),
+    };
+    tell_stage(rt, stages, "checking the paths");
+    let checked = check_texts(rt, named.texts(), words, more);
+    drop(named);
+    match checked {
+        Ok(solved) => Ok(solved),
+        Err(fault) => Err(ProgramFault::Check(fault)),
+    }
+}
+
+// Checks the texts onto standard output; in place of a journal there are a solver's paths.
+fn check_texts<R: AllocGlobal + Print + Threads + Wait>(
+    rt: &R,
+    texts: Texts<'_>,
+    words: &CheckWords<'_>,
+    more: &mut More,
+) -> Result<bool, CheckFault> {
+    let alloc = rt.alloc();
+    let Ok(buffered) = BufWriter::new(alloc, io::writer(rt)) else {
+        return Err(CheckFault::OutOfMemory);
+    };
+    let mut writer = Spout::new(buffered);
+    let ended = run_check(
+        rt,
+        alloc,
+        problem_of(texts, words.agents, words.mode),
+        texts.journal.unwrap_or(b""),
+        words.form,
+        words.kinds,
+        words.quiet,
+        words.workers.clamp(1, 64),
+        &mut writer,
+    );
+    finish(alloc, ended, texts, writer, more)
+}

@@ -1,0 +1,77 @@
+//! The word `draw`.
+use crate::faults::ProgramFault;
+use desk_checks::{CheckFault, Fault};
+use desk_files::{More, Texts, finish, problem_of, read_files, tell_stage};
+use desk_pictures::Frame;
+use desk_report::Spout;
+use desk_words::DrawWords;
+use grid_cells::Step;
+use std::io;
+use std::io::BufWriter;
+use std::rt::Files;
+use std::sync::Wait;
+use std::thread::Threads;
+use text_runs::{Courses, run_draw};
+
+/// How many threads make the report.
+const WORKERS: u32 = 4;
+
+// The text that tells where agents go, by the word that names its file.
+fn courses_of<'t>(words: &DrawWords<'_>, text: Option<&'t [u8]>) -> Courses<'t> {
+    match text {
+        Some(paths) if words.paths.is_some() => Courses::Solver(paths),
+        journal => Courses::Journal(journal),
+    }
+}
+
+/// Draws as the words ask for, onto standard output. Where it is wanted, its stages are told on
+/// standard error.
+///
+/// # Errors
+///
+/// What the words lack, a file that can't be read, or why there is no picture.
+pub fn draw_files<'a, R: Files + AllocGlobal + Print + Eprint + Threads + Wait>(
+    rt: &R,
+    words: &DrawWords<'a>,
+    stages: bool,
+    more: &mut More,
+) -> Result<(), ProgramFault<'a>> {
+    if words.agents.is_some() && words.scen.is_none() {
+        return Err(ProgramFault::Desk(Fault::AgentsWithoutScen));
+    }
+    tell_stage(rt, stages, "reading the files");
+    let journal = words.journal.or(words.paths);
+    let named = match read_files(rt, Some(words.map), words.scen, journal, more) {
+        Ok(named) => named,
+        Err(fault) => return Err(ProgramFault::Desk(fault)),
+    };
+    tell_stage(rt, stages, "making the report, and drawing");
+    let ended = draw_texts(rt, named.texts(), words, more);
+    drop(named);
+    match ended {
+        Ok(()) => Ok(()),
+        Err(fault) => Err(ProgramFault::Check(fault)),
+    }
+}
+
+// Draws the texts onto standard output; in place of a journal there may be a solver's paths.
+fn draw_texts<R: AllocGlobal + Print + Threads + Wait>(
+    rt: &R,
+    texts: Texts<'_>,
+    words: &DrawWords<'_>,
+    more: &mut More,
+) -> Result<(), CheckFault> {
+    let alloc = rt.alloc();
+    let frame = Frame {
+        at: words.at.map(Step::new),
+        shown: words.shown,
+    };
+    let Ok(buffered) = BufWriter::new(alloc, io::writer(rt)) else {
+        return Err(CheckFault::OutOfMemory);
+    };
+    let mut writer = Spout::new(buffered);
+    let problem = problem_of(texts, words.agents, words.mode);
+    let courses = courses_of(words, texts.journal);
+    let ended = run_draw(rt, alloc, problem, courses, &frame, WORKERS, &mut writer);
+    finish(alloc, ended, texts, writer, more)
+}

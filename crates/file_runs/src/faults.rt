@@ -1,0 +1,27 @@
+use desk_checks::{CheckFault, Fault};
+use std::fmt::{Display, Error, Formatter, Write};
+use text_runs::HostFault;
+
+/// Why the program did not do what its words ask for.
+#[derive(Drop)]
+pub enum ProgramFault<'a> {
+    /// The words lack something, a file is at fault, or a run has a fault.
+    Desk(Fault<'a>),
+    /// There is no verdict on a solver's paths, or no picture.
+    Check(CheckFault),
+    /// Planners weren't hosted.
+    Host(HostFault),
+    /// Two planners have one name, and so one pair of files.
+    NamedTwice { name: &'a str },
+}
+
+impl<'a> Display for ProgramFault<'a> {
+    fn fmt<W: Write>(&self, f: &mut Formatter<W>) -> Result<(), Error> {
+        match self {
+            ProgramFault::Desk(fault) => fault.fmt(f),
+            ProgramFault::Check(fault) => fault.fmt(f),
+            ProgramFault::Host(fault) => fault.fmt(f),
+            ProgramFault::NamedTwice { name } => write!(f, "a planner named twice, {name}"),
+        }
+    }
+}

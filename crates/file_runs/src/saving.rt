@@ -1,0 +1,111 @@
+//! A file that is whole at any moment.
+use desk_checks::{Fault, RunFault};
+use desk_core::Desk;
+use desk_files::{More, folder_of, told};
+use desk_report::Spout;
+use std::alloc::Global;
+use std::fs;
+use std::fs::OpenFile;
+use std::io::{BufWriter, Error, ErrorKind, Result as Done, Write};
+use std::rt::Files;
+use text_runs::save_desk;
+
+/// Saves a desk's journal in the file: in a new file beside it, which is synced and then takes its
+/// name. So the file is whole at any moment.
+///
+/// # Errors
+///
+/// It can't be saved, and why: the file is then as it was, and the new one is gone; or want of
+/// memory.
+pub fn save_journal<'a, R: Files + AllocGlobal>(
+    rt: &R,
+    desk: &Desk,
+    file: &'a str,
+    more: &mut More,
+) -> Result<(), Fault<'a>> {
+    let Ok(beside) = format!(in rt.alloc(); "{file}.new") else {
+        return Err(Fault::Run(RunFault::OutOfMemory));
+    };
+    let saved = match fs::create(rt, beside.as_str()) {
+        Err(why) => Err(why),
+        Ok(opened) => match replace(rt, desk, opened, beside.as_str(), file) {
+            Ok(()) => Ok(()),
+            Err(why) => {
+                let _gone = fs::remove_file(rt, beside.as_str());
+                Err(why)
+            }
+        },
+    };
+    told(rt.alloc(), saved, file, more)
+}
+
+/// Saves a desk's journal as `save_journal` does, where a file for it is named.
+///
+/// # Errors
+///
+/// As `save_journal`.
+pub fn save_named<'a, R: Files + AllocGlobal>(
+    rt: &R,
+    desk: &Desk,
+    file: Option<&'a str>,
+    more: &mut More,
+) -> Result<(), Fault<'a>> {
+    match file {
+        None => Ok(()),
+        Some(file) => save_journal(rt, desk, file, more),
+    }
+}
+
+// Writes the journal into the new file, and gives that the file's name.
+fn replace<R: Files + AllocGlobal>(
+    rt: &R,
+    desk: &Desk,
+    opened: R::File,
+    beside: &str,
+    file: &str,
+) -> Done<()> {
+    write_whole(rt.alloc(), desk, opened)?;
+    fs::rename(rt, beside, file)?;
+    fs::open(rt, folder_of(file))?.sync_all()
+}
+
+// Writes the journal, to the disk.
+fn write_whole<F: Write + OpenFile + Drop>(alloc: Global, desk: &Desk, opened: F) -> Done<()> {
+    let Ok(writer) = BufWriter::new(alloc, opened) else {
+        return Err(ErrorKind::OutOfMemory.into());
+    };
+    let mut sink = Spout::new(Noting { writer, why: None });
+    let saved = save_desk(desk, &mut sink);
+    let Noting { mut writer, why } = sink.into_inner();
+    if saved.is_err() {
+        return Err(match why {
+            Some(why) => why,
+            None => ErrorKind::WriteZero.into(),
+        });
+    }
+    writer.flush()?;
+    writer.get_ref().sync_all()
+}
+
+// A writer that notes the reason for its last failure.
+#[derive(Drop)]
+struct Noting<W: Write + Drop> {
+    writer: W,
+    why: Option<Error>,
+}
+
+impl<W: Write + Drop> Write for Noting<W> {
+    fn write(&mut self, bytes: &[u8]) -> Done<usize> {
+        match self.writer.write(bytes) {
+            Ok(count) => Ok(count),
+            Err(why) => {
+                self.why = Some(why);
+                Err(why)
+            }
+        }
+    }
+
+    fn flush(&mut self) -> Done<()> {
+        self.writer.flush()
+    }
+}

@@ -1,0 +1,78 @@
+//! A planner's session between two files.
+ghost use Rattle.std.specs.Prelude.{None};
+ghost use Rattle.text_runs.specs.Seats.{IsHeard, Sits};
+
+use desk_commits::Counter;
+use desk_files::{Answers, Lines, Outlet, WholeLines};
+use desk_report::{Sink, Source, Spout};
+use desk_serving::{ServeFault, serve};
+use std::alloc::Global;
+use std::cell::RefCell;
+use std::io::{BufWriter, Read, Write};
+use text_runs::{BOUNDS, Outcome, SeatFault};
+
+/// Serves a session from a reader to a writer, both buffered. What was answered goes out before more
+/// is read, and at the end. Where lines are to be whole, an input that ends within one is broken off:
+/// that line isn't answered.
+///
+/// # Errors
+///
+/// The session's fault, with the system's reason where there is one; or want of memory, and nothing
+/// was heard.
+pub fn sit_between<C: Counter, I: Read + Drop, O: Write + Drop>(
+    alloc: Global,
+    counter: &mut C,
+    input: I,
+    output: O,
+    whole: bool,
+) -> Outcome
+    ensures { Sits C.counting None counter.old counter.new result }
+{
+    let Ok(buffered) = BufWriter::new(alloc, output) else {
+        return Err(SeatFault::OutOfMemory);
+    };
+    let outlet = RefCell::new(Outlet::new(buffered));
+    let Ok(lines) = Lines::new(alloc, input, &outlet) else {
+        return Err(SeatFault::OutOfMemory);
+    };
+    let mut writer = Spout::new(Answers::new(&outlet));
+    let ended = hear_lines(alloc, counter, lines, &mut writer, whole);
+    let (sent, unread) = match outlet.try_borrow_mut() {
+        Ok(mut outlet) => (outlet.send(), outlet.unread()),
+        Err(_) => (Ok(()), None),
+    };
+    match (ended, sent) {
+        (_, Err(why)) => Err(SeatFault::Unsent(why)),
+        (Err(fault), Ok(())) => Err(SeatFault::Session(fault, unread)),
+        (Ok(lines), Ok(())) => Ok(lines),
+    }
+}
+
+// Serves a session of whole lines, or of any.
+fn hear_lines<C: Counter, R: Source + Drop, W: Sink>(
+    alloc: Global,
+    counter: &mut C,
+    reader: R,
+    writer: &mut W,
+    whole: bool,
+) -> Result<u32, ServeFault>
+    ensures { IsHeard C.counting None counter.old counter.new result }
+{
+    if whole {
+        return hear(alloc, counter, &mut WholeLines::new(reader), writer);
+    }
+    let mut reader = reader;
+    hear(alloc, counter, &mut reader, writer)
+}
+
+fn hear<C: Counter, R: Source, W: Sink>(
+    alloc: Global,
+    counter: &mut C,
+    reader: &mut R,
+    writer: &mut W,
+) -> Result<u32, ServeFault>
+    ensures { IsHeard C.counting None counter.old counter.new result }
+{
+    let ended = serve(alloc, counter, reader, writer, BOUNDS);
+    ended
+}

@@ -1,0 +1,5 @@
+mod Running
+pub mod Unserved
+mod Coming
+mod Returning
+mod Stopping

@@ -1,0 +1,21 @@
+//! Runs over texts, each at a desk of its own: the desk that they open, a session, what is saved of it,
+//! an audit and a picture; and the seats of planners who are hosted.
+#![tactic(auto)]
+
+mod auditing;
+mod courses;
+mod drawing;
+mod laws;
+mod opening;
+mod saving;
+mod seats;
+mod serving;
+
+pub use auditing::run_audit;
+pub use courses::Courses;
+pub use drawing::run_draw;
+pub use laws::saved_desks_come_back;
+pub use opening::open_desk;
+pub use saving::save_desk;
+pub use seats::{HostFault, Outcome, SeatFault, Seats};
+pub use serving::{BOUNDS, run_serve, serve_desk};
