@@ -4,10 +4,12 @@
 
 mod auditing;
 mod checking;
+mod closing;
 mod drawing;
 mod faults;
 mod saving;
 mod seats;
+mod sending;
 mod serving;
 mod sittings;
 

@@ -10,61 +10,48 @@ use std::io::{BufWriter, Error, ErrorKind, Result as Done, Write};
 use std::rt::Files;
 use text_runs::save_desk;
 
-/// Saves a desk's journal in the file: in a new file beside it, which is synced and then takes its
-/// name. So the file is whole at any moment.
+/// Saves a desk's journal in the file, where one is named: in a new file beside it, which is synced
+/// and then takes its name. So the file is whole at any moment.
 ///
 /// # Errors
 ///
 /// It can't be saved, and why: the file is then as it was, and the new one is gone; or want of
 /// memory.
-pub fn save_journal<'a, R: Files + AllocGlobal>(
-    rt: &R,
-    desk: &Desk,
-    file: &'a str,
-    more: &mut More,
-) -> Result<(), Fault<'a>> {
-    let Ok(beside) = format!(in rt.alloc(); "{file}.new") else {
-        return Err(Fault::Run(RunFault::OutOfMemory));
-    };
-    let saved = match fs::create(rt, beside.as_str()) {
-        Err(why) => Err(why),
-        Ok(opened) => match replace(rt, desk, opened, beside.as_str(), file) {
-            Ok(()) => Ok(()),
-            Err(why) => {
-                let _gone = fs::remove_file(rt, beside.as_str());
-                Err(why)
-            }
-        },
-    };
-    told(rt.alloc(), saved, file, more)
-}
-
-/// Saves a desk's journal as `save_journal` does, where a file for it is named.
-///
-/// # Errors
-///
-/// As `save_journal`.
 pub fn save_named<'a, R: Files + AllocGlobal>(
     rt: &R,
     desk: &Desk,
     file: Option<&'a str>,
     more: &mut More,
 ) -> Result<(), Fault<'a>> {
-    match file {
-        None => Ok(()),
-        Some(file) => save_journal(rt, desk, file, more),
-    }
+    let Some(file) = file else {
+        return Ok(());
+    };
+    let Ok(beside) = format!(in rt.alloc(); "{file}.new") else {
+        return Err(Fault::Run(RunFault::OutOfMemory));
+    };
+    let saved = save_beside(rt, desk, beside.as_str(), file);
+    told(rt.alloc(), saved, file, more)
 }
 
-// Writes the journal into the new file, and gives that the file's name.
-fn replace<R: Files + AllocGlobal>(
-    rt: &R,
-    desk: &Desk,
-    opened: R::File,
-    beside: &str,
-    file: &str,
-) -> Done<()> {
-    write_whole(rt.alloc(), desk, opened)?;
+// Saves a desk's journal in the file, by way of the new one.
+fn save_beside<R: Files + AllocGlobal>(rt: &R, desk: &Desk, beside: &str, file: &str) -> Done<()> {
+    let opened = fs::create(rt, beside)?;
+    let written = write_whole(rt.alloc(), desk, opened);
+    replace_or_remove(rt, written, beside, file)
+}
+
+// Gives the new file the file's name, and removes it where that fails, or it wasn't written.
+fn replace_or_remove<R: Files>(rt: &R, written: Done<()>, beside: &str, file: &str) -> Done<()> {
+    let replaced = replace(rt, written, beside, file);
+    if replaced.is_err() {
+        let _gone = fs::remove_file(rt, beside);
+    }
+    replaced
+}
+
+// Gives the new file the file's name, where it was written.
+fn replace<R: Files>(rt: &R, written: Done<()>, beside: &str, file: &str) -> Done<()> {
+    written?;
     fs::rename(rt, beside, file)?;
     fs::open(rt, folder_of(file))?.sync_all()
 }

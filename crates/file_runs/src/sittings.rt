@@ -2,6 +2,7 @@
 ghost use Rattle.std.specs.Prelude.{None};
 ghost use Rattle.text_runs.specs.Seats.{IsHeard, Sits};
 
+use crate::sending::send_last;
 use desk_commits::Counter;
 use desk_files::{Answers, Lines, Outlet, WholeLines};
 use desk_report::{Sink, Source, Spout};
@@ -28,19 +29,65 @@ pub fn sit_between<C: Counter, I: Read + Drop, O: Write + Drop>(
 ) -> Outcome
     ensures { Sits C.counting None counter.old counter.new result }
 {
-    let Ok(buffered) = BufWriter::new(alloc, output) else {
-        return Err(SeatFault::OutOfMemory);
-    };
+    match BufWriter::new(alloc, output) {
+        Ok(buffered) => sit_buffered(alloc, counter, input, buffered, whole),
+        Err(_) => {
+            drop(input);
+            Err(SeatFault::OutOfMemory)
+        }
+    }
+}
+
+// Serves a session from a reader to a writer in a buffer, which goes out at the end.
+fn sit_buffered<C: Counter, I: Read + Drop, O: Write + Drop>(
+    alloc: Global,
+    counter: &mut C,
+    input: I,
+    buffered: BufWriter<O>,
+    whole: bool,
+) -> Outcome
+    ensures { Sits C.counting None counter.old counter.new result }
+{
     let outlet = RefCell::new(Outlet::new(buffered));
-    let Ok(lines) = Lines::new(alloc, input, &outlet) else {
-        return Err(SeatFault::OutOfMemory);
-    };
-    let mut writer = Spout::new(Answers::new(&outlet));
-    let ended = hear_lines(alloc, counter, lines, &mut writer, whole);
-    let (sent, unread) = match outlet.try_borrow_mut() {
-        Ok(mut outlet) => (outlet.send(), outlet.unread()),
-        Err(_) => (Ok(()), None),
-    };
+    let ended = sit_before(alloc, counter, input, &outlet, whole);
+    drop(outlet);
+    ended
+}
+
+// Serves a session from a reader to an outlet.
+fn sit_before<C: Counter, I: Read + Drop, O: Write + Drop>(
+    alloc: Global,
+    counter: &mut C,
+    input: I,
+    outlet: &RefCell<Outlet<O>>,
+    whole: bool,
+) -> Outcome
+    ensures { Sits C.counting None counter.old counter.new result }
+{
+    match Lines::new(alloc, input, outlet) {
+        Ok(lines) => hear_out(alloc, counter, lines, outlet, whole),
+        Err(_) => Err(SeatFault::OutOfMemory),
+    }
+}
+
+// Serves a session of lines to an outlet, and sends the last answers.
+fn hear_out<C: Counter, R: Source + Drop, O: Write + Drop>(
+    alloc: Global,
+    counter: &mut C,
+    lines: R,
+    outlet: &RefCell<Outlet<O>>,
+    whole: bool,
+) -> Outcome
+    ensures { Sits C.counting None counter.old counter.new result }
+{
+    let ended = hear_lines(
+        alloc,
+        counter,
+        lines,
+        &mut Spout::new(Answers::new(outlet)),
+        whole,
+    );
+    let (sent, unread) = send_last(outlet);
     match (ended, sent) {
         (_, Err(why)) => Err(SeatFault::Unsent(why)),
         (Err(fault), Ok(())) => Err(SeatFault::Session(fault, unread)),

@@ -1,0 +1,101 @@
+//! What is done at a session's end.
+use crate::saving::save_named;
+use desk_checks::{Fault, RunFault};
+use desk_core::Desk;
+use desk_files::{Detailed, More, Texts, tell_more};
+use desk_serving::ServeFault;
+use std::alloc::Global;
+use std::io::{Error, Result as Done};
+use std::rt::Files;
+
+/// The fault of a session that ended so.
+pub fn fault_of(ended: Result<u32, ServeFault>) -> Option<RunFault> {
+    match ended {
+        Ok(_) => None,
+        Err(fault) => Some(RunFault::from(fault)),
+    }
+}
+
+/// The session's fault, where it has one.
+pub fn outcome_of<'a>(fault: Option<RunFault>) -> Result<(), Fault<'a>> {
+    match fault {
+        None => Ok(()),
+        Some(fault) => Err(Fault::Run(fault)),
+    }
+}
+
+/// A session's fault, by how its last answers went out and why its input could not be read; what
+/// more is known of it is noted.
+pub fn note_end(
+    alloc: Global,
+    fault: Option<RunFault>,
+    last: (Done<()>, Option<Error>),
+    texts: Texts<'_>,
+    more: &mut More,
+) -> Option<RunFault> {
+    let (fault, why) = with_reason(fault, last);
+    match (fault, why) {
+        (None, _) => (),
+        (Some(_), Some(why)) => more.reason(alloc, &why),
+        (Some(fault), None) => more.put(fault.more(alloc, texts)),
+    }
+    fault
+}
+
+// A session's fault, and the system's reason for that.
+fn with_reason(
+    fault: Option<RunFault>,
+    last: (Done<()>, Option<Error>),
+) -> (Option<RunFault>, Option<Error>) {
+    let (sent, unread) = last;
+    if let Err(why) = sent {
+        return (Some(RunFault::Serve(ServeFault::WriteFailed)), Some(why));
+    }
+    if fault == Some(RunFault::Serve(ServeFault::ReadFailed)) {
+        return (fault, unread);
+    }
+    (fault, None)
+}
+
+/// Saves the desk that a session left, where a file for it is named, and lets it go.
+///
+/// # Errors
+///
+/// The session's fault, or that of the save: where both have one, that of the session is told here.
+pub fn end_desk<'a, R: Files + AllocGlobal + Eprint>(
+    rt: &R,
+    desk: Desk,
+    fault: Option<RunFault>,
+    file: Option<&'a str>,
+    more: &mut More,
+    verbose: bool,
+) -> Result<(), Fault<'a>> {
+    let mut unsaved = More::none();
+    let saved = save_named(rt, &desk, file, &mut unsaved);
+    drop(desk);
+    match saved {
+        Ok(()) => {
+            drop(unsaved);
+            outcome_of(fault)
+        }
+        Err(later) => {
+            tell_before(rt, fault, unsaved, more, verbose);
+            Err(later)
+        }
+    }
+}
+
+// Tells a session's fault, of which more is known, where the save has one too; then that is known of
+// the save's.
+fn tell_before<R: Eprint>(
+    rt: &R,
+    fault: Option<RunFault>,
+    unsaved: More,
+    more: &mut More,
+    verbose: bool,
+) {
+    if let Some(fault) = &fault {
+        let _status = tell_more(rt, fault, more, verbose);
+    }
+    *more = unsaved;
+}
