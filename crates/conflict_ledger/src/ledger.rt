@@ -19,10 +19,19 @@ use std::marker::Model;
 use where_index::WhereIndex;
 
 /// The conflict entries of the fleet of an index, kept while agents come, go and change tracks.
-#[derive(Drop)]
 pub struct ConflictLedger {
     alloc: Global,
     kept: BTreeSet<Conflict>,
+}
+
+// How the parts are dropped is proved here, and in no crate that drops one.
+impl Drop for ConflictLedger {
+    fn drop(self) {
+        let ConflictLedger {
+            alloc: _,
+            kept: _kept,
+        } = self;
+    }
 }
 
 impl Model for ConflictLedger {

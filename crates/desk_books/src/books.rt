@@ -21,12 +21,23 @@ use std::marker::Model;
 
 /// What is kept of a scene: where its agents stand and move, their conflict entries, costs and
 /// blocked visits, the distances to their goals, and from a report to a flip of a cell their lines.
-#[derive(Drop)]
 pub struct Books {
     pub(crate) alloc: Global,
     pub(crate) fleet: FleetBooks,
     pub(crate) prices: PriceBooks,
     pub(crate) lines: Option<Lines>,
+}
+
+// How the parts are dropped is proved here, and in no crate that drops one.
+impl Drop for Books {
+    fn drop(self) {
+        let Books {
+            alloc: _,
+            fleet: _fleet,
+            prices: _prices,
+            lines: _lines,
+        } = self;
+    }
 }
 
 impl Model for Books {
@@ -61,6 +72,19 @@ impl Books {
             }
         }
         Ok(books)
+    }
+
+    // Their parts.
+    pub(crate) fn into_parts(self) -> (Global, FleetBooks, PriceBooks, Option<Lines>)
+        ensures { self ≡ record { fleet = result.1; prices = result.2; lines = result.3 } }
+    {
+        let Books {
+            alloc,
+            fleet,
+            prices,
+            lines,
+        } = self;
+        (alloc, fleet, prices, lines)
     }
 
     /// Takes in what edits changed; `scene` is the edited scene. It visits the field of every goal,
@@ -100,11 +124,6 @@ impl Books {
         let report = self.report_by(&lines, scene);
         drop(self.lines.replace(lines));
         report
-    }
-
-    /// Lets the books go. How each of their parts is dropped is proved here, and in no crate above.
-    pub fn let_go(self) {
-        drop(self);
     }
 
     /// The distance in steps of the cell to the goal of an agent of the scene, if there is one.

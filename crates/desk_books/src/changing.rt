@@ -40,12 +40,7 @@ impl Books {
         requires inside { Holds scene.now.grid.size row.now.goal }
         ensures { IfOk result (Renews scene.now.mode scene.now.grid agent None (Some row.now) self) }
     {
-        let Books {
-            alloc,
-            fleet,
-            prices,
-            lines,
-        } = self;
+        let (alloc, fleet, prices, lines) = self.into_parts();
         let Ok(fleet) = fleet.admit(agent, row.track(scene.mode())) else {
             drop(prices);
             drop(lines);
@@ -75,12 +70,7 @@ impl Books {
     ) -> Result<Books, OutOfMemory>
         ensures { IfOk result (Renews scene.now.mode scene.now.grid agent (Some (record { goal = goal; plan = plan.now })) None self) }
     {
-        let Books {
-            alloc,
-            fleet,
-            mut prices,
-            lines,
-        } = self;
+        let (alloc, fleet, mut prices, lines) = self.into_parts();
         let Ok(fleet) = fleet.retract(agent, track_of(goal, plan, scene.mode())) else {
             drop(prices);
             drop(lines);
@@ -111,12 +101,7 @@ impl Books {
     {
         let mode = scene.mode();
         let was = track_of(old.goal, old.plan, mode);
-        let Books {
-            alloc,
-            fleet,
-            prices,
-            lines,
-        } = self;
+        let (alloc, fleet, prices, lines) = self.into_parts();
         let Ok(fleet) = fleet.revise(agent, was, row.track(mode), old.alike) else {
             drop(prices);
             drop(lines);

@@ -20,12 +20,7 @@ impl Books {
         ensures { IfOk result (λ books. (old : Chart) (rows : Rows) → Keep scene.now.mode old rows self
             → old.size ≡ scene.now.grid.size → Covers cells.now old scene.now.grid → Keep scene.now.mode scene.now.grid rows books) }
     {
-        let Books {
-            alloc,
-            fleet,
-            prices,
-            lines,
-        } = self;
+        let (alloc, fleet, prices, lines) = self.into_parts();
         let lines = unflipped(lines, cells, &prices, scene.grid());
         let Ok(prices) = prices.flip(alloc, cells, &fleet, scene.grid()) else {
             drop(fleet);

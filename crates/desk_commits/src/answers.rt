@@ -43,10 +43,20 @@ impl From<OutOfMemory> for AskFault {
 }
 
 /// The report of the desk's scene, at that version.
-#[derive(Drop, PartialEq)]
+#[derive(PartialEq)]
 pub struct Reading {
     pub version: u64,
     pub report: Report,
+}
+
+// How the parts are dropped is proved here, and in no crate that drops one.
+impl Drop for Reading {
+    fn drop(self) {
+        let Reading {
+            version: _,
+            report: _report,
+        } = self;
+    }
 }
 
 /// A copy of the desk's scene, at that version.

@@ -22,12 +22,24 @@ pub enum CommitFault {
 
 /// Edits that a planner asks for, all or none, made on the version `base` of the desk. They are
 /// refused where an entry after it names one of their things or of the things watched.
-#[derive(Debug, Drop, PartialEq)]
+#[derive(Debug, PartialEq)]
 pub struct Commit {
     planner: Planner,
     base: u64,
     watch: List<Thing>,
     edits: List<Edit>,
+}
+
+// How the parts are dropped is proved here, and in no crate that drops one.
+impl Drop for Commit {
+    fn drop(self) {
+        let Commit {
+            planner: _,
+            base: _,
+            watch: _watch,
+            edits: _edits,
+        } = self;
+    }
 }
 
 impl Model for Commit {
@@ -111,7 +123,12 @@ impl Commit {
         ensures watch { result.0.items ≡ self.watch }
         ensures edits { result.1.items ≡ self.edits }
     {
-        let Commit { watch, edits, .. } = self;
+        let Commit {
+            planner: _,
+            base: _,
+            watch,
+            edits,
+        } = self;
         (watch.into_items(), edits.into_items())
     }
 }

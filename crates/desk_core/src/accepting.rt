@@ -77,9 +77,7 @@ impl Desk {
         match self.scene.apply_all(commit.edits()) {
             Ok(changes) => {
                 let books = followed(self.books.take(), changes.items(), &self.scene);
-                if let Some(before) = replace(&mut self.books, books) {
-                    before.let_go();
-                }
+                drop(replace(&mut self.books, books));
             }
             Err(EditsFault::Faulty { index, why }) => {
                 return Err((Refusal::Faulty { index, why }, commit));

@@ -33,12 +33,9 @@ impl Drop for Desk {
             journal: _journal,
             limit: _,
             stamps: _stamps,
-            books,
+            books: _books,
             builds: _builds,
         } = self;
-        if let Some(books) = books {
-            books.let_go();
-        }
     }
 }
 
@@ -177,9 +174,7 @@ impl Desk {
         requires { AreOf self.old.scene books }
         ensures { self.new ≡ self.old }
     {
-        if let Some(before) = self.books.replace(books) {
-            before.let_go();
-        }
+        drop(self.books.replace(books));
     }
 
     // The books of the scene: those that stand, and else new ones. None stand until they are put back.

@@ -18,7 +18,7 @@ pub struct AgentLine {
 
 /// What is said of a map and a fleet's plans. The totals are given only where every agent has what
 /// they are made of.
-#[derive(Drop, PartialEq)]
+#[derive(PartialEq)]
 pub struct Report {
     pub conflicts: List<Conflict>,
     pub visits: List<Visit>,
@@ -27,6 +27,21 @@ pub struct Report {
     pub makespan: Option<u32>,
     pub bounds: Option<u64>,
     pub total_gap: Option<u64>,
+}
+
+// How the parts are dropped is proved here, and in no crate that drops one.
+impl Drop for Report {
+    fn drop(self) {
+        let Report {
+            conflicts: _conflicts,
+            visits: _visits,
+            lines: _lines,
+            sum: _,
+            makespan: _,
+            bounds: _,
+            total_gap: _,
+        } = self;
+    }
 }
 
 impl Report {

@@ -24,10 +24,19 @@ use std::sync::Wait;
 ///
 /// A call has the turn for one call of the desk, and gives it back whatever is answered. A thread
 /// that waits for the turn sleeps.
-#[derive(Drop)]
 pub struct SharedDesk {
     table: Top,
     planners: u32,
+}
+
+// How the table is dropped is proved here, and in no crate that drops one.
+impl Drop for SharedDesk {
+    fn drop(self) {
+        let SharedDesk {
+            table: _table,
+            planners: _,
+        } = self;
+    }
 }
 
 impl Model for SharedDesk {
@@ -145,7 +154,7 @@ impl SharedDesk {
         requires owned { Owns self pass }
         ensures { IfOk result (IsClosed pass.known) }
     {
-        let SharedDesk { table, .. } = self;
+        let SharedDesk { table, planners: _ } = self;
         let Pass { place, .. } = pass;
         let mut closed = table.close_with(place);
         let turn = closed.word(1);

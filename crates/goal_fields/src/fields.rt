@@ -19,12 +19,23 @@ use std::marker::Model;
 
 /// A field for each distinct goal that is held, all of them on one grid: the distances to each goal, and
 /// once the map, with the queue that is lent to each of them in turn while it is repaired.
-#[derive(Drop)]
 pub struct Fields {
     alloc: Global,
     ranks: Vec<u32>,
     fields: Vec<Distances>,
     room: Option<Lifelong>,
+}
+
+// How the parts are dropped is proved here, and in no crate that drops one.
+impl Drop for Fields {
+    fn drop(self) {
+        let Fields {
+            alloc: _,
+            ranks: _ranks,
+            fields: _fields,
+            room: _room,
+        } = self;
+    }
 }
 
 // Clauses see the fields, in the order of their goals, and how many cells the queue has taken in all.

@@ -18,9 +18,16 @@ pub struct Row {
 }
 
 /// The rows of agents, by agent.
-#[derive(Debug, Drop)]
+#[derive(Debug)]
 pub struct Plans {
     rows: Vec<(Agent, Row)>,
+}
+
+// How the parts are dropped is proved here, and in no crate that drops one.
+impl Drop for Plans {
+    fn drop(self) {
+        let Plans { rows: _rows } = self;
+    }
 }
 
 impl Model for Plans {

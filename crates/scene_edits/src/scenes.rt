@@ -16,9 +16,16 @@ use std::marker::Model;
 pub const MOST_AGENTS: u32 = 8_192;
 
 /// A map, the goals and plans of the agents on it, and what an agent does at the end of its path.
-#[derive(Debug, Drop)]
+#[derive(Debug)]
 pub struct Scene {
     pub(crate) board: Board,
+}
+
+// How the parts are dropped is proved here, and in no crate that drops one.
+impl Drop for Scene {
+    fn drop(self) {
+        let Scene { board: _board } = self;
+    }
 }
 
 impl Model for Scene {
@@ -81,8 +88,9 @@ impl Scene {
     pub fn with_mode(self, mode: Mode) -> Scene
         ensures { result ≡ record self { mode = mode } }
     {
+        let Scene { board } = self;
         Scene {
-            board: Board { mode, ..self.board },
+            board: Board { mode, ..board },
         }
     }
 

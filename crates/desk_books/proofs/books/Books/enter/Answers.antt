@@ -11,7 +11,7 @@ use Rattle.desk_books.proofs.books.Books.enter.Goals as goal
 
 pub with_line-lines-requires : goal.with_line-lines-requires
 with_line-lines-requires c =
-    let was = rw (← c.self.view_is) at c.requires.know.keep in
+    let was = rw c.into_parts-fleet.ensures at c.requires.know.keep in
     let rows = c.requires.know.rows in
     let prices = c.in-Ok-put.ensures.kept rows (rw c.grid.ensures.grid was.prices) in
     rw c.fields.ensures ((prices.goals c.args.row.now.goal).1 (c.args.agent, record { row = c.args.row.now; live = in_place rows c.args.agent (Some c.args.row.now); aims = refl }))
@@ -19,7 +19,7 @@ with_line-lines-requires c =
 pub returns : goal.returns
 returns c = λ rows keep has.
     let mode = c.args.scene.now.mode in
-    let was = rw (← c.self.view_is) at keep in
+    let was = rw c.into_parts-fleet.ensures at keep in
     let route : route_of c.track.result ≡ route_in mode c.args.row.now = c.track.ensures ∙ ap (λ (m : Mode). route_in m c.args.row.now) c.mode.ensures in
     let entered = c.in-Ok.ensures.books (fleet_of mode rows) was.fleet (ap (option_map (route_in mode)) has) in
     let fleet = subst (λ (r : Route). fleets.AreOf (with_route (fleet_of mode rows) c.args.agent (Some r)) c.in-Ok.fleet) route entered in

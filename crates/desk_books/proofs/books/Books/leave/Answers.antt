@@ -11,7 +11,7 @@ pub returns : goal.returns
 returns c = λ rows keep has.
     let mode = c.args.scene.now.mode in
     let old : Row = record { goal = c.args.goal; plan = c.args.plan.now } in
-    let was = rw (← c.self.view_is) at keep in
+    let was = rw c.into_parts-fleet.ensures at keep in
     let route : route_of c.track_of.result ≡ route_in mode old = c.track_of.ensures ∙ ap (λ (m : Mode). route_in m old) c.mode.ensures in
     let fleet = c.in-Ok.ensures.books (fleet_of mode rows) was.fleet (ap (option_map (route_in mode)) has ∙ ap Some (sym route)) in
     let prices = c.take.ensures.kept c.args.scene.now.grid rows was.prices (record { row = old; live = has; aims = refl }) in

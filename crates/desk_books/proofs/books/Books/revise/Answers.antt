@@ -19,7 +19,7 @@ reprice-requires-clause-know c = grind (arith, nat_tests, common_steps, gets)
 
 pub with_line-lines-requires : goal.with_line-lines-requires
 with_line-lines-requires c =
-    let was = rw (← c.self.view_is) at c.requires.know.keep in
+    let was = rw c.into_parts-fleet.ensures at c.requires.know.keep in
     let rows = c.requires.know.rows in
     let prices = c.in-Ok-reprice.ensures rows (rw c.grid.ensures.grid was.prices) c.requires.know.has in
     rw c.fields.ensures ((prices.goals c.args.row.now.goal).1 (c.args.agent, record { row = c.args.row.now; live = in_place rows c.args.agent (Some c.args.row.now); aims = refl }))
@@ -28,7 +28,7 @@ pub returns : goal.returns
 returns c = λ rows keep has.
     let mode = c.args.scene.now.mode in
     let old : Row = as_row c.args.old.now in
-    let was = rw (← c.self.view_is) at keep in
+    let was = rw c.into_parts-fleet.ensures at keep in
     let before : route_of c.track_of-was.result ≡ route_in mode old = c.track_of-was.ensures ∙ ap (λ (m : Mode). route_in m old) c.mode-mode.ensures in
     let route : route_of c.track.result ≡ route_in mode c.args.row.now = c.track.ensures ∙ ap (λ (m : Mode). route_in m c.args.row.now) c.mode-mode.ensures in
     let revised = c.in-Ok.ensures.books (fleet_of mode rows) was.fleet (ap (option_map (route_in mode)) has ∙ ap Some (sym before)) in
