@@ -6,3 +6,5 @@ pub mod CheckTimes
 pub mod CheckTexts
 pub mod CheckFaults
 pub mod Checks
+pub mod Bounds
+pub mod Seats

@@ -1,15 +1,22 @@
 //! What needs no desk of what the program's words do, over texts: a verdict on a solver's paths, the
-//! scene of a map and a scenario, reports from scratch, and the faults of runs.
+//! scene of a map and a scenario, reports from scratch, the bounds and the faults of runs, what seats
+//! planners, and who hears the answers of a drill.
 #![tactic(auto)]
 
 mod bounds;
 mod checks;
 mod faults;
+mod heard;
+mod hearing;
 mod reporting;
 mod scenes;
+mod seats;
 
-pub use bounds::MOST_BYTES;
+pub use bounds::{BOUNDS, MOST_BYTES, MOST_LINES};
 pub use checks::{CheckFault, fault_word, planned_scene, run_check};
 pub use faults::{Fault, RunFault};
+pub use heard::Heard;
+pub use hearing::{Hearing, MOST_HEARD};
 pub use reporting::{is_same, put_report, report_of};
 pub use scenes::{Problem, scene_of};
+pub use seats::{HostFault, Outcome, SeatFault, Seats};

@@ -55,3 +55,30 @@ pub fn named_bytes<'a, R: Files + AllocGlobal>(
         },
     }
 }
+
+/// The bytes of the files, in their order.
+///
+/// # Errors
+///
+/// Those of `file_bytes`, at the first file that has one; or want of memory.
+pub fn all_bytes<'a, R: Files + AllocGlobal>(
+    rt: &R,
+    files: &[&'a str],
+    more: &mut More,
+) -> Result<Vec<Vec<u8>>, Fault<'a>> {
+    let mut all = Vec::new(rt.alloc());
+    for file in files {
+        let bytes = match file_bytes(rt, file, more) {
+            Ok(bytes) => bytes,
+            Err(fault) => {
+                drop(all);
+                return Err(fault);
+            }
+        };
+        if let Err(_refused) = all.push(bytes) {
+            drop(all);
+            return Err(Fault::Run(RunFault::OutOfMemory));
+        }
+    }
+    Ok(all)
+}

@@ -1,4 +1,5 @@
-//! The program's files and streams, and what it tells of a fault.
+//! The program's files and streams, the seats of planners at pipes, and what it tells of a fault and of
+//! a drill.
 #![tactic(auto)]
 
 mod details;
@@ -7,18 +8,25 @@ mod files;
 mod finishing;
 mod looking;
 mod named;
+mod seats;
+mod sending;
+mod sittings;
 mod stages;
 mod streams;
+mod tallies;
 mod telling;
 mod whole_lines;
 
 pub use details::{Detailed, Texts, problem_of};
 pub use doors::{Doors, Stage};
-pub use files::{file_bytes, named_bytes};
+pub use files::{all_bytes, file_bytes, named_bytes};
 pub use finishing::finish;
 pub use looking::{folder_of, look_ahead, told};
 pub use named::{Named, read_files, read_named};
+pub use seats::Pipes;
+pub use sending::send_last;
 pub use stages::tell_stage;
 pub use streams::{Answers, Lines, Outlet};
+pub use tallies::Tallies;
 pub use telling::{FAULT, More, tell, tell_more, tell_served};
 pub use whole_lines::WholeLines;

@@ -13,7 +13,7 @@ use Rattle.desk_runs.proofs.Gathering.{own_at, own_kept, one_more_joined}
 use Rattle.desk_shared.specs.Windows.{window_on}
 use Rattle.desk_runs.specs.Hosts.{AreSeated, HasHosted, Hosts, Inputs, IsCompared, IsEnded, IsSeated}
 use Rattle.desk_runs.specs.declared.hosts.hosting.HostEnd.{HostEnd}
-use Rattle.text_runs.specs.declared.seats.SeatFault.{SeatFault}
+use Rattle.desk_checks.specs.declared.seats.SeatFault.{SeatFault}
 use Rattle.desk_runs.proofs.ScriptSessions.{IsPrefix-trans}
 use Rattle.desk_runs.proofs.Sitting.{sat_same}
 

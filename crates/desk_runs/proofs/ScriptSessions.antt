@@ -13,7 +13,7 @@ use Rattle.desk_shared.specs.Passes.{PassState, Held, Sharing, own_of}
 use Rattle.desk_shared.specs.Windows.{WindowState, window_on, window_counting}
 use Rattle.desk_shared.proofs.SameWindow.{window_stays}
 use Rattle.desk_runs.specs.Drills.{IsSession, IsServed, AreServed, texts_of}
-use Rattle.text_runs.specs.Runs.{run_bounds}
+use Rattle.desk_checks.specs.Bounds.{run_bounds}
 use Rattle.desk_runs.proofs.Numbering.{IsGiven}
 
 pub IsPrefix-trans : {A : Type 0} (xs ys zs : List A) → IsPrefix xs ys → IsPrefix ys zs → IsPrefix xs zs

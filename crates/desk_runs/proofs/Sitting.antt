@@ -5,11 +5,11 @@ use Rattle.desk_serving.specs.declared.drafts.Session.TheVariants.{Idle}
 use Rattle.desk_shared.specs.Passes.{Held, Sharing}
 use Rattle.desk_shared.specs.Windows.{WindowState, window_on, window_counting}
 use Rattle.desk_serving.proofs.Staying.{IsKept, serves}
-use Rattle.text_runs.specs.Runs.{run_bounds}
+use Rattle.desk_checks.specs.Bounds.{run_bounds}
 use Rattle.desk_runs.specs.Hosts.{IsEnded}
-use Rattle.text_runs.specs.Seats.{IsHeard, Sits}
-use Rattle.text_runs.specs.declared.seats.SeatFault.{SeatFault}
-use Rattle.text_runs.specs.declared.seats.SeatFault.TheVariants as seat
+use Rattle.desk_checks.specs.Seats.{IsHeard, Sits}
+use Rattle.desk_checks.specs.declared.seats.SeatFault.{SeatFault}
+use Rattle.desk_checks.specs.declared.seats.SeatFault.TheVariants as seat
 
 -- a window that is still on its desk, for its planner, with what was joined into its pass
 pub record IsSameSeat (old new : WindowState) : Type 0 where

@@ -23,7 +23,7 @@ use Rattle.desk_serving.specs.declared.drafts.Session.TheVariants.{Idle}
 use Rattle.desk_shared.specs.Windows.{window_counting}
 use Rattle.desk_checks.specs.Opens.{Opens}
 use Rattle.desk_checks.specs.Reported.{reported_text}
-use Rattle.text_runs.specs.Runs.{run_bounds}
+use Rattle.desk_checks.specs.Bounds.{run_bounds}
 
 -- the pass may give away the numbers from the first up to the planners, and no others
 abbrev pub KeepsFrom : ℕ → ℕ → List Bool → Type 0

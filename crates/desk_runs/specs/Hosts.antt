@@ -11,12 +11,12 @@ use Rattle.desk_commits.specs.declared.answers.Reading.{Reading}
 use Rattle.desk_shared.specs.Passes.{PassState, Held, Sharing, Owns, own_of, version_at, AreOfPlanners, HasJust}
 use Rattle.desk_shared.specs.Windows.{window_counting, window_on}
 use Rattle.desk_runs.specs.Drills.{AreJoined}
-use Rattle.text_runs.specs.Seats.{Sits}
+use Rattle.desk_checks.specs.Seats.{Sits}
 use Rattle.desk_runs.specs.declared.hosts.hosting.HostEnd.{HostEnd}
-use Rattle.text_runs.specs.declared.seats.HostFault.{HostFault}
-use Rattle.text_runs.specs.declared.seats.HostFault.TheVariants.{TooManyPlanners, PassLost, OutOfMemory}
+use Rattle.desk_checks.specs.declared.seats.HostFault.{HostFault}
+use Rattle.desk_checks.specs.declared.seats.HostFault.TheVariants.{TooManyPlanners, PassLost, OutOfMemory}
 use Rattle.desk_runs.specs.declared.hosts.hosting.TheConstants.{MOST_HOSTED}
-use Rattle.text_runs.specs.declared.seats.SeatFault.{SeatFault}
+use Rattle.desk_checks.specs.declared.seats.SeatFault.{SeatFault}
 
 -- what each planner writes, by its number, where it is told
 abbrev pub Inputs : Type 0

@@ -4,12 +4,12 @@ ghost use Rattle.desk_runs.specs.Drills.{ComesTo, Drills, texts_of};
 ghost use Rattle.desk_checks.specs.Faults.{is_write_fault};
 ghost use Rattle.desk_checks.specs.Opens.{bytes_of};
 
-use crate::hearing::{AtGate, Hearing};
+use crate::hearing::AtGate;
 use crate::reporting::put_drill;
 use crate::scripts::serve_scripts;
 use crate::sharing::{end_sharing, last_report, share};
 use desk_audit::Gate;
-use desk_checks::{Problem, RunFault, is_same, scene_of};
+use desk_checks::{Hearing, Problem, RunFault, is_same, scene_of};
 use desk_core::Reading;
 use desk_report::{Report, Sink, WriteFailed};
 use plan_table::Mode;

@@ -4,18 +4,19 @@
 #![tactic(auto)]
 
 mod drilling;
-mod heard;
 mod hearing;
 mod hosts;
 mod reporting;
 mod scripts;
 mod sharing;
 
-pub use desk_checks::{CheckFault, Fault, MOST_BYTES, Problem, RunFault, fault_word, run_check};
+pub use desk_checks::{
+    BOUNDS, CheckFault, Fault, Hearing, HostFault, MOST_BYTES, MOST_HEARD, Outcome, Problem,
+    RunFault, SeatFault, Seats, fault_word, run_check,
+};
 pub use drilling::{MOST_SCRIPTS, hear_drill, run_drill};
-pub use hearing::{Hearing, MOST_HEARD};
 pub use hosts::{HostEnd, MOST_HOSTED, host_planners};
 pub use text_runs::{
-    BOUNDS, Courses, HostFault, Outcome, SeatFault, Seats, open_desk, run_audit, run_draw,
-    run_serve, save_desk, saved_desks_come_back, serve_desk,
+    Courses, open_desk, run_audit, run_draw, run_serve, save_desk, saved_desks_come_back,
+    serve_desk,
 };

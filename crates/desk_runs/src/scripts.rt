@@ -4,9 +4,7 @@ ghost use Rattle.desk_shared.specs.Passes.{Owns};
 ghost use Rattle.desk_runs.specs.DrillFaults.{IsScriptsFault};
 ghost use Rattle.desk_runs.specs.Drills.{HasGathered, HasServed, IsSession, MaySplit, texts_of};
 
-use crate::heard::Heard;
-use crate::hearing::Hearing;
-use desk_checks::RunFault;
+use desk_checks::{BOUNDS, Heard, Hearing, RunFault};
 use desk_report::Tap;
 use desk_serving::{ServeFault, serve};
 use desk_shared::{Pass, SharedDesk, Window};
@@ -16,7 +14,6 @@ use std::snapshot::Snapshot;
 use std::sync::Wait;
 use std::thread;
 use std::thread::{Promise, PromisedHandle, Scope, Threads};
-use text_runs::BOUNDS;
 
 // What the thread of a script gives back: the pass, and how the session ended.
 type Ended = (Pass, Result<u32, ServeFault>);

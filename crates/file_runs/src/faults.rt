@@ -1,6 +1,5 @@
-use desk_checks::{CheckFault, Fault};
+use desk_checks::{CheckFault, Fault, HostFault};
 use std::fmt::{Display, Error, Formatter, Write};
-use text_runs::HostFault;
 
 /// Why the program did not do what its words ask for.
 #[derive(Drop)]

@@ -1,5 +1,5 @@
 //! Runs over files: the words `serve`, `audit`, `check` and `draw`, what is saved of a desk, and the
-//! seats of planners at pipes.
+//! desk that planners are to share.
 #![tactic(auto)]
 
 mod auditing;
@@ -7,16 +7,14 @@ mod checking;
 mod closing;
 mod drawing;
 mod faults;
+mod opening;
 mod saving;
-mod seats;
-mod sending;
 mod serving;
-mod sittings;
 
 pub use auditing::audit_files;
 pub use checking::check_files;
 pub use drawing::draw_files;
 pub use faults::ProgramFault;
+pub use opening::open_named;
 pub use saving::save_named;
-pub use seats::Pipes;
-pub use serving::{limit_of, serve_streams};
+pub use serving::serve_streams;

@@ -1,9 +1,8 @@
 //! The word `serve`.
 use crate::closing::{end_desk, fault_of, note_end, outcome_of};
-use crate::sending::send_last;
 use desk_checks::{Fault, RunFault};
 use desk_core::{Desk, Limit, MOST_ENTRIES};
-use desk_files::{Answers, Lines, More, Named, Outlet, Texts, read_named};
+use desk_files::{Answers, Lines, More, Outlet, Texts, read_named, send_last};
 use desk_report::Spout;
 use desk_serving::ServeFault;
 use desk_words::ServeWords;
@@ -28,20 +27,10 @@ pub fn serve_streams<'a, R: Files + AllocGlobal + Print + Eprint + Input>(
     more: &mut More,
     verbose: bool,
 ) -> Result<(), Fault<'a>> {
-    match read_named(rt, words, more) {
-        Ok(named) => serve_named(rt, named, words, more, verbose),
-        Err(fault) => Err(fault),
-    }
-}
-
-// Serves over the files that were read, and lets them go at the end.
-fn serve_named<'a, R: Files + AllocGlobal + Print + Eprint + Input>(
-    rt: &R,
-    named: Named,
-    words: &ServeWords<'a>,
-    more: &mut More,
-    verbose: bool,
-) -> Result<(), Fault<'a>> {
+    let named = match read_named(rt, words, more) {
+        Ok(named) => named,
+        Err(fault) => return Err(fault),
+    };
     let (input, output) = (rt.reader(), io::writer(rt));
     let ended = serve_between(rt, named.texts(), words, input, output, more, verbose);
     drop(named);
@@ -92,8 +81,8 @@ fn serve_buffered<'a, R: Files + AllocGlobal + Eprint, I: Read + Drop, O: Write 
     }
 }
 
-/// The journal's limit, which the words' parser has held to its range.
-pub fn limit_of(words: &ServeWords<'_>) -> Limit {
+// The journal's limit, which the words' parser has held to its range.
+pub(crate) fn limit_of(words: &ServeWords<'_>) -> Limit {
     match Limit::new(words.limit.clamp(1, MOST_ENTRIES)) {
         Some(limit) => limit,
         None => unreachable!(),

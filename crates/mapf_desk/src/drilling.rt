@@ -1,6 +1,5 @@
 //! The word `drill`.
-use crate::tallies::Tallies;
-use desk_files::{More, Texts, file_bytes, finish, problem_of, read_files, tell_stage};
+use desk_files::{More, Tallies, Texts, all_bytes, finish, problem_of, read_files, tell_stage};
 use desk_report::Spout;
 use desk_runs::{Fault, RunFault, hear_drill};
 use desk_words::DrillWords;
@@ -9,29 +8,6 @@ use std::io::BufWriter;
 use std::rt::Files;
 use std::sync::Wait;
 use std::thread::Threads;
-
-// The bytes of the files, in their order.
-fn bytes_of_all<'a, R: Files + AllocGlobal>(
-    rt: &R,
-    files: &[&'a str],
-    more: &mut More,
-) -> Result<Vec<Vec<u8>>, Fault<'a>> {
-    let mut all = Vec::new(rt.alloc());
-    for file in files {
-        let bytes = match file_bytes(rt, file, more) {
-            Ok(bytes) => bytes,
-            Err(fault) => {
-                drop(all);
-                return Err(fault);
-            }
-        };
-        if let Err(_refused) = all.push(bytes) {
-            drop(all);
-            return Err(Fault::Run(RunFault::OutOfMemory));
-        }
-    }
-    Ok(all)
-}
 
 /// Runs a drill as the words ask for, onto standard output, and answers whether the audit's report
 /// is the same. Where it is wanted, its stages are told on standard error, and more is known then of
@@ -55,7 +31,7 @@ pub fn drill_files<'a, R: Files + AllocGlobal + Print + Eprint + Threads + Wait 
         Ok(named) => named,
         Err(fault) => return Err(fault),
     };
-    let scripts = match bytes_of_all(rt, words.scripts.as_slice(), more) {
+    let scripts = match all_bytes(rt, words.scripts.as_slice(), more) {
         Ok(scripts) => scripts,
         Err(fault) => {
             drop(named);

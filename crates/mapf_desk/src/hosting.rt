@@ -1,10 +1,10 @@
 //! The word `host`.
 use crate::DIFFERS;
 use desk_core::Desk;
-use desk_files::{Detailed, FAULT, More, problem_of, read_named};
-use desk_runs::{Fault, HostEnd, HostFault, RunFault, host_planners, open_desk};
+use desk_files::{FAULT, More, Pipes};
+use desk_runs::{Fault, HostEnd, HostFault, RunFault, host_planners};
 use desk_words::HostWords;
-use file_runs::{Pipes, ProgramFault, limit_of, save_named};
+use file_runs::{ProgramFault, open_named, save_named};
 use std::process::ExitCode;
 use std::rt::Files;
 use std::sync::Wait;
@@ -76,47 +76,6 @@ fn status_of(end: &HostEnd, same: bool) -> ExitCode {
         ExitCode::SUCCESS
     } else {
         ExitCode::from(DIFFERS)
-    }
-}
-
-// The planner that is named twice, where one is.
-fn named_twice<'a>(names: &[&'a str]) -> Option<&'a str> {
-    for (place, name) in names.iter().enumerate() {
-        if names.iter().take(place).any(|other| other == name) {
-            return Some(name);
-        }
-    }
-    None
-}
-
-// The desk that is to be shared.
-fn open_named<'a, R: Files + AllocGlobal>(
-    rt: &R,
-    words: &HostWords<'a>,
-    more: &mut More,
-) -> Result<Desk, ProgramFault<'a>> {
-    let named = match read_named(rt, &words.desk, more) {
-        Ok(named) => named,
-        Err(fault) => return Err(ProgramFault::Desk(fault)),
-    };
-    if let Some(name) = named_twice(words.names.as_slice()) {
-        drop(named);
-        return Err(ProgramFault::NamedTwice { name });
-    }
-    let texts = named.texts();
-    let opened = open_desk(
-        rt.alloc(),
-        problem_of(texts, Some(words.desk.agents), words.desk.mode),
-        limit_of(&words.desk),
-        texts.journal,
-    );
-    if let Err(fault) = &opened {
-        more.put(fault.more(rt.alloc(), texts));
-    }
-    drop(named);
-    match opened {
-        Ok(desk) => Ok(desk),
-        Err(fault) => Err(ProgramFault::Desk(Fault::Run(fault))),
     }
 }
 

@@ -4,7 +4,6 @@
 
 mod drilling;
 mod hosting;
-mod tallies;
 
 use desk_files::{FAULT, More, tell, tell_more, tell_served};
 use desk_runs::{Fault, RunFault};

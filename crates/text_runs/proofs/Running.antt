@@ -9,7 +9,8 @@ use Rattle.desk_serving.specs.declared.bounds.Bounds.{Bounds}
 use Rattle.desk_serving.specs.declared.bounds.ServeFault.{ServeFault}
 use Rattle.desk_serving.specs.declared.drafts.Session.TheVariants.{Idle}
 use Rattle.desk_checks.specs.Faults.{run_answer}
-use Rattle.text_runs.specs.Runs.{RunsOver, Runs, run_bounds}
+use Rattle.desk_checks.specs.Bounds.{run_bounds}
+use Rattle.text_runs.specs.Runs.{RunsOver, Runs}
 use Rattle.text_runs.specs.Sittings.{SitsOver, Sits}
 use Rattle.desk_checks.specs.declared.faults.RunFault.{RunFault}
 

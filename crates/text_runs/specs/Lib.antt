@@ -4,4 +4,3 @@ pub mod Sittings
 pub mod Saved
 pub mod Audits
 pub mod Draws
-pub mod Seats

@@ -15,12 +15,7 @@ use Rattle.desk_checks.specs.Faults.{as_told, run_answer}
 use Rattle.desk_checks.specs.Opens.{Opens, IsOpenFault}
 use Rattle.desk_checks.specs.declared.faults.RunFault.{RunFault}
 use Rattle.desk_checks.specs.declared.faults.RunFault.TheVariants.{Serve}
-use Rattle.desk_checks.specs.declared.bounds.TheConstants.{MOST_BYTES}
-use Rattle.text_runs.specs.declared.serving.TheConstants.{MOST_LINES}
-
--- the bounds of a run
-abbrev pub run_bounds : Bounds
-run_bounds = record { lines = MOST_LINES; bytes = MOST_BYTES }
+use Rattle.desk_checks.specs.Bounds.{run_bounds}
 
 -- a session over the desk that is opened on the scene of the map and the scenario
 pub record ServesScene (map : List ℕ) (scen : Option (List ℕ)) (agents : ℕ) (mode : Mode) (limit : ℕ) (bounds : Bounds) (left0 left1 held0 held1 : Option (List ℕ)) (result : Result ℕ RunFault) : Type 0 where

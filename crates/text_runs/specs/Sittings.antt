@@ -12,7 +12,7 @@ use Rattle.desk_serving.specs.declared.drafts.Session.{Session}
 use Rattle.desk_serving.specs.declared.drafts.Session.TheVariants.{Idle}
 use Rattle.desk_checks.specs.Faults.{as_told, is_of_source, is_of_sink}
 use Rattle.text_runs.specs.Opened.{OpensDesk, IsDeskFault}
-use Rattle.text_runs.specs.Runs.{run_bounds}
+use Rattle.desk_checks.specs.Bounds.{run_bounds}
 use Rattle.desk_checks.specs.declared.faults.RunFault.{RunFault}
 use Rattle.desk_checks.specs.declared.faults.RunFault.TheVariants.{Serve}
 

@@ -1,5 +1,5 @@
 //! Runs over texts, each at a desk of its own: the desk that they open, a session, what is saved of it,
-//! an audit and a picture; and the seats of planners who are hosted.
+//! an audit and a picture.
 #![tactic(auto)]
 
 mod auditing;
@@ -8,7 +8,6 @@ mod drawing;
 mod laws;
 mod opening;
 mod saving;
-mod seats;
 mod serving;
 
 pub use auditing::run_audit;
@@ -17,5 +16,4 @@ pub use drawing::run_draw;
 pub use laws::saved_desks_come_back;
 pub use opening::open_desk;
 pub use saving::save_desk;
-pub use seats::{HostFault, Outcome, SeatFault, Seats};
-pub use serving::{BOUNDS, run_serve, serve_desk};
+pub use serving::{run_serve, serve_desk};

@@ -6,21 +6,12 @@ ghost use Rattle.text_runs.specs.Sittings.{Sits, SitsOver, sink_failed, source_f
 ghost use Rattle.desk_checks.specs.Opens.{bytes_of};
 
 use crate::opening::open_desk;
-use desk_checks::{MOST_BYTES, Problem, RunFault};
+use desk_checks::{BOUNDS, MOST_BYTES, MOST_LINES, Problem, RunFault};
 use desk_core::{Desk, Limit};
 use desk_report::{Sink, Source};
 use desk_serving::{Bounds, ServeFault, hear_map, serve};
 use plan_table::Mode;
 use std::alloc::Global;
-
-/// The most lines that a session may have.
-const MOST_LINES: u32 = 1_000_000;
-
-/// The bounds of a session.
-pub const BOUNDS: Bounds = Bounds {
-    lines: MOST_LINES,
-    bytes: MOST_BYTES,
-};
 
 /// Serves a session over the desk of a map and the agents of the first tasks of a scenario. Where no
 /// map is handed in, its text comes first from the reader. Answers how many lines the session had.

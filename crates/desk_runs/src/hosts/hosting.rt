@@ -4,13 +4,13 @@ ghost use Rattle.desk_runs.specs.Hosts.{Hosts, IsHostFault};
 
 use crate::hosts::comparing::compare;
 use crate::hosts::threads::host_threads;
+use desk_checks::{HostFault, Outcome, SeatFault, Seats};
 use desk_core::Desk;
 use desk_shared::SharedDesk;
 use grid_cells::OutOfMemory;
 use std::alloc::Global;
 use std::sync::Wait;
 use std::thread::Threads;
-use text_runs::{HostFault, Outcome, SeatFault, Seats};
 
 /// The most planners beside the operator.
 pub const MOST_HOSTED: u32 = 255;

@@ -3,13 +3,13 @@ ghost use Rattle.std.specs.Prelude.{◌≡◌, IfErr, IfOk};
 ghost use Rattle.desk_shared.specs.Passes.{Owns};
 ghost use Rattle.desk_runs.specs.Hosts.{IsEnded};
 
+use desk_checks::{Outcome, SeatFault, Seats};
 use desk_shared::{Pass, SharedDesk, Window};
 use std::alloc::Global;
 use std::snapshot::Snapshot;
 use std::sync::Wait;
 use std::sync::atomic::{AtomicU32, Ordering};
 use std::thread::{Promise, PromisedHandle, Scope, Threads};
-use text_runs::{Outcome, SeatFault, Seats};
 
 /// What comes of a planner's session: the pass, and how the session ended.
 pub type Ended = (Pass, Outcome);

@@ -5,13 +5,13 @@ ghost use Rattle.desk_runs.specs.Drills.{MaySplit};
 ghost use Rattle.desk_runs.specs.Hosts.{HasHosted};
 
 use crate::hosts::sittings::{NOBODY, begin, sit};
+use desk_checks::{Outcome, Seats};
 use desk_shared::{Pass, SharedDesk};
 use std::alloc::Global;
 use std::sync::Wait;
 use std::sync::atomic::AtomicU32;
 use std::thread;
 use std::thread::{Scope, Threads};
-use text_runs::{Outcome, Seats};
 
 // Serves the planners, so many as there are outcomes, the first of them as planner number + 1, each
 // in a thread that is joined before this returns, and the operator here, through the first pass.

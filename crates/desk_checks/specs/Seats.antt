@@ -6,9 +6,9 @@ use Rattle.desk_serving.specs.Session.{Serves}
 use Rattle.desk_serving.specs.declared.bounds.ServeFault.{ServeFault}
 use Rattle.desk_serving.specs.declared.drafts.Session.{Session}
 use Rattle.desk_serving.specs.declared.drafts.Session.TheVariants.{Idle}
-use Rattle.text_runs.specs.Runs.{run_bounds}
-use Rattle.text_runs.specs.declared.seats.SeatFault.{SeatFault}
-use Rattle.text_runs.specs.declared.seats.SeatFault.TheVariants as seat
+use Rattle.desk_checks.specs.Bounds.{run_bounds}
+use Rattle.desk_checks.specs.declared.seats.SeatFault.{SeatFault}
+use Rattle.desk_checks.specs.declared.seats.SeatFault.TheVariants as seat
 
 -- the bytes that come are those of the input, where it is told
 abbrev pub IsOf : Option (List ℕ) → Option (List ℕ) → Type 0

@@ -1,5 +1,5 @@
 //! How the lines of a drill's scripts were answered, counted while the scripts are served.
-use desk_runs::Hearing;
+use desk_checks::Hearing;
 use std::alloc::{AllocError, Global};
 use std::sync::atomic::{AtomicBool, AtomicU64, Ordering};
 

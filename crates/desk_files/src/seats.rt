@@ -1,17 +1,17 @@
 //! The seats of planners at pipes, or other files, and of the operator at standard input and output.
 ghost use Rattle.std.specs.Prelude.{None};
-ghost use Rattle.text_runs.specs.Seats.{Sits};
+ghost use Rattle.desk_checks.specs.Seats.{Sits};
 
+use crate::doors::{Doors, Stage};
 use crate::sittings::sit_between;
+use desk_checks::{Outcome, SeatFault, Seats};
 use desk_commits::Counter;
-use desk_files::{Doors, Stage};
 use desk_serving::ServeFault;
 use std::alloc::{AllocError, Global};
 use std::fs::OpenOptions;
 use std::sync::Wait;
 use std::time::Duration;
 use std::{io, thread};
-use text_runs::{Outcome, SeatFault, Seats};
 
 /// How many times in a second it is looked whether a planner has come.
 const LOOKS: u32 = 100;

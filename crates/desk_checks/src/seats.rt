@@ -1,4 +1,4 @@
-ghost use Rattle.text_runs.specs.Seats.{Sits};
+ghost use Rattle.desk_checks.specs.Seats.{Sits};
 
 use desk_commits::Counter;
 use desk_serving::ServeFault;

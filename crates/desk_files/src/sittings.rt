@@ -1,16 +1,17 @@
 //! A planner's session between two files.
 ghost use Rattle.std.specs.Prelude.{None};
-ghost use Rattle.text_runs.specs.Seats.{IsHeard, Sits};
+ghost use Rattle.desk_checks.specs.Seats.{IsHeard, Sits};
 
 use crate::sending::send_last;
+use crate::streams::{Answers, Lines, Outlet};
+use crate::whole_lines::WholeLines;
+use desk_checks::{BOUNDS, Outcome, SeatFault};
 use desk_commits::Counter;
-use desk_files::{Answers, Lines, Outlet, WholeLines};
 use desk_report::{Sink, Source, Spout};
 use desk_serving::{ServeFault, serve};
 use std::alloc::Global;
 use std::cell::RefCell;
 use std::io::{BufWriter, Read, Write};
-use text_runs::{BOUNDS, Outcome, SeatFault};
 
 /// Serves a session from a reader to a writer, both buffered. What was answered goes out before more
 /// is read, and at the end. Where lines are to be whole, an input that ends within one is broken off:
@@ -49,25 +50,12 @@ fn sit_buffered<C: Counter, I: Read + Drop, O: Write + Drop>(
     ensures { Sits C.counting None counter.old counter.new result }
 {
     let outlet = RefCell::new(Outlet::new(buffered));
-    let ended = sit_before(alloc, counter, input, &outlet, whole);
+    let ended = match Lines::new(alloc, input, &outlet) {
+        Ok(lines) => hear_out(alloc, counter, lines, &outlet, whole),
+        Err(_) => Err(SeatFault::OutOfMemory),
+    };
     drop(outlet);
     ended
-}
-
-// Serves a session from a reader to an outlet.
-fn sit_before<C: Counter, I: Read + Drop, O: Write + Drop>(
-    alloc: Global,
-    counter: &mut C,
-    input: I,
-    outlet: &RefCell<Outlet<O>>,
-    whole: bool,
-) -> Outcome
-    ensures { Sits C.counting None counter.old counter.new result }
-{
-    match Lines::new(alloc, input, outlet) {
-        Ok(lines) => hear_out(alloc, counter, lines, outlet, whole),
-        Err(_) => Err(SeatFault::OutOfMemory),
-    }
 }
 
 // Serves a session of lines to an outlet, and sends the last answers.

@@ -1,5 +1,5 @@
 //! The last answers of a session.
-use desk_files::Outlet;
+use crate::streams::Outlet;
 use std::cell::RefCell;
 use std::io::{Error, Result, Write};
 
