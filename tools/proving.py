@@ -36,7 +36,8 @@ class Crate:
         self.name, self.line, self.uses, self.of_kit = name, line, uses, of_kit
         self.folder = TOP / "crates" / name
         self.is_program = (self.folder / "src/main.rt").exists()
-        self.lines = sum(it.read_bytes().count(b"\n") for it in self.files())
+        # (of the code alone, which tells what a proof takes better than its lemmas do)
+        self.lines = sum(it.read_bytes().count(b"\n") for it in (self.folder / "src").rglob("*.rt"))
         self.sources = self.digest()
         self.stamp = digest_of(self.sources, *(it.stamp for it in uses))
         self.proved = self.folder / "out/proved" / (name if self.is_program else f"{name}.rlib.tar")
@@ -115,7 +116,7 @@ def crates_below(program):
 
 
 def longest_first(crates):
-    """The crates, those first that have the most lines in the longest chain of crates that wait for them."""
+    """The crates, those first that have the most lines of code in the longest chain of crates that wait for them."""
     behind = dict.fromkeys(crates, 0)
     for crate in reversed(crates):
         behind[crate] += crate.lines
