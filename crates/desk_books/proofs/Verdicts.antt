@@ -29,8 +29,9 @@ use Rattle.goal_fields.specs.Target.{Standing}
 use Rattle.goal_fields.specs.Held.{HasGoal, StandFor, HaveDistances}
 use Rattle.desk_report.specs.Laws.{IsPathOn}
 use Rattle.desk_report.specs.Report.{IsBound, IsLine, AreLines}
-use Rattle.desk_report.specs.Solves.{is_named, IsVerdict}
-use Rattle.desk_report.specs.declared.kinds.Kinds.{Kinds}
+use Rattle.desk_report.specs.Solves.{IsVerdict}
+use Rattle.mapf_rules.specs.Kinds.{is_named}
+use Rattle.mapf_rules.specs.declared.kinds.Kinds.{Kinds}
 use Rattle.desk_report.specs.declared.reports.AgentLine.{AgentLine}
 use Rattle.desk_report.specs.declared.reports.Report.{Report}
 use Rattle.desk_books.specs.Rows.{HaveFields, HavePathsOn}

@@ -3,8 +3,8 @@ use Rattle.std.specs.Prelude.{List, IsTrue}
 use Rattle.conflict_ledger.specs.Kept.{HasKind}
 use Rattle.mapf_rules.specs.declared.entries.Conflict.{Conflict}
 use Rattle.mapf_rules.specs.declared.entries.Kind.{Kind}
-use Rattle.desk_report.specs.Solves.{is_named}
-use Rattle.desk_report.specs.declared.kinds.Kinds.{Kinds}
+use Rattle.mapf_rules.specs.Kinds.{is_named}
+use Rattle.mapf_rules.specs.declared.kinds.Kinds.{Kinds}
 
 -- the kind is asked about, and an entry is of it
 abbrev pub HasAsked : Kinds → Kind → List Conflict → Type 0

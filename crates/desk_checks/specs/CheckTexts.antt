@@ -4,8 +4,8 @@ use Rattle.mapf_rules.specs.ConflictList.{kind_of}
 use Rattle.mapf_rules.specs.declared.entries.Conflict.{Conflict}
 use Rattle.desk_report.specs.LineText.{line_text, answer_text}
 use Rattle.desk_report.specs.ReportText.{count_line, report_text, totals_text}
-use Rattle.desk_report.specs.Solves.{is_named}
-use Rattle.desk_report.specs.declared.kinds.Kinds.{Kinds}
+use Rattle.mapf_rules.specs.Kinds.{is_named}
+use Rattle.mapf_rules.specs.declared.kinds.Kinds.{Kinds}
 use Rattle.desk_report.specs.declared.reports.Report.{Report}
 use Rattle.desk_serving.specs.Replies.{version_line}
 

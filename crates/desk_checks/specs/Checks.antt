@@ -9,7 +9,7 @@ use Rattle.desk_lines.specs.declared.solver_paths.forms.Form.{Form}
 use Rattle.desk_lines.specs.declared.solver_paths.paths.SolverPaths.{SolverPaths}
 use Rattle.desk_report.specs.Report.{IsReportOf}
 use Rattle.desk_report.specs.Solves.{Solves}
-use Rattle.desk_report.specs.declared.kinds.Kinds.{Kinds}
+use Rattle.mapf_rules.specs.declared.kinds.Kinds.{Kinds}
 use Rattle.desk_report.specs.declared.reports.Report.{Report}
 use Rattle.desk_checks.specs.Opens.{Opens}
 use Rattle.desk_checks.specs.CheckEdits.{edits_of}

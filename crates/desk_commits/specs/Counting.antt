@@ -3,7 +3,7 @@ use Rattle.std.specs.Prelude.{◌≡◌, ◌↔◌, ℕ, Bool, Option, Result, O
 use Rattle.grid_cells.specs.Cell.{Point}
 use Rattle.grid_cells.specs.declared.memory.OutOfMemory.{OutOfMemory}
 use Rattle.desk_report.specs.Solves.{Solves}
-use Rattle.desk_report.specs.declared.kinds.Kinds.{Kinds}
+use Rattle.mapf_rules.specs.declared.kinds.Kinds.{Kinds}
 use Rattle.desk_commits.specs.Entries.{Entry}
 use Rattle.desk_commits.specs.State.{DeskState, version_of}
 use Rattle.desk_commits.specs.Commits.{Committed}

@@ -12,7 +12,7 @@ use Rattle.mapf_rules.specs.Visits.{IsUnblocked}
 use Rattle.desk_report.specs.Laws.{HasBoundAndGap}
 use Rattle.desk_report.specs.Report.{IsReportOf}
 use Rattle.desk_report.specs.Solves.{Solves}
-use Rattle.desk_report.specs.declared.kinds.Kinds.{Kinds}
+use Rattle.mapf_rules.specs.declared.kinds.Kinds.{Kinds}
 use Rattle.desk_report.specs.declared.reports.AgentLine.{AgentLine}
 use Rattle.scene_edits.specs.Scene.{SceneState}
 use Rattle.desk_commits.specs.State.{DeskState, version_of}

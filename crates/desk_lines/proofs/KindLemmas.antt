@@ -1,7 +1,7 @@
 -- How a list of kinds is read word by word.
 use Rattle.std.proofs.Common.{◌≡◌, ℕ, true, List, [], ◌∷◌}
 use Rattle.std.proofs.Math.Bool.{or_assoc, or-false}
-use Rattle.desk_report.specs.declared.kinds.Kinds.{Kinds}
+use Rattle.mapf_rules.specs.declared.kinds.Kinds.{Kinds}
 use Rattle.desk_lines.specs.Kinds.{is_kind, named_kinds, joined, kinds_after}
 
 -- one more word is read

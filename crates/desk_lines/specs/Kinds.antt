@@ -1,7 +1,7 @@
 -- KIND.. of a session line (this project's choice).
 use Rattle.std.specs.Prelude.{ℕ, Bool, ◌||◌, Option, Some, None, List, [], ◌∷◌, codes, bytes_eq, if◌then◌else◌}
 use Rattle.std.specs.List.{list_any, list_all}
-use Rattle.desk_report.specs.declared.kinds.Kinds.{Kinds}
+use Rattle.mapf_rules.specs.declared.kinds.Kinds.{Kinds}
 
 -- the word of a kind of conflict
 abbrev pub is_kind : List ℕ → Bool

@@ -4,7 +4,7 @@ ghost use Rattle.desk_lines.specs.Kinds.{kinds_of, is_kind, named_kinds, joined,
 
 use crate::values::is_word;
 use bench_reader::next_word;
-use desk_report::Kinds;
+use mapf_rules::Kinds;
 
 // The kind that a word names, alone.
 fn kind_of(word: &[u8]) -> Option<Kinds>

@@ -11,8 +11,8 @@ use crate::kinds::kinds_of;
 use crate::shapes::agent_and_cell;
 use crate::values::{agent_of, cell_of};
 use bench_reader::next_word;
-use desk_report::Kinds;
 use grid_cells::{Agent, Cell};
+use mapf_rules::Kinds;
 use scene_edits::{Edit, Thing};
 use std::alloc::Global;
 

@@ -4,20 +4,10 @@ use Rattle.grid_cells.specs.Grid.{Chart}
 use Rattle.plan_table.specs.declared.plans.Row.{Row}
 use Rattle.plan_table.specs.declared.tracks.Mode.{Mode}
 use Rattle.mapf_rules.specs.ConflictList.{kind_of}
-use Rattle.mapf_rules.specs.declared.entries.Kind.{Kind}
-use Rattle.mapf_rules.specs.declared.entries.Kind.TheVariants.{Vertex, Parked, Edge, Following, Swapping, Cycle}
+use Rattle.mapf_rules.specs.Kinds.{is_named}
+use Rattle.mapf_rules.specs.declared.kinds.Kinds.{Kinds}
 use Rattle.desk_report.specs.Report.{IsReportOf}
-use Rattle.desk_report.specs.declared.kinds.Kinds.{Kinds}
 use Rattle.desk_report.specs.declared.reports.Report.{Report}
-
--- the kind is asked about
-abbrev pub is_named : Kinds → Kind → Bool
-is_named kinds Vertex = kinds.vertex
-is_named kinds Parked = kinds.vertex
-is_named kinds Edge = kinds.edge
-is_named kinds Following = kinds.follow
-is_named kinds Swapping = kinds.swap
-is_named kinds Cycle = kinds.cycle
 
 -- every agent is finished, no visit is blocked, and no conflict is of a kind that is asked about
 pub record Solves (report : Report) (kinds : Kinds) : Type 0 where

@@ -4,7 +4,6 @@
 
 mod bytes;
 mod describe;
-mod kinds;
 mod laws;
 mod reports;
 mod text;
@@ -13,8 +12,8 @@ mod words;
 
 pub use bytes::{ReadFailed, Sink, Source, Spout, Tap, WriteFailed, put_all};
 pub use describe::{line, plain_report, with_totals};
-pub use kinds::Kinds;
 pub use laws::{one_report, settle_is_bound_and_gap};
+pub use mapf_rules::Kinds;
 pub use reports::{AgentLine, Report};
 pub use text::{put_entry, put_visit, write_report};
 pub use values::{put_answer, put_cell, put_given, put_number};

@@ -1,9 +1,8 @@
 ghost use Rattle.std.specs.Prelude.{◌↔◌, IsTrue};
 ghost use Rattle.desk_report.specs.Solves.{Solves};
 
-use crate::kinds::Kinds;
 use grid_cells::{Agent, List};
-use mapf_rules::{Conflict, Visit};
+use mapf_rules::{Conflict, Kinds, Visit};
 
 /// What is said of one agent: its settle time in steps, whether it is finished, its lower bound in
 /// steps, and its gap, the steps that its settle time has above the bound.

@@ -2,7 +2,7 @@
 use Rattle.std.specs.Prelude.{◌≡◌, ◌<◌, ◌⊎◌, ℕ, [], ◌∷◌, ◌++◌, length, Option, Result}
 use Rattle.grid_cells.specs.Cell.{Point}
 use Rattle.grid_cells.specs.declared.memory.OutOfMemory.{OutOfMemory}
-use Rattle.desk_report.specs.declared.kinds.Kinds.{Kinds}
+use Rattle.mapf_rules.specs.declared.kinds.Kinds.{Kinds}
 use Rattle.scene_edits.specs.declared.changes.Thing.{Thing}
 use Rattle.scene_edits.specs.declared.edits.Edit.{Edit}
 use Rattle.desk_commits.specs.Entries.{Entry}

@@ -2,7 +2,7 @@
 use Rattle.std.specs.Prelude.{◌≡◌, ◌↔◌, ℕ, Bool, IsTrue, Option, Result, Ok, Err}
 use Rattle.grid_cells.specs.declared.memory.OutOfMemory.{OutOfMemory}
 use Rattle.desk_report.specs.Solves.{Solves}
-use Rattle.desk_report.specs.declared.kinds.Kinds.{Kinds}
+use Rattle.mapf_rules.specs.declared.kinds.Kinds.{Kinds}
 use Rattle.desk_commits.specs.Entries.{Entry}
 use Rattle.desk_commits.specs.declared.answers.Refusal.{Refusal}
 use Rattle.desk_commits.specs.declared.answers.Reading.{Reading}

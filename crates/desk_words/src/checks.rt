@@ -3,7 +3,7 @@ use crate::reading::{mode_of, workers_of};
 use crate::words::CheckWords;
 use clap::ArgMatches;
 use desk_lines::solver_paths::Form;
-use desk_report::Kinds;
+use mapf_rules::Kinds;
 
 const NO_KINDS: Kinds = Kinds {
     vertex: false,

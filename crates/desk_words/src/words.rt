@@ -1,7 +1,7 @@
 use clap::Error;
 use desk_lines::solver_paths::Form;
-use desk_report::Kinds;
 use grid_cells::Agent;
+use mapf_rules::Kinds;
 use plan_table::Mode;
 
 /// What the words ask for.

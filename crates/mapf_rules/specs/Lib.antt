@@ -2,6 +2,7 @@ pub mod Entries
 pub mod Cycles
 pub mod ConflictList
 pub mod Naming
+pub mod Kinds
 pub mod RingWalk
 pub mod Finding
 pub mod Costs

@@ -3,6 +3,7 @@
 #![tactic(auto)]
 
 mod entries;
+mod kinds;
 mod laws;
 mod movers;
 mod offers;
@@ -15,6 +16,7 @@ mod totals;
 mod visits;
 
 pub use entries::{Conflict, Kind, Ring};
+pub use kinds::Kinds;
 pub use laws::{
     entries_compare_as_listed, meetings_are_told, named_agents_are_there, one_conflict_list,
     one_sum_and_makespan, one_visit_list, settles_at_last, swap_is_two_followings,

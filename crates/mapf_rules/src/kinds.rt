@@ -1,7 +1,7 @@
 ghost use Rattle.std.specs.Prelude.{◌≡◌};
-ghost use Rattle.desk_report.specs.Solves.{is_named};
+ghost use Rattle.mapf_rules.specs.Kinds.{is_named};
 
-use mapf_rules::Kind;
+use crate::entries::Kind;
 
 /// Kinds of conflicts that a planner asks about: `vertex` stands for Vertex and Parked entries.
 #[derive(Clone, Copy, PartialEq, Eq)]
