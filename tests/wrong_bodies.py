@@ -155,7 +155,7 @@ READERS = [
      "check --map m --paths p --form agent => check map=m paths=p, and not check map=m paths=p form=agent"),
     ("edge_taken_for_follow", "checks.rt", '"edge" => ‹kinds.edge = true›', "kinds.follow = true",
      "check --map m --paths p --solves edge => check map=m paths=p solves=follow, and not check map=m paths=p solves=edge"),
-    ("one_kind_too_few", "arguments.rt", "option.num_args(‹1..›)", "if matches!(value, Value::SomeOf(_, _)) { 2.. } else { 1.. }",
+    ("one_kind_too_few", "arguments.rt", "num_args(‹1..=most›)", "if most > 1 { 2..=most } else { 1..=most }",
      "check --map m --paths p --solves edge => refused TooFewValues, and not check map=m paths=p solves=edge"),
     ("journal_taken_for_the_paths_of_a_picture", "reading.rt", 'paths: ‹matches.get_str("paths")›,', 'matches.get_str("journal")',
      "draw --map m --paths p => draw map=m, and not draw map=m paths=p"),

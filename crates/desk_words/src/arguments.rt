@@ -24,96 +24,71 @@ pub enum Value {
 #[derive(Clone, Copy)]
 pub struct Argument {
     pub name: &'static str,
-    /// The letter that names it too.
+    /// The letter that names it too, if it is a flag.
     pub short: Option<char>,
     pub value: Value,
-    /// The value where none is given.
-    pub usual: Option<&'static str>,
+    /// The value where none is given, if there is one.
+    pub usual: &'static [&'static str],
     pub is_needed: bool,
-    /// The option that can't stand beside it.
-    pub excluded: Option<&'static str>,
+    /// The options that can't stand beside it.
+    pub excluded: &'static [&'static str],
     pub help: &'static str,
 }
 
-impl Value {
-    // How help calls what stands there, if anything does.
-    fn name(self) -> Option<&'static str> {
-        match self {
-            Value::Nothing => None,
-            Value::Text(name) | Value::Number(name, _, _) => Some(name),
-            Value::OneOf(name, _) | Value::SomeOf(name, _) | Value::Listed(name) => Some(name),
-        }
-    }
+// The numbers from one to the other.
+fn numbers<'a>(least: u32, greatest: u32) -> ValueParser<'a> {
+    value_parser!(u32).range(i64::from(least)..=i64::from(greatest))
+}
 
-    // What is taken for it, where not every text is.
-    fn parser<'a>(self) -> Option<ValueParser<'a>> {
-        match self {
-            Value::Number(_, least, greatest) => {
-                let numbers = i64::from(least)..=i64::from(greatest);
-                Some(value_parser!(u32).range(numbers))
-            }
-            Value::OneOf(_, texts) | Value::SomeOf(_, texts) => Some(texts.into()),
-            Value::Nothing | Value::Text(_) | Value::Listed(_) => None,
-        }
+fn flag<'a>(alloc: Global, argument: Argument) -> Arg<'a> {
+    let flag = Arg::new(alloc, argument.name)
+        .long(argument.name)
+        .help(argument.help)
+        .action(ArgAction::SetTrue);
+    match argument.short {
+        Some(letter) => flag.short(letter),
+        None => flag,
     }
 }
 
-fn lettered<'a>(option: Arg<'a>, letter: Option<char>) -> Arg<'a> {
-    match letter {
-        Some(letter) => option.short(letter),
-        None => option,
-    }
+// An option with so many values at most, which help calls by that name.
+fn valued<'a>(
+    alloc: Global,
+    argument: Argument,
+    name: &'static str,
+    parser: ValueParser<'a>,
+    most: usize,
+) -> Result<Arg<'a>, AllocError> {
+    Arg::new(alloc, argument.name)
+        .long(argument.name)
+        .help(argument.help)
+        .required(argument.is_needed)
+        .value_name(name)
+        .value_parser(parser)
+        .num_args(1..=most)
+        .default_values(argument.usual)
+        .conflicts_with_all(argument.excluded)
 }
 
-fn with_usual<'a>(option: Arg<'a>, usual: Option<&'static str>) -> Arg<'a> {
-    match usual {
-        Some(usual) => option.default_value(usual),
-        None => option,
-    }
-}
-
-fn called<'a>(option: Arg<'a>, name: Option<&'static str>) -> Arg<'a> {
-    match name {
-        Some(name) => option.value_name(name),
-        None => option.action(ArgAction::SetTrue),
-    }
-}
-
-fn limited<'a>(option: Arg<'a>, parser: Option<ValueParser<'a>>) -> Arg<'a> {
-    match parser {
-        Some(parser) => option.value_parser(parser),
-        None => option,
-    }
-}
-
-fn with_several<'a>(option: Arg<'a>, value: Value) -> Arg<'a> {
-    match value {
-        Value::SomeOf(_, _) | Value::Listed(_) => option.num_args(1..),
-        _ => option,
-    }
-}
-
-fn long<'a>(option: Arg<'a>, name: &'static str, value: Value) -> Arg<'a> {
-    match value {
-        Value::Listed(_) => option,
-        _ => option.long(name),
-    }
+// One text or more, which no option names.
+fn listed<'a>(alloc: Global, argument: Argument, name: &'static str) -> Arg<'a> {
+    Arg::new(alloc, argument.name)
+        .help(argument.help)
+        .required(argument.is_needed)
+        .value_name(name)
+        .num_args(1..)
 }
 
 /// An argument as the parser takes it.
 pub fn parsed<'a>(alloc: Global, argument: Argument) -> Result<Arg<'a>, AllocError> {
-    let option = Arg::new(alloc, argument.name)
-        .help(argument.help)
-        .required(argument.is_needed);
-    let option = called(
-        long(option, argument.name, argument.value),
-        argument.value.name(),
-    );
-    let option = limited(option, argument.value.parser());
-    let option = with_several(option, argument.value);
-    let option = with_usual(lettered(option, argument.short), argument.usual);
-    match argument.excluded {
-        Some(other) => option.conflicts_with(other),
-        None => Ok(option),
+    match argument.value {
+        Value::Nothing => Ok(flag(alloc, argument)),
+        Value::Text(name) => valued(alloc, argument, name, ValueParser::string(), 1),
+        Value::Number(name, least, greatest) => {
+            valued(alloc, argument, name, numbers(least, greatest), 1)
+        }
+        Value::OneOf(name, texts) => valued(alloc, argument, name, texts.into(), 1),
+        Value::SomeOf(name, texts) => valued(alloc, argument, name, texts.into(), usize::MAX),
+        Value::Listed(name) => Ok(listed(alloc, argument, name)),
     }
 }

@@ -105,52 +105,23 @@ const WORDS: [Word; 6] = [
     },
 ];
 
-// The command with one more argument, where there was memory to make it.
-fn with_argument<'a>(
-    alloc: Global,
-    command: Command<'a>,
-    argument: Argument,
-) -> Result<Command<'a>, AllocError> {
-    match parsed(alloc, argument) {
-        Ok(argument) => command.arg(argument),
-        Err(refused) => {
-            drop(command);
-            Err(refused)
-        }
-    }
-}
-
 // The command of a word.
 fn command_of<'a>(alloc: Global, word: &Word) -> Result<Command<'a>, AllocError> {
-    let mut command = Command::new(alloc, word.name)
-        .about(word.about)
-        .after_help(word.help);
+    let mut arguments = Vec::new(alloc);
     for argument in word.arguments {
-        command = with_argument(alloc, command, *argument)?;
+        arguments.push(parsed(alloc, *argument)?)?;
     }
-    Ok(command)
-}
-
-// The command with one more word, where there was memory to make it.
-fn with_word<'a>(
-    alloc: Global,
-    command: Command<'a>,
-    word: &Word,
-) -> Result<Command<'a>, AllocError> {
-    match command_of(alloc, word) {
-        Ok(word) => command.subcommand(word),
-        Err(refused) => {
-            drop(command);
-            Err(refused)
-        }
-    }
+    Command::new(alloc, word.name)
+        .about(word.about)
+        .after_help(word.help)
+        .args(arguments)
 }
 
 /// The program's words, as their parser takes them.
 pub fn command<'a>(alloc: Global) -> Result<Command<'a>, AllocError> {
-    let mut command = command_of(alloc, &PROGRAM)?;
+    let mut words = Vec::new(alloc);
     for word in &WORDS {
-        command = with_word(alloc, command, word)?;
+        words.push(command_of(alloc, word)?)?;
     }
-    Ok(command)
+    command_of(alloc, &PROGRAM)?.subcommands(words)
 }

@@ -6,9 +6,9 @@ const FILE: Argument = Argument {
     name: "",
     short: None,
     value: Value::Text("F"),
-    usual: None,
+    usual: &[],
     is_needed: false,
-    excluded: None,
+    excluded: &[],
     help: "",
 };
 
@@ -46,14 +46,14 @@ pub const SCEN_OF_PATHS: Argument = Argument {
 pub const AGENTS: Argument = Argument {
     name: "agents",
     value: Value::Number("K", 0, 8192),
-    usual: Some("0"),
+    usual: &["0"],
     help: "How many agents the scenario gives, from 0 to 8192",
     ..FILE
 };
 
 /// Without a number the scenario gives as many agents as there are paths.
 pub const AGENTS_OF_PATHS: Argument = Argument {
-    usual: None,
+    usual: &[],
     help: "How many agents the scenario gives, from 0 to 8192; as many as there are paths where it isn't given",
     ..AGENTS
 };
@@ -66,7 +66,7 @@ pub const AGENTS_OF_A_PICTURE: Argument = Argument {
 pub const MODE: Argument = Argument {
     name: "mode",
     value: Value::OneOf("M", &["stay", "disappear"]),
-    usual: Some("stay"),
+    usual: &["stay"],
     help: "Whether an agent stays at its goal or leaves the map there",
     ..FILE
 };
@@ -74,7 +74,7 @@ pub const MODE: Argument = Argument {
 pub const LIMIT: Argument = Argument {
     name: "limit",
     value: Value::Number("N", 1, 1_000_000),
-    usual: Some("100000"),
+    usual: &["100000"],
     help: "How many commits the journal takes, from 1 to 1000000",
     ..FILE
 };
@@ -91,7 +91,7 @@ pub const JOURNAL_OF_AN_AUDIT: Argument = Argument {
 };
 
 pub const JOURNAL_OF_A_PICTURE: Argument = Argument {
-    excluded: Some("paths"),
+    excluded: &["paths"],
     help: "A journal, whose entries are committed before the picture",
     ..JOURNAL
 };
@@ -150,7 +150,7 @@ pub const QUIET: Argument = Argument {
 pub const WORKERS: Argument = Argument {
     name: "workers",
     value: Value::Number("N", 1, 64),
-    usual: Some("4"),
+    usual: &["4"],
     help: "How many threads make the report, from 1 to 64",
     ..FILE
 };
