@@ -3,7 +3,7 @@ use Rattle.std.proofs.Common.{inl, inr, List, [], ◌∷◌, ◌++◌, arith}
 use Rattle.plan_table.proofs.Order.{Contains-nil}
 use Rattle.conflict_ledger.specs.Kept.{GainsEntry, LosesEntry, GainsAll, LosesAll}
 use Rattle.mapf_rules.specs.declared.entries.Conflict.{Conflict}
-use Rattle.mapf_rules.proofs.Sets.{push_iff}
+use Rattle.plan_table.proofs.Sets.{push_iff}
 
 pub gains_none : (old : List Conflict) → GainsAll old old []
 gains_none old entry = (λ h. inl h, λ h. elim h [ inl before ↦ before | inr none ↦ absurd (Contains-nil entry none) ])

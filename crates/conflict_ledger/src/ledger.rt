@@ -24,7 +24,6 @@ pub struct ConflictLedger {
     kept: BTreeSet<Conflict>,
 }
 
-// How the parts are dropped is proved here, and in no crate that drops one.
 impl Drop for ConflictLedger {
     fn drop(self) {
         let ConflictLedger {

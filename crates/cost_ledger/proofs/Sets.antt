@@ -2,7 +2,7 @@
 use Rattle.std.proofs.Common.{◌≡◌, ◌⊎◌, ◌+◌, ◌<◌, ℕ, List, length, take, get_or, Contains, arith}
 use mathlib.Core.Logic.{◌↔◌}
 use Rattle.std.proofs.lemmas.List.{take_more}
-use Rattle.mapf_rules.proofs.Sets.{push_iff}
+use Rattle.plan_table.proofs.Sets.{push_iff}
 use Rattle.cost_ledger.specs.Sets.{GainsAll, LosesAll}
 
 -- what has one property or the other, in two steps

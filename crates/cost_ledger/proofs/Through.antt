@@ -10,7 +10,7 @@ use Rattle.grid_cells.specs.Cell.{Point}
 use Rattle.plan_table.specs.Path.{last_index}
 use Rattle.plan_table.specs.declared.plans.Row.{Row}
 use Rattle.mapf_rules.specs.declared.visits.Visit.{Visit}
-use Rattle.mapf_rules.proofs.Sets.{push_iff}
+use Rattle.plan_table.proofs.Sets.{push_iff}
 use Rattle.cost_ledger.specs.Sets.{GainsAll}
 use Rattle.cost_ledger.specs.Through.{IsThrough, AreThrough}
 use Rattle.cost_ledger.proofs.RowSums.{row_of_lookup}

@@ -9,7 +9,7 @@ use Rattle.goal_fields.specs.Target.{Standing}
 use Rattle.goal_fields.specs.Changes.{IsRepaired}
 use Rattle.goal_fields.specs.Held.{HasGoal, StandFor, SameButGoal}
 use Rattle.goal_fields.proofs.Neighbours.{cases_cell}
-use Rattle.where_index.specs.Spots.{Gains, Loses}
+use Rattle.plan_table.specs.Sets.{Gains, Loses}
 use Rattle.desk_books.specs.Aims.{aim, IsAimedAt}
 use Rattle.desk_books.specs.Goals.{HoldAimed}
 use Rattle.desk_books.specs.declared.aims.Aim.{Aim}

@@ -12,11 +12,12 @@ use Rattle.scene_edits.specs.Scene.{SceneState}
 use Rattle.scene_edits.specs.InOrder.{edited_all}
 use Rattle.scene_edits.specs.declared.changes.Change.{Change}
 use Rattle.scene_edits.proofs.Returning.{edits_keep_size_holds}
-use Rattle.desk_books.specs.Formers.{AreFormers}
-use Rattle.desk_books.specs.Flips.{HoldFlips}
-use Rattle.desk_books.specs.declared.named_agents.Former.{Former}
+use Rattle.scene_edits.specs.Formers.{AreFormers}
+use Rattle.scene_edits.specs.Flips.{HoldFlips}
+use Rattle.scene_edits.specs.declared.named_agents.Former.{Former}
 use Rattle.desk_books.specs.Books.{BooksState, Keep, AreOf}
-use Rattle.desk_books.specs.Following.{ChangedBy, AreLeft}
+use Rattle.scene_edits.specs.ChangedBy.{ChangedBy}
+use Rattle.desk_books.specs.Following.{AreLeft}
 
 module _ (before scene : SceneState) (changes : List Change) (changed : ChangedBy before changes scene) where
   pub same_mode : before.mode ≡ scene.mode

@@ -9,7 +9,7 @@ use Rattle.grid_cells.specs.Grid.{Chart}
 use Rattle.plan_table.specs.Plans.{row_of, ChangesRow, IsByAgent}
 use Rattle.plan_table.specs.declared.plans.Row.{Row}
 use Rattle.cost_ledger.specs.Ledger.{Ledger, StandsFor}
-use Rattle.where_index.specs.Spots.{Gains, Loses}
+use Rattle.plan_table.specs.Sets.{Gains, Loses}
 use Rattle.goal_fields.specs.Target.{Standing}
 use Rattle.goal_fields.specs.Held.{HasGoal, StandFor}
 use Rattle.desk_books.specs.Aims.{aim}

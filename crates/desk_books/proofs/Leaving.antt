@@ -5,7 +5,7 @@ use Rattle.std.proofs.lemmas.Grind.{common_steps}
 use Rattle.std.proofs.lemmas.Option.{gets}
 use Rattle.plan_table.proofs.Order.{AllPairs-head, AllPairs-tail, Contains-nil, Contains-cons_tail, Contains-cons_cases}
 use Rattle.desk_books.specs.Prices.{Rows, with_row}
-use Rattle.desk_books.specs.declared.named_agents.Former.{Former}
+use Rattle.scene_edits.specs.declared.named_agents.Former.{Former}
 use Rattle.desk_books.specs.Following.{AreLeft}
 
 -- what is left of a list from a place on

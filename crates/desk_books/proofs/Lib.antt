@@ -7,12 +7,7 @@ pub mod Staying
 pub mod Leaving
 pub mod Live
 pub mod Behind
-pub mod FlippedCells
-pub mod RowsBefore
-pub mod KeptRows
-pub mod NamedAgents
 pub mod RouteChanges
-pub mod SameRoutes
 pub mod NoneApart
 pub mod AimOrder
 pub mod Aiming

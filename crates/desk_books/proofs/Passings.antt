@@ -15,7 +15,7 @@ use Rattle.mapf_rules.specs.declared.visits.Visit.{Visit}
 use Rattle.where_index.specs.declared.passings.Passing.{Passing}
 use Rattle.where_index.specs.Asked.{Passes, ArePassing}
 use Rattle.cost_ledger.specs.Through.{ComesThrough, AreThrough}
-use Rattle.desk_books.specs.Flips.{visit_to}
+use Rattle.desk_books.specs.Fleet.{visit_to}
 
 passing_of : Visit → Passing
 passing_of v = record { time = v.time; agent = v.agent }

@@ -7,7 +7,7 @@ use Rattle.std.proofs.lemmas.Grind.{common_steps}
 use Rattle.grid_cells.specs.Cell.{Point}
 use Rattle.plan_table.specs.Plans.{row_of, ChangesRow}
 use Rattle.plan_table.specs.declared.plans.Row.{Row}
-use Rattle.where_index.specs.Spots.{Gains, Loses}
+use Rattle.plan_table.specs.Sets.{Gains, Loses}
 use Rattle.desk_books.specs.Aims.{aim}
 use Rattle.desk_books.specs.Prices.{Rows, with_row, AimsAt}
 use Rattle.desk_books.specs.declared.aims.Aim.{Aim}

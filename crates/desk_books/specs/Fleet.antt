@@ -1,6 +1,9 @@
 -- What the books of a fleet keep: who stands and moves where, and the conflict entries (this project's choice).
 use Rattle.std.specs.Prelude.{◌≡◌, ℕ, Option, List}
 use Rattle.plan_table.specs.Route.{Route, Fleet}
+use Rattle.grid_cells.specs.Cell.{Point}
+use Rattle.where_index.specs.declared.passings.Passing.{Passing}
+use Rattle.mapf_rules.specs.declared.visits.Visit.{Visit}
 use Rattle.where_index.specs.Index.{Contents, StandsFor, with_route}
 use Rattle.conflict_ledger.specs.Kept.{HasEntries}
 use Rattle.mapf_rules.specs.declared.entries.Conflict.{Conflict}
@@ -18,3 +21,7 @@ pub record AreOf (fleet : Fleet) (books : FleetState) : Type 0 where
 -- books of any fleet in which the agent has the one route become those of the fleet with the other in its place
 abbrev pub Reroutes : ℕ → Option Route → Option Route → FleetState → FleetState → Type 0
 Reroutes agent before after old new = (fleet : Fleet) → AreOf fleet old → fleet agent ≡ before → AreOf (with_route fleet agent after) new
+
+-- the visit to the cell of an agent that passes through it
+abbrev pub visit_to : Point → Passing → Visit
+visit_to cell passing = record { agent = passing.agent; time = passing.time; cell = cell }

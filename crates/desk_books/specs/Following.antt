@@ -1,27 +1,14 @@
 -- How books follow changes (this project's choice).
 use Rattle.std.specs.Prelude.{◌≡◌, ℕ, ◌<◌, List, Contains}
 use Rattle.std.specs.List.{AllPairs}
-use Rattle.scene_edits.specs.Scene.{SceneState, IsScene}
-use Rattle.scene_edits.specs.InOrder.{edited_all, AreAllowed, AreChanges}
-use Rattle.scene_edits.specs.declared.edits.Edit.{Edit}
+use Rattle.scene_edits.specs.Scene.{SceneState}
 use Rattle.scene_edits.specs.declared.changes.Change.{Change}
-use Rattle.desk_books.specs.Formers.{former_row, former_past}
-use Rattle.desk_books.specs.Kept.{AreAlike}
-use Rattle.desk_books.specs.declared.named_agents.Former.{Former}
+use Rattle.scene_edits.specs.ChangedBy.{ChangedBy}
+use Rattle.scene_edits.specs.Formers.{former_row, former_past}
+use Rattle.scene_edits.specs.Kept.{AreAlike}
+use Rattle.scene_edits.specs.declared.named_agents.Former.{Former}
 use Rattle.desk_books.specs.Prices.{Rows}
 use Rattle.desk_books.specs.Books.{BooksState, AreOf}
-
--- edits made the one scene of the other, and those are their changes
-pub record ChangedBy (before : SceneState) (changes : List Change) (scene : SceneState) : Type 0 where
-  pub edits : List Edit
-  pub is_scene : IsScene before
-  pub allowed : AreAllowed before edits
-  pub changed : AreChanges before edits changes
-  pub made : scene ≡ edited_all before edits
-
--- the relation holds of each scene and the one that edits with those changes make of it
-abbrev pub HoldsOver : List Change → (SceneState → SceneState → Type 0) → Type 0
-HoldsOver changes R = (before : SceneState) (edits : List Edit) → IsScene before → AreAllowed before edits → AreChanges before edits changes → R before (edited_all before edits)
 
 -- the books are those of a scene that edits with those changes made the present one
 pub record AreBehind (changes : List Change) (scene : SceneState) (books : BooksState) : Type 0 where

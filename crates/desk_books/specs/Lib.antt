@@ -1,10 +1,6 @@
 pub mod Books
 pub mod Lines
 pub mod Following
-pub mod Flips
-pub mod Formers
-pub mod Kept
-pub mod Named
 pub mod Fleet
 pub mod FleetLaws
 pub mod Aims

@@ -1,6 +1,6 @@
 ghost use Rattle.std.specs.Prelude.{◌≡◌, ◌↔◌, [], OnOk, IsTrue};
 ghost use Rattle.std.specs.BTreeMap.Range.{IsLeBy};
-ghost use Rattle.where_index.specs.Spots.{Gains, Loses};
+ghost use Rattle.plan_table.specs.Sets.{Gains, Loses};
 ghost use Rattle.desk_books.specs.Aims.{aim, aim_cmp, IsAimedAt, HasBetween};
 
 use grid_cells::{Agent, Cell, OutOfMemory};

@@ -9,13 +9,11 @@ ghost use Rattle.desk_books.specs.Books.{AreOf};
 ghost use Rattle.desk_books.specs.Following.{AreBehind};
 
 use crate::fleet::FleetBooks;
-use crate::flipped_cells::flipped;
 use crate::lines::Lines;
-use crate::named_agents::formers;
 use crate::prices::PriceBooks;
 use desk_report::Report;
 use grid_cells::{Cell, OutOfMemory};
-use scene_edits::{Change, Scene};
+use scene_edits::{Change, Scene, flipped, formers};
 use std::alloc::Global;
 use std::marker::Model;
 
@@ -28,7 +26,6 @@ pub struct Books {
     pub(crate) lines: Option<Lines>,
 }
 
-// How the parts are dropped is proved here, and in no crate that drops one.
 impl Drop for Books {
     fn drop(self) {
         let Books {
@@ -74,7 +71,7 @@ impl Books {
         Ok(books)
     }
 
-    // Their parts.
+    // Their parts: where their memory comes from, the fleet's places and conflicts, its prices, its lines.
     pub(crate) fn into_parts(self) -> (Global, FleetBooks, PriceBooks, Option<Lines>)
         ensures { self ≡ record { fleet = result.1; prices = result.2; lines = result.3 } }
     {

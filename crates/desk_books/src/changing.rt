@@ -3,20 +3,19 @@ ghost use Rattle.std.specs.Prelude.{◌≡◌, IfOk, Some, None};
 ghost use Rattle.grid_cells.specs.Size.{Holds};
 ghost use Rattle.desk_books.specs.Prices.{Rows};
 ghost use Rattle.desk_books.specs.Prices as priced;
-ghost use Rattle.desk_books.specs.Formers.{as_row, former_row, former_past};
-ghost use Rattle.desk_books.specs.Kept.{AreAlike};
+ghost use Rattle.scene_edits.specs.Formers.{as_row, former_row, former_past};
+ghost use Rattle.scene_edits.specs.Kept.{AreAlike};
 ghost use Rattle.plan_table.specs.Path.{SamePlaces};
 ghost use Rattle.plan_table.specs.Plans.{row_of};
 ghost use Rattle.desk_books.specs.Books.{Know, Renews};
 
 use crate::books::Books;
 use crate::former::{is_same_plan, track_of};
-use crate::named_agents::{Former, FormerRow};
 use crate::prices::PriceBooks;
 use crate::standing_lines::{with_line, without_line};
 use grid_cells::{Agent, Cell, Grid, OutOfMemory};
 use plan_table::{Plan, Row};
-use scene_edits::Scene;
+use scene_edits::{Former, FormerRow, Scene};
 
 impl Books {
     // The agent's row before becomes its row in the scene.

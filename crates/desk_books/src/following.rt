@@ -8,10 +8,9 @@ ghost use Rattle.desk_books.specs.Books.{AreOf, Keep};
 ghost use Rattle.desk_books.specs.Following.{AreLeft};
 
 use crate::books::Books;
-use crate::named_agents::Former;
 use crate::standing_lines::unflipped;
 use grid_cells::{Cell, OutOfMemory};
-use scene_edits::Scene;
+use scene_edits::{Former, Scene};
 
 impl Books {
     // The map becomes that of the scene, which has another state at no other cell than those.

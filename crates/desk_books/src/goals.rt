@@ -3,7 +3,7 @@ ghost use Rattle.grid_cells.specs.Size.{Holds};
 ghost use Rattle.grid_cells.specs.Grid.{Chart};
 ghost use Rattle.goal_fields.specs.Target.{Covers};
 ghost use Rattle.goal_fields.specs.Held.{StandFor};
-ghost use Rattle.where_index.specs.Spots.{Gains, Loses};
+ghost use Rattle.plan_table.specs.Sets.{Gains, Loses};
 ghost use Rattle.desk_books.specs.Aims.{aim};
 ghost use Rattle.desk_books.specs.Goals.{HoldAimed};
 

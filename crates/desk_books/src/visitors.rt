@@ -1,7 +1,7 @@
 ghost use Rattle.std.specs.Prelude.{◌≡◌, ◌↔◌, ℕ, ◌<◌, ◌≤◌, IsTrue, IfOk, Some, length, map, slice_get};
 ghost use Rattle.std.specs.List.{slice_index_or};
 ghost use Rattle.mapf_rules.specs.declared.visits.Visit.{Visit};
-ghost use Rattle.desk_books.specs.Flips.{visit_to};
+ghost use Rattle.desk_books.specs.Fleet.{visit_to};
 
 use grid_cells::{Agent, Cell, OutOfMemory, Step};
 use mapf_rules::Visit;

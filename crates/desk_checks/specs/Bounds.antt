@@ -2,6 +2,6 @@
 use Rattle.desk_serving.specs.declared.bounds.Bounds.{Bounds}
 use Rattle.desk_checks.specs.declared.bounds.TheConstants.{MOST_BYTES, MOST_LINES}
 
--- the bounds of a run
+-- each session has so many lines and bytes at most
 abbrev pub run_bounds : Bounds
 run_bounds = record { lines = MOST_LINES; bytes = MOST_BYTES }

@@ -49,7 +49,6 @@ pub struct Reading {
     pub report: Report,
 }
 
-// How the parts are dropped is proved here, and in no crate that drops one.
 impl Drop for Reading {
     fn drop(self) {
         let Reading {

@@ -30,7 +30,6 @@ pub struct Commit {
     edits: List<Edit>,
 }
 
-// How the parts are dropped is proved here, and in no crate that drops one.
 impl Drop for Commit {
     fn drop(self) {
         let Commit {

@@ -1,7 +1,7 @@
 //! What a desk does with a commit.
 ghost use Rattle.std.specs.Prelude.{IfSome, IfNone, ◌≡◌};
 ghost use Rattle.scene_edits.specs.Scene.{SceneState};
-ghost use Rattle.desk_books.specs.Following.{ChangedBy};
+ghost use Rattle.scene_edits.specs.ChangedBy.{ChangedBy};
 ghost use Rattle.desk_commits.specs.Commits.{IsCurrent, Refuses, Committed};
 ghost use Rattle.desk_core.specs.Kept.{WhereBooksStand};
 

@@ -24,7 +24,6 @@ pub struct Desk {
     builds: BuildCount,
 }
 
-// How the parts are dropped is proved here, and in no crate that drops one.
 impl Drop for Desk {
     fn drop(self) {
         let Desk {

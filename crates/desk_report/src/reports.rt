@@ -28,7 +28,6 @@ pub struct Report {
     pub total_gap: Option<u64>,
 }
 
-// How the parts are dropped is proved here, and in no crate that drops one.
 impl Drop for Report {
     fn drop(self) {
         let Report {

@@ -26,7 +26,6 @@ pub struct Fields {
     room: Option<Lifelong>,
 }
 
-// How the parts are dropped is proved here, and in no crate that drops one.
 impl Drop for Fields {
     fn drop(self) {
         let Fields {

@@ -6,7 +6,6 @@ pub mod LawsHold
 pub mod RingOrder
 pub mod Distinct
 pub mod RoundTrips
-pub mod Sets
 pub mod Walks
 pub mod Settling
 pub mod Visiting

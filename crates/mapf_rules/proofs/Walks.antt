@@ -9,7 +9,7 @@ use Rattle.plan_table.proofs.Order.{Contains-cons_head, Contains-cons_cases}
 use Rattle.plan_table.specs.Route.{Fleet}
 use Rattle.mapf_rules.specs.Cycles.{IsRing}
 use Rattle.mapf_rules.specs.RingWalk.{IsSoleMover, MovesTo, IsNext, IsWalked}
-use Rattle.mapf_rules.proofs.Sets.{push_iff}
+use Rattle.plan_table.proofs.Sets.{push_iff}
 use Rattle.mapf_rules.proofs.RingOrder.{IsNext-unique, next_of_sole, sole_of_next, round_to_least, next_in_ring, one_before, has_next}
 use Rattle.mapf_rules.proofs.Distinct.{distinct_more}
 

@@ -3,4 +3,5 @@ pub mod Plans
 pub mod PlanFault
 pub mod Route
 pub mod Order
+pub mod Sets
 pub mod Laws

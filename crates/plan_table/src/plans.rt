@@ -23,7 +23,6 @@ pub struct Plans {
     rows: Vec<(Agent, Row)>,
 }
 
-// How the parts are dropped is proved here, and in no crate that drops one.
 impl Drop for Plans {
     fn drop(self) {
         let Plans { rows: _rows } = self;

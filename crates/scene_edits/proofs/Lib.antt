@@ -12,3 +12,8 @@ pub mod EditsInOrder
 pub mod RowEnds
 pub mod OneAnswers
 pub mod Returning
+pub mod FlippedCells
+pub mod RowsBefore
+pub mod KeptRows
+pub mod NamedAgents
+pub mod SameRoutes

@@ -10,3 +10,8 @@ pub mod Board
 pub mod Undone
 pub mod Tasks
 pub mod Laws
+pub mod ChangedBy
+pub mod Named
+pub mod Kept
+pub mod Formers
+pub mod Flips

@@ -21,7 +21,6 @@ pub struct Scene {
     pub(crate) board: Board,
 }
 
-// How the parts are dropped is proved here, and in no crate that drops one.
 impl Drop for Scene {
     fn drop(self) {
         let Scene { board: _board } = self;

@@ -7,7 +7,7 @@ use Rattle.std.proofs.lemmas.Bool.Decides.{nat_tests}
 use Rattle.grid_cells.specs.Cell.{Point}
 use Rattle.grid_cells.specs.declared.numbers.TheConstants.{MOST_AGENT}
 use Rattle.where_index.specs.declared.spot_sets.Spot.{Spot}
-use Rattle.where_index.specs.Spots.{Gains, Loses}
+use Rattle.plan_table.specs.Sets.{Gains, Loses}
 use Rattle.where_index.specs.ByCell.{ByCell, cell_eq, spots_at, AreWithin, GainsAt, LosesAt, HaveSame}
 
 -- ---- equal cells

@@ -1,4 +1,4 @@
-pub mod Sets
+pub mod Filtering
 pub mod SpotOrder
 pub mod ByCell
 pub mod MoveSearch

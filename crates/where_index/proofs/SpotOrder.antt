@@ -19,7 +19,7 @@ use Rattle.plan_table.proofs.Order.{Contains-cons_head, Contains-cons_cases, All
 use Rattle.where_index.specs.declared.moves.Move.{Move}
 use Rattle.where_index.specs.declared.spot_sets.Spot.{Spot}
 use Rattle.where_index.specs.Spots.{spot, AreFrom, AreRising, HasAt}
-use Rattle.where_index.proofs.Sets.{filter_keeps}
+use Rattle.where_index.proofs.Filtering.{filter_keeps}
 
 -- moves compare by agent, then the row and the column of the cell that it goes to
 abbrev pub move_cmp : Move → Move → Ordering

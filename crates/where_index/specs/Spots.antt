@@ -13,14 +13,6 @@ spot time agent to = record { time = time; step = record { agent = agent; to = t
 abbrev pub HasAt : List Spot → ℕ → ℕ → Type 0
 HasAt spots time agent = (to : Point) × Contains spots (spot time agent to)
 
--- new has that element, and those of old
-abbrev pub Gains : {X : Type 0} → List X → List X → X → Type 0
-Gains {X} old new added = (x : X) → Contains new x ↔ (Contains old x ⊎ (x ≡ added))
-
--- new has the elements of old but for that one
-abbrev pub Loses : {X : Type 0} → List X → List X → X → Type 0
-Loses {X} old new lost = (x : X) → Contains new x ↔ (Contains old x × (x ≡ lost → ⊥))
-
 -- the spots from a time on
 abbrev pub AreFrom : List Spot → ℕ → List Spot → Type 0
 AreFrom spots from found = (s : Spot) → Contains found s ↔ (Contains spots s × (from ≤ s.time))

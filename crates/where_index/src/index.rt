@@ -26,7 +26,6 @@ pub struct WhereIndex {
     touched: u64,
 }
 
-// How the parts are dropped is proved here, and in no crate that drops one.
 impl Drop for WhereIndex {
     fn drop(self) {
         let WhereIndex {

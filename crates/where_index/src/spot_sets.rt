@@ -1,7 +1,8 @@
 ghost use Rattle.std.specs.Prelude.{◌≡◌, ◌↔◌, [], OnOk, OnErr, IsTrue};
 ghost use Rattle.std.specs.Bool.{OnTrue};
 ghost use Rattle.grid_cells.specs.Cell.{point};
-ghost use Rattle.where_index.specs.Spots.{spot, Gains, Loses, AreFrom, AreRising, HasAt};
+ghost use Rattle.where_index.specs.Spots.{spot, AreFrom, AreRising, HasAt};
+ghost use Rattle.plan_table.specs.Sets.{Gains, Loses};
 
 use crate::moves::Move;
 use grid_cells::{Agent, Cell, OutOfMemory};

@@ -1,7 +1,7 @@
 use Rattle.std.proofs.Common.{◌≡◌, ◌∷◌, [], ◌++◌, ◌+◌, take, sym, ap, subst, ◌∙◌, arith}
 use Rattle.std.proofs.lemmas.List.{take_more, take_all}
 use Rattle.mapf_rules.proofs.Orders.{conflict_total, conflict_exact}
-use Rattle.mapf_rules.proofs.Sets.{set_loses}
+use Rattle.plan_table.proofs.Sets.{set_loses}
 use Rattle.conflict_ledger.specs.Kept.{LosesAll}
 use Rattle.conflict_ledger.proofs.KeptLoops.{loses_more}
 use Rattle.conflict_ledger.proofs.changes.lose_all.Goals as goal

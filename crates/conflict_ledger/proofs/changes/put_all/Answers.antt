@@ -2,7 +2,7 @@ use Rattle.std.proofs.Common.{◌≡◌, ◌++◌, ◌∷◌, [], append-nil, ap
 use Rattle.std.proofs.lemmas.List.{nil_from_length}
 use Rattle.std.specs.Vec.Iter.{into_iter_items}
 use Rattle.mapf_rules.proofs.Orders.{conflict_total, conflict_exact}
-use Rattle.mapf_rules.proofs.Sets.{set_gains}
+use Rattle.plan_table.proofs.Sets.{set_gains}
 use Rattle.conflict_ledger.specs.Kept.{GainsAll}
 use Rattle.conflict_ledger.proofs.KeptLoops.{gains_more}
 use Rattle.conflict_ledger.proofs.changes.put_all.Goals as goal

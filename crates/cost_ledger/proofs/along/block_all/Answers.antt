@@ -1,6 +1,6 @@
 use Rattle.std.proofs.Common.{arith}
 use Rattle.std.proofs.lemmas.List.{take_all}
-use Rattle.mapf_rules.proofs.Sets.{set_gains}
+use Rattle.plan_table.proofs.Sets.{set_gains}
 use Rattle.cost_ledger.proofs.KeyOrders.{visit_total, visit_exact}
 use Rattle.cost_ledger.proofs.Sets.{gains_then, taken_more}
 use Rattle.cost_ledger.proofs.along.block_all.Goals as goal

@@ -1,5 +1,5 @@
 use Rattle.std.proofs.Common.{arith}
-use Rattle.mapf_rules.proofs.Sets.{set_gains}
+use Rattle.plan_table.proofs.Sets.{set_gains}
 use Rattle.cost_ledger.proofs.KeyOrders.{visit_total, visit_exact}
 use Rattle.cost_ledger.proofs.along.block_at.Goals as goal
 

@@ -2,7 +2,7 @@ use Rattle.std.proofs.Common.{◌≡◌, ℕ, ◌+◌, ◌≤◌, List, Some, ar
 use Rattle.grid_cells.specs.Cell.{Point}
 use Rattle.plan_table.specs.Path.{place}
 use Rattle.mapf_rules.specs.declared.visits.Visit.{Visit}
-use Rattle.mapf_rules.proofs.Sets.{set_loses}
+use Rattle.plan_table.proofs.Sets.{set_loses}
 use Rattle.cost_ledger.specs.Sets.{Loses, LosesAll}
 use Rattle.cost_ledger.specs.Through.{IsThrough}
 use Rattle.cost_ledger.proofs.KeyOrders.{visit_total, visit_exact}

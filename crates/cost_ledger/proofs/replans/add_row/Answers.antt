@@ -1,4 +1,4 @@
-use Rattle.mapf_rules.proofs.Sets.{set_gains}
+use Rattle.plan_table.proofs.Sets.{set_gains}
 use Rattle.cost_ledger.proofs.KeyOrders.{rest_total, rest_exact}
 use Rattle.cost_ledger.proofs.replans.add_row.Goals as goal
 

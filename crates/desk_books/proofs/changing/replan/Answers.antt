@@ -1,6 +1,6 @@
 use Rattle.std.proofs.Common.{◌≡◌, Some, refl, sym, ap, subst, ◌∙◌}
 use Rattle.std.proofs.lemmas.Result.{IfOk-weaker}
-use Rattle.desk_books.specs.Formers.{as_row}
+use Rattle.scene_edits.specs.Formers.{as_row}
 use Rattle.desk_books.specs.Prices as priced
 use Rattle.desk_books.proofs.Rows.{unchanged}
 use Rattle.desk_books.proofs.changing.replan.Goals as goal

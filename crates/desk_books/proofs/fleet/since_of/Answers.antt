@@ -1,5 +1,5 @@
 use Rattle.plan_table.specs.Route.{route_of}
-use Rattle.desk_books.proofs.SameRoutes.{never_apart}
+use Rattle.scene_edits.proofs.SameRoutes.{never_apart}
 use Rattle.desk_books.proofs.fleet.since_of.Goals as goal
 
 pub returns-clause-one : goal.returns-clause-one

@@ -1,5 +1,5 @@
 use Rattle.std.proofs.Common.{◌≡◌, map, take}
-use Rattle.desk_books.specs.Flips.{visit_to}
+use Rattle.desk_books.specs.Fleet.{visit_to}
 use Rattle.desk_books.proofs.visitors.visits_to.Given as goal
 
 abbrev pub invariant-loop-passing : goal.invariant-loop-passing

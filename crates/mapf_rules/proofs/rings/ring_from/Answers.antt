@@ -11,7 +11,7 @@ use Rattle.mapf_rules.specs.RingWalk.{IsNext, MovesTo}
 use Rattle.mapf_rules.proofs.RoundTrips.{last_next, ring_is_chain, begins_more, chain_more, ring_of_chain, none_below, none_again, lt_says, not_lt_says}
 use Rattle.mapf_rules.proofs.RingOrder.{next_of_sole, sole_of_next}
 use Rattle.mapf_rules.proofs.Distinct.{distinct_below}
-use Rattle.mapf_rules.proofs.Sets.{push_iff, set_gains, set_fresh, set_stale}
+use Rattle.plan_table.proofs.Sets.{push_iff, set_gains, set_fresh, set_stale}
 use Rattle.mapf_rules.proofs.rings.ring_from.Goals as goal
 use Rattle.mapf_rules.proofs.rings.ring_from.Goals.{then-long, else-long, then-lt-via-then-lt, then-lt-via-else-lt+in_ok-insert-2+then-not-branch}
 

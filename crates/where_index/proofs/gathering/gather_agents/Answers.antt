@@ -5,7 +5,7 @@ use Rattle.plan_table.proofs.Order.{AllPairs-tail}
 use Rattle.where_index.specs.declared.spot_sets.Spot.{Spot}
 use Rattle.where_index.specs.Shown.{IsBy}
 use Rattle.where_index.specs.Spots.{AreRising}
-use Rattle.where_index.proofs.Sets.{set_gains}
+use Rattle.plan_table.proofs.Sets.{set_gains}
 use Rattle.where_index.proofs.SpotOrder.{first_least}
 use Rattle.where_index.proofs.Gathered.{gathers_none, gathers_more, gathers_all, none_left}
 use Rattle.where_index.proofs.gathering.gather_agents.Goals as goal

@@ -1,5 +1,5 @@
 use Rattle.where_index.specs.Shown.{passing_of, IsPassing}
-use Rattle.where_index.proofs.Sets.{set_gains}
+use Rattle.plan_table.proofs.Sets.{set_gains}
 use Rattle.where_index.proofs.Gathered.{passing_total, passing_exact, gathers_none, gathers_more, gathers_all, none_left}
 use Rattle.where_index.proofs.gathering.gather_passings.Goals as goal
 

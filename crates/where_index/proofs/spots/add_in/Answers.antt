@@ -2,7 +2,7 @@ use Rattle.std.proofs.Common.{◌≡◌, Some, Option, List, [], ap, sym, ◌∙
 use Rattle.std.specs.Option.{unwrap_or, option_copied_mut, IsSome}
 use Rattle.std.proofs.lemmas.Result.{on_ok_weaker, on_err_weaker}
 use Rattle.where_index.specs.declared.spot_sets.Spot.{Spot}
-use Rattle.where_index.specs.Spots.{Gains}
+use Rattle.plan_table.specs.Sets.{Gains}
 use Rattle.where_index.specs.ByCell.{ByCell, spots_at}
 use Rattle.where_index.proofs.ByCell.{Puts, gains_at, have_same}
 use Rattle.where_index.proofs.spots.add_in.Goals as goal

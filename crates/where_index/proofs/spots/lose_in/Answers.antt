@@ -1,7 +1,7 @@
 use Rattle.std.proofs.Common.{◌≡◌, Some, Option, List, [], ap, sym, ◌∙◌, refl, subst}
 use Rattle.std.specs.Option.{unwrap_or, option_copied_mut, IsSome}
 use Rattle.where_index.specs.declared.spot_sets.Spot.{Spot}
-use Rattle.where_index.specs.Spots.{Loses}
+use Rattle.plan_table.specs.Sets.{Loses}
 use Rattle.where_index.specs.ByCell.{spots_at}
 use Rattle.where_index.proofs.ByCell.{loses_at}
 use Rattle.where_index.proofs.spots.lose_in.Goals as goal

@@ -2,7 +2,7 @@ use Rattle.std.proofs.Common.{◌≡◌, ◌-◌, Some, refl, sym, arith}
 use Rattle.plan_table.specs.Plans.{row_of}
 use Rattle.plan_table.specs.declared.plans.Row.{Row}
 use Rattle.cost_ledger.specs.Kept.{Keeps, ends_elsewhere, last_of_row}
-use Rattle.mapf_rules.proofs.Sets.{set_loses}
+use Rattle.plan_table.proofs.Sets.{set_loses}
 use Rattle.cost_ledger.proofs.KeyOrders.{rest_total, rest_exact}
 use Rattle.cost_ledger.proofs.Keeping.{keeps_put, keeps_take, total_small, elsewhere_small, one_at_most}
 use Rattle.cost_ledger.proofs.Replanning.{same_below, visits_replanned}

@@ -1,6 +1,6 @@
 use Rattle.std.proofs.Common.{sym, arith}
 use Rattle.cost_ledger.specs.Kept.{ends_elsewhere, last_of_row}
-use Rattle.mapf_rules.proofs.Sets.{set_loses}
+use Rattle.plan_table.proofs.Sets.{set_loses}
 use Rattle.cost_ledger.proofs.KeyOrders.{rest_total, rest_exact}
 use Rattle.cost_ledger.proofs.Keeping.{keeps_take, visits_take}
 use Rattle.cost_ledger.proofs.ledger.CostLedger.take.Goals as goal

@@ -1,6 +1,6 @@
 use Rattle.std.proofs.Common.{◌≤◌, inl, inr, subst, sym, arith}
 use Rattle.grid_cells.specs.declared.numbers.TheConstants.{MOST_AGENT}
-use Rattle.where_index.proofs.Sets.{set_gains}
+use Rattle.plan_table.proofs.Sets.{set_gains}
 use Rattle.desk_books.specs.declared.aims.Aim.{Aim}
 use Rattle.desk_books.proofs.AimOrder.{aim_total, aim_exact}
 use Rattle.desk_books.proofs.aims.Aims.add.Goals as goal

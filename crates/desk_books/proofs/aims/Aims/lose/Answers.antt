@@ -1,4 +1,4 @@
-use Rattle.where_index.proofs.Sets.{set_loses}
+use Rattle.plan_table.proofs.Sets.{set_loses}
 use Rattle.desk_books.proofs.AimOrder.{aim_total, aim_exact}
 use Rattle.desk_books.proofs.aims.Aims.lose.Goals as goal
 

@@ -7,7 +7,7 @@ use Rattle.plan_table.specs.Plans.{row_of}
 use Rattle.plan_table.specs.declared.plans.Row.{Row}
 use Rattle.desk_books.specs.Prices.{Rows}
 use Rattle.desk_books.specs.Books.{Keep}
-use Rattle.desk_books.specs.Kept.{Past}
+use Rattle.scene_edits.specs.Kept.{Past}
 use Rattle.desk_books.proofs.Rows.{unchanged}
 use Rattle.desk_books.proofs.Live.{goal_inside}
 use Rattle.desk_books.proofs.books.Books.change.Goals as goal

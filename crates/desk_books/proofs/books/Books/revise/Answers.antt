@@ -7,7 +7,7 @@ use Rattle.plan_table.specs.Route.{Route, route_of, route_in}
 use Rattle.plan_table.specs.declared.plans.Row.{Row}
 use Rattle.plan_table.specs.declared.tracks.Mode.{Mode}
 use Rattle.where_index.specs.Index.{with_route}
-use Rattle.desk_books.specs.Formers.{as_row}
+use Rattle.scene_edits.specs.Formers.{as_row}
 use Rattle.desk_books.specs.Fleet as fleets
 use Rattle.desk_books.specs.Books.{fleet_of}
 use Rattle.desk_books.proofs.Keeping.{keep_with}

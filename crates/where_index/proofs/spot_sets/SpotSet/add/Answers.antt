@@ -1,4 +1,4 @@
-use Rattle.where_index.proofs.Sets.{set_gains}
+use Rattle.plan_table.proofs.Sets.{set_gains}
 use Rattle.where_index.proofs.SpotOrder.{spot_total, spot_exact}
 use Rattle.where_index.proofs.spot_sets.SpotSet.add.Goals as goal
 

@@ -1,7 +1,7 @@
 use Rattle.std.proofs.Common.{refl}
 use Rattle.std.specs.BTreeMap.{keys}
-use Rattle.desk_books.proofs.NamedAgents.{keys-same, keys-joined}
-use Rattle.desk_books.proofs.taking_back.take_back.Goals as goal
+use Rattle.scene_edits.proofs.NamedAgents.{keys-same, keys-joined}
+use Rattle.scene_edits.proofs.taking_back.take_back.Goals as goal
 
 pub returns-in-Added-clause-named : goal.returns-in-Added-clause-named
 returns-in-Added-clause-named c = keys-joined c.keep.result c.args.change.now c.in-Added.agent (keys c.args.rows.now) (keys c.keep.new.rows) (rw c.in-Added.is refl) c.keep.ensures.named

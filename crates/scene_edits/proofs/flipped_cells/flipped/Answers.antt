@@ -4,9 +4,9 @@ use Rattle.std.proofs.lemmas.List.{take_all}
 use Rattle.grid_cells.specs.Cell.{Point}
 use Rattle.scene_edits.specs.InOrder.{edited_all}
 use Rattle.scene_edits.specs.declared.changes.Change.TheVariants.{Flipped}
-use Rattle.desk_books.specs.Flips.{HoldFlips}
-use Rattle.desk_books.proofs.FlippedCells.{flips_of, flips_hold, flips_named}
-use Rattle.desk_books.proofs.flipped_cells.flipped.Goals as goal
+use Rattle.scene_edits.specs.Flips.{HoldFlips}
+use Rattle.scene_edits.proofs.FlippedCells.{flips_of, flips_hold, flips_named}
+use Rattle.scene_edits.proofs.flipped_cells.flipped.Goals as goal
 
 pub returns-clause-flips : goal.returns-clause-flips
 returns-clause-flips c =

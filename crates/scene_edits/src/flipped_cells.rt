@@ -1,9 +1,9 @@
 ghost use Rattle.std.specs.Prelude.{IfOk, List, Contains, All};
-ghost use Rattle.desk_books.specs.Following.{HoldsOver};
-ghost use Rattle.desk_books.specs.Flips.{HoldFlips};
+ghost use Rattle.scene_edits.specs.ChangedBy.{HoldsOver};
+ghost use Rattle.scene_edits.specs.Flips.{HoldFlips};
 
+use crate::changes::Change;
 use grid_cells::{Cell, OutOfMemory};
-use scene_edits::Change;
 use std::alloc::Global;
 
 /// Cells that the changes opened or closed: each cell of the map whose state before them isn't the

@@ -1,9 +1,9 @@
 use Rattle.std.proofs.Common.{◌≡◌, ◌≤◌, ℕ, All, drop, length}
 use Rattle.std.specs.BTreeMap.{keys}
 use Rattle.plan_table.specs.Plans.{row_of}
-use Rattle.desk_books.specs.Kept.{past_known, present, before_changes}
-use Rattle.desk_books.specs.Named.{IsNamed}
-use Rattle.desk_books.proofs.named_agents.formers.Given as goal
+use Rattle.scene_edits.specs.Kept.{past_known, present, before_changes}
+use Rattle.scene_edits.specs.Named.{IsNamed}
+use Rattle.scene_edits.proofs.named_agents.formers.Given as goal
 
 abbrev pub invariant-loop-left : goal.invariant-loop-left
 invariant-loop-left l = record {

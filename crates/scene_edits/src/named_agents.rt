@@ -2,14 +2,14 @@ ghost use Rattle.std.specs.Prelude.{◌≡◌, ℕ, List, IfOk, All, map};
 ghost use Rattle.std.specs.Option.{option_map};
 ghost use Rattle.std.specs.Ordering.{nat_cmp};
 ghost use Rattle.std.specs.BTreeMap.{IsOrdered};
-ghost use Rattle.desk_books.specs.Following.{HoldsOver};
-ghost use Rattle.desk_books.specs.Named.{IsNamed};
-ghost use Rattle.desk_books.specs.Formers.{as_past, former_past, former_of, AreFormers};
+ghost use Rattle.scene_edits.specs.ChangedBy.{HoldsOver};
+ghost use Rattle.scene_edits.specs.Named.{IsNamed};
+ghost use Rattle.scene_edits.specs.Formers.{as_past, former_past, former_of, AreFormers};
 
+use crate::changes::Change;
 use crate::taking_back::{Kept, take_back};
 use grid_cells::{Agent, Cell, OutOfMemory};
 use plan_table::{Plan, Plans};
-use scene_edits::Change;
 use std::alloc::Global;
 use std::collections::BTreeMap;
 

@@ -4,10 +4,10 @@ use Rattle.std.specs.List.{AllPairs}
 use Rattle.std.specs.Option.{option_map}
 use Rattle.plan_table.specs.Plans.{row_of}
 use Rattle.plan_table.specs.declared.plans.Row.{Row}
-use Rattle.desk_books.specs.declared.named_agents.Former.{Former}
-use Rattle.desk_books.specs.declared.named_agents.FormerRow.{FormerRow}
-use Rattle.desk_books.specs.declared.taking_back.Kept.{Kept}
-use Rattle.desk_books.specs.Kept.{Past, AreAlike, past_with}
+use Rattle.scene_edits.specs.declared.named_agents.Former.{Former}
+use Rattle.scene_edits.specs.declared.named_agents.FormerRow.{FormerRow}
+use Rattle.scene_edits.specs.declared.taking_back.Kept.{Kept}
+use Rattle.scene_edits.specs.Kept.{Past, AreAlike, past_with}
 
 -- a former row as a row of a table
 abbrev pub as_row : FormerRow → Row

@@ -2,14 +2,14 @@ ghost use Rattle.std.specs.Prelude.{◌≡◌, ◌⊎◌, ℕ, List, OnOk, All, 
 ghost use Rattle.std.specs.Option.{option_map};
 ghost use Rattle.std.specs.BTreeMap.{keys};
 ghost use Rattle.plan_table.specs.declared.plans.Row.{Row};
-ghost use Rattle.desk_books.specs.Formers.{as_past};
-ghost use Rattle.desk_books.specs.Named.{JoinBy};
-ghost use Rattle.desk_books.specs.Kept.{past_with, past_known, before_change};
+ghost use Rattle.scene_edits.specs.Formers.{as_past};
+ghost use Rattle.scene_edits.specs.Named.{JoinBy};
+ghost use Rattle.scene_edits.specs.Kept.{past_with, past_known, before_change};
 
+use crate::changes::Change;
 use crate::named_agents::FormerRow;
 use grid_cells::{Agent, Cell, OutOfMemory};
 use plan_table::{Plan, Plans};
-use scene_edits::Change;
 use std::collections::BTreeMap;
 
 // How far a path is known to be in its own cells: at all times.

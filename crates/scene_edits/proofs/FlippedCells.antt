@@ -16,7 +16,7 @@ use Rattle.scene_edits.specs.declared.changes.Change.{Change}
 use Rattle.scene_edits.specs.declared.changes.Change.TheVariants.{Added, Dropped, Aimed, Moved, Flipped, Same}
 use Rattle.scene_edits.proofs.PathsOf.{is_cell-same, is_cell-other}
 use Rattle.scene_edits.proofs.Returning.{changes_go_back_holds, edits_keep_size_holds}
-use Rattle.desk_books.specs.Flips.{flag_at, HoldFlips}
+use Rattle.scene_edits.specs.Flips.{flag_at, HoldFlips}
 
 -- the cell that a change flipped, if it flipped one
 abbrev pub flip_of : Change → List Point

@@ -42,15 +42,3 @@ filter_keeps p (x ∷ xs) y =
             ]),
           )
     ]
-
-pub tied_or_not : (o : Ordering) → (o ≡ Equal) ⊎ (is_eq o ≡ false)
-tied_or_not o = grind arith
-
-module _ {K : Type 0} {R : K → K → Ordering} (o : IsTotalOrder R) (exact : CmpEqualImpliesEq R) where
-  pub set_gains : (s n : BTreeSet K) (k : K) → sorted.Updates R s n k true → (q : K) → Contains n.keys q ↔ (Contains s.keys q ⊎ (q ≡ k))
-  set_gains s n k h q =
-      grind (arith, btree_set_contains_iff o exact n q, btree_set_contains_iff o exact s q, h.0 q, h.2 q, exact k q, tied_itself o k, tied_or_not (R k q))
-
-  pub set_loses : (s n : BTreeSet K) (k : K) → sorted.Updates R s n k false → (q : K) → Contains n.keys q ↔ (Contains s.keys q × (q ≡ k → ⊥))
-  set_loses s n k h q =
-      grind (arith, btree_set_contains_iff o exact n q, btree_set_contains_iff o exact s q, h.0 q, h.2 q, exact k q, tied_itself o k, tied_or_not (R k q))

@@ -1,11 +1,9 @@
--- The cells that edits opened or closed, and the visits to them (this project's choice).
+-- The cells that edits opened or closed (this project's choice).
 use Rattle.std.specs.Prelude.{◌≢◌, Bool, Option, List, Contains, slice_get}
 use Rattle.grid_cells.specs.Cell.{Point}
 use Rattle.grid_cells.specs.Size.{Holds}
 use Rattle.grid_cells.specs.Grid.{Chart, flag_index}
 use Rattle.scene_edits.specs.Scene.{AreIn}
-use Rattle.mapf_rules.specs.declared.visits.Visit.{Visit}
-use Rattle.where_index.specs.declared.passings.Passing.{Passing}
 
 -- a cell's flag
 abbrev pub flag_at : Chart → Point → Option Bool
@@ -15,7 +13,3 @@ flag_at grid cell = slice_get grid.flags (flag_index grid.size cell)
 pub record HoldFlips (old new : Chart) (cells : List Point) : Type 0 where
   pub differ : (cell : Point) → Holds old.size cell → flag_at old cell ≢ flag_at new cell → Contains cells cell
   pub on_map : AreIn old.size cells
-
--- the visit to the cell of an agent that passes through it
-abbrev pub visit_to : Point → Passing → Visit
-visit_to cell passing = record { agent = passing.agent; time = passing.time; cell = cell }

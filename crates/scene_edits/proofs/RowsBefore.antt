@@ -22,8 +22,8 @@ use Rattle.scene_edits.specs.declared.changes.Change.TheVariants.{Added, Dropped
 use Rattle.scene_edits.proofs.RowEdits.{row_of-with_row, row_of-without_row}
 use Rattle.scene_edits.proofs.KeptScenes.{edits_keep_scenes_holds}
 use Rattle.scene_edits.proofs.TakingBack.{some_and, goes_back}
-use Rattle.desk_books.specs.Kept.{Past, AreAlike, before_change, before_changes, moved_back, present}
-use Rattle.desk_books.proofs.SameRoutes.{same_until}
+use Rattle.scene_edits.specs.Kept.{Past, AreAlike, before_change, before_changes, moved_back, present}
+use Rattle.scene_edits.proofs.SameRoutes.{same_until}
 
 -- a changed row, where there is one
 row_of-with_changed : (rows : List (ℕ × Row)) (agent : ℕ) (change : Row → Row) (q : ℕ) → row_of (with_changed rows agent change) q ≡ (if eqb agent q then option_map change (row_of rows q) else row_of rows q)

@@ -8,11 +8,11 @@ use Rattle.std.proofs.lemmas.List.{get_or-map, length-map}
 use Rattle.std.proofs.lemmas.List.Elements.{All-weaker, All-contains, All-contains_itself, All-map}
 use Rattle.std.proofs.lemmas.Map.Views.{All-keys-insert_entry}
 use Rattle.scene_edits.specs.declared.changes.Change.{Change}
-use Rattle.desk_books.specs.Named.{Names, IsNamed, JoinBy}
-use Rattle.desk_books.specs.Formers.{former_of}
-use Rattle.desk_books.specs.declared.named_agents.Former.{Former}
-use Rattle.desk_books.specs.declared.taking_back.Kept.{Kept}
-use Rattle.desk_books.proofs.RowsBefore.{drop_one}
+use Rattle.scene_edits.specs.Named.{Names, IsNamed, JoinBy}
+use Rattle.scene_edits.specs.Formers.{former_of}
+use Rattle.scene_edits.specs.declared.named_agents.Former.{Former}
+use Rattle.scene_edits.specs.declared.taking_back.Kept.{Kept}
+use Rattle.scene_edits.proofs.RowsBefore.{drop_one}
 
 -- one more key
 pub keys-kept : (entries : List (ℕ × Kept)) (agent : ℕ) (kept : Kept) → All (λ key. Contains (keys_of entries) key ⊎ (agent ≡ key)) (keys_of (insert_entry nat_cmp entries agent kept))

@@ -3,13 +3,13 @@ use Rattle.std.specs.BTreeMap.{keys}
 use Rattle.std.proofs.lemmas.Result.{IfOk-weaker}
 use Rattle.plan_table.specs.Plans.{row_of}
 use Rattle.scene_edits.specs.declared.changes.Change.{Change}
-use Rattle.desk_books.specs.Kept.{past_known, present, before_change, before_changes}
-use Rattle.desk_books.specs.Named.{IsNamed}
-use Rattle.desk_books.specs.declared.named_agents.Former.{Former}
-use Rattle.desk_books.proofs.KeptRows.{formers_hold}
-use Rattle.desk_books.proofs.RowsBefore.{drop_one}
-use Rattle.desk_books.proofs.NamedAgents.{named-more, named_formers}
-use Rattle.desk_books.proofs.named_agents.formers.Goals as goal
+use Rattle.scene_edits.specs.Kept.{past_known, present, before_change, before_changes}
+use Rattle.scene_edits.specs.Named.{IsNamed}
+use Rattle.scene_edits.specs.declared.named_agents.Former.{Former}
+use Rattle.scene_edits.proofs.KeptRows.{formers_hold}
+use Rattle.scene_edits.proofs.RowsBefore.{drop_one}
+use Rattle.scene_edits.proofs.NamedAgents.{named-more, named_formers}
+use Rattle.scene_edits.proofs.named_agents.formers.Goals as goal
 
 pub loop-left-preserved : goal.loop-left-preserved
 loop-left-preserved c =

@@ -16,11 +16,11 @@ use Rattle.scene_edits.specs.Scene.{SceneState, IsScene}
 use Rattle.scene_edits.specs.InOrder.{edited_all, AreAllowed, AreChanges}
 use Rattle.scene_edits.specs.declared.edits.Edit.{Edit}
 use Rattle.scene_edits.specs.declared.changes.Change.{Change}
-use Rattle.desk_books.specs.Formers.{former_past, former_of, AreFormers}
-use Rattle.desk_books.specs.Kept.{kept_past, past_known, present, before_changes}
-use Rattle.desk_books.specs.declared.named_agents.Former.{Former}
-use Rattle.desk_books.specs.declared.taking_back.Kept.{Kept}
-use Rattle.desk_books.proofs.RowsBefore.{IsPast, is_present, all_back}
+use Rattle.scene_edits.specs.Formers.{former_past, former_of, AreFormers}
+use Rattle.scene_edits.specs.Kept.{kept_past, past_known, present, before_changes}
+use Rattle.scene_edits.specs.declared.named_agents.Former.{Former}
+use Rattle.scene_edits.specs.declared.taking_back.Kept.{Kept}
+use Rattle.scene_edits.proofs.RowsBefore.{IsPast, is_present, all_back}
 
 known_some : (kept : Kept) (table : List (ℕ × Row)) (agent : ℕ) (found : Option Kept) → found ≡ Some kept → option_map_or kept_past found (present (row_of table agent)) ≡ kept_past kept
 known_some kept table agent found is = ap (λ o. option_map_or kept_past o (present (row_of table agent))) is

@@ -10,8 +10,8 @@ use Rattle.plan_table.specs.Plans.{row_of}
 use Rattle.plan_table.specs.declared.plans.Row.{Row}
 use Rattle.scene_edits.specs.declared.changes.Change.{Change}
 use Rattle.scene_edits.specs.declared.changes.Change.TheVariants.{Added, Dropped, Aimed, Moved, Flipped, Same}
-use Rattle.desk_books.specs.declared.taking_back.Kept.{Kept}
-use Rattle.desk_books.specs.declared.taking_back.TheConstants.{FOR_EVER}
+use Rattle.scene_edits.specs.declared.taking_back.Kept.{Kept}
+use Rattle.scene_edits.specs.declared.taking_back.TheConstants.{FOR_EVER}
 
 -- a row that an agent had, and below which time its path is known to be in the cells of the agent's later path
 pub record Past : Type 0 where
