@@ -1,5 +1,5 @@
 -- The spots of a cell, an agent there at a time on its way to a cell: words for the program's own steps (this project's choice).
-use Rattle.std.specs.Prelude.{◌≡◌, ◌≢◌, ◌⊎◌, ◌↔◌, ℕ, ◌≤◌, List, Contains}
+use Rattle.std.specs.Prelude.{◌≢◌, ◌↔◌, ℕ, ◌≤◌, List, Contains}
 use Rattle.std.specs.List.{AllPairs}
 use Rattle.grid_cells.specs.Cell.{Point}
 use Rattle.where_index.specs.declared.moves.Move.{Move}
