@@ -21,7 +21,8 @@ use Rattle.plan_table.proofs.Fleets.{row_here}
 use Rattle.plan_table.proofs.Rows.{rows_few}
 use Rattle.cost_ledger.specs.Kept.{Keeps, AreRests, SwapsRow, last_of_row, ends_elsewhere, sum_of_rows, rest, visit_cmp}
 use Rattle.cost_ledger.specs.Ledger.{SameBut, SameAt}
-use Rattle.cost_ledger.specs.Sets.{Gains, Loses, GainsAll, LosesAll}
+use Rattle.plan_table.specs.Sets.{Gains, Loses}
+use Rattle.cost_ledger.specs.Sets.{GainsAll, LosesAll}
 use Rattle.cost_ledger.specs.Through.{IsThrough, AreThrough}
 use Rattle.mapf_rules.specs.Visits.{IsBlocked, visit_key, AreVisits}
 use Rattle.mapf_rules.specs.VisitSearch.{IsVisitIn}

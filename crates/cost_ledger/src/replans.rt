@@ -2,7 +2,7 @@ ghost use Rattle.std.specs.Prelude.{◌≡◌, ◌+◌, ◌≤◌, None, OnOk, I
 ghost use Rattle.plan_table.specs.Path.{last_index};
 ghost use Rattle.plan_table.specs.Plans.{row_of};
 ghost use Rattle.cost_ledger.specs.Kept.{ends_elsewhere, rest, GainsRow};
-ghost use Rattle.cost_ledger.specs.Sets.{Gains};
+ghost use Rattle.plan_table.specs.Sets.{Gains};
 ghost use Rattle.cost_ledger.specs.Replans.{GainsVisits, planned_row};
 
 use crate::along::block;

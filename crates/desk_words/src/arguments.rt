@@ -27,10 +27,11 @@ pub struct Argument {
     /// The letter that names it too, if it is a flag.
     pub short: Option<char>,
     pub value: Value,
-    /// The value where none is given, if there is one.
+    /// The value where none is given, if there is one: of an option with a value.
     pub usual: &'static [&'static str],
+    /// Whether it has to be given: of what isn't a flag.
     pub is_needed: bool,
-    /// The options that can't stand beside it.
+    /// The options that can't stand beside it: of an option with a value.
     pub excluded: &'static [&'static str],
     pub help: &'static str,
 }

@@ -3,7 +3,8 @@ use Rattle.grid_cells.specs.Cell.{Point}
 use Rattle.plan_table.specs.Path.{place}
 use Rattle.mapf_rules.specs.declared.visits.Visit.{Visit}
 use Rattle.plan_table.proofs.Sets.{set_loses}
-use Rattle.cost_ledger.specs.Sets.{Loses, LosesAll}
+use Rattle.plan_table.specs.Sets.{Loses}
+use Rattle.cost_ledger.specs.Sets.{LosesAll}
 use Rattle.cost_ledger.specs.Through.{IsThrough}
 use Rattle.cost_ledger.proofs.KeyOrders.{visit_total, visit_exact}
 use Rattle.cost_ledger.proofs.along.unblock.Goals as goal
