@@ -39,10 +39,11 @@ size_no : (width height : ℕ) → (IsSize width height → ⊥) → is_size wid
 size_no width height never = grind (arith, nat_tests, common_steps, size_from)
 
 good_header : (lines : List (List ℕ)) (height width : ℕ) → IsHeader lines height width → first_fault lines ≡ cond (is_size width height) (rows_fault width height 0 (drop 4 lines)) (Some BadSize)
-good_header lines height width header = grind (arith, nat_tests, common_steps)
+good_header lines height width header = rw (header.title, header.high, header.wide, header.marker) refl
 
 good_size : (lines : List (List ℕ)) (size : Extent) → HasSize lines size → first_fault lines ≡ rows_fault size.width size.height 0 (drop 4 lines)
-good_size lines size has = grind (arith, nat_tests, common_steps, good_header, size_yes)
+good_size lines size has = good_header lines size.height size.width has.header
+    ∙ ap (λ lawful. cond lawful (rows_fault size.width size.height 0 (drop 4 lines)) (Some BadSize)) (size_yes size.width size.height has.lawful)
 
 bad_header : (high wide : Option ℕ) (marker : Bool) (body : List (List ℕ)) (number : ℕ) → ((number ≡ 2) × (high ≡ None)) ⊎ ((number ≡ 3) × IsSome high × (wide ≡ None)) ⊎ ((number ≡ 4) × IsSome high × IsSome wide × (marker ≡ false)) → fault_of true high wide marker body ≡ Some (BadHeader number)
 bad_header high wide marker body number (inl is) = rw (is.1, is.0) refl
@@ -58,8 +59,9 @@ bad_row lines fault bad = good_size lines bad.0 bad.1 ∙ rows_fault-is bad.0 (d
 -- a fault of the definition is the first one
 pub fault_is : (lines : List (List ℕ)) (fault : MapFault) → fault ≢ OutOfMemory → IsMapFault lines fault → first_fault lines ≡ Some fault
 fault_is lines NotOctile other is = ap (λ title. fault_of title (height_of lines) (width_of lines) (is_marker (words_at lines 3)) (drop 4 lines)) is
-fault_is lines (BadHeader number) other is = grind (arith, nat_tests, common_steps, bad_header)
-fault_is lines BadSize other is = grind (arith, nat_tests, common_steps, good_header, size_no)
+fault_is lines (BadHeader number) other is = rw is.title (bad_header (height_of lines) (width_of lines) (is_marker (words_at lines 3)) (drop 4 lines) number is.first)
+fault_is lines BadSize other is = good_header lines is.height is.width is.header
+    ∙ ap (λ lawful. cond lawful (rows_fault is.width is.height 0 (drop 4 lines)) (Some BadSize)) (size_no is.width is.height is.unlawful)
 fault_is lines (MissingRow row) other is = bad_row lines (MissingRow row) is
 fault_is lines (ShortRow row) other is = bad_row lines (ShortRow row) is
 fault_is lines (LongRow row) other is = bad_row lines (LongRow row) is

@@ -1,5 +1,4 @@
-ghost use Rattle.std.specs.Prelude.{◌≡◌, ◌≢◌, ◌<◌, [], ◌∷◌, length, MatchOption, MatchResult};
-ghost use Rattle.std.specs.Option.{ok_or};
+ghost use Rattle.std.specs.Prelude.{◌≡◌, ◌≢◌, ◌<◌, Some, None, [], ◌∷◌, length, MatchOption, MatchResult};
 ghost use Rattle.bench_reader.specs.Words.{words_of, number_of};
 ghost use Rattle.bench_reader.specs.ScenText.{AreFields};
 ghost use Rattle.bench_reader.specs.ScenFaults.{IsBadField};
@@ -69,7 +68,7 @@ pub(crate) fn task_words(line: &[u8]) -> Option<TaskWords<'_>>
 
 // The number in the word of a field, or which field it is.
 fn number_in(word: &[u8], field: usize) -> Result<u32, usize>
-    ensures { result ≡ ok_or (number_of word.now) field }
+    ensures { MatchResult result (λ number. number_of word.now ≡ Some number) (λ at. (at ≡ field) × (number_of word.now ≡ None)) }
 {
     number_of(word).ok_or(field)
 }

@@ -1,4 +1,4 @@
-ghost use Rattle.std.specs.Prelude.{◌≡◌, ◌+◌, ◌^◌, ◌<◌, ◌≤◌, true, [], ◌∷◌, drop, length, MatchOption};
+ghost use Rattle.std.specs.Prelude.{◌≡◌, ℕ, ◌+◌, ◌^◌, ◌<◌, ◌≤◌, true, [], ◌∷◌, drop, length, MatchOption};
 ghost use Rattle.std.specs.List.{list_all};
 ghost use Rattle.bench_reader.specs.Lines.{lines_of, line_at, is_blank, is_blank_line, row_of, IsFirstWritten};
 
@@ -21,6 +21,7 @@ pub fn next_line(text: &[u8]) -> Option<(&[u8], &[u8])>
 pub(crate) fn first_line(text: &[u8]) -> (&[u8], &[u8])
     ensures line { result.0.now ≡ line_at (lines_of text.now) 0 }
     ensures rest { lines_of result.1.now ≡ drop 1 (lines_of text.now) }
+    ensures behind { (k : ℕ) → line_at (lines_of result.1.now) k ≡ line_at (lines_of text.now) (k + 1) }
     ensures shorter { length result.1.now ≤ length text.now }
 {
     match next_line(text) {

@@ -4,7 +4,7 @@ use Rattle.std.specs.Prelude.{slice_index}
 use Rattle.std.proofs.Common.{◌≡◌, ◌≢◌, ℕ, zero, suc, ◌-◌, ◌/◌, ◌<◌, ◌≤◌, List, length, inl, inr, arith, get_or-set_same, get_or-set_other}
 use Rattle.std.proofs.Math.ListN.{set, length-set}
 use Rattle.std.proofs.lemmas.Bool.{cases_eq}
-use Rattle.cell_queue.specs.Heap.{IsChild, IsOrdered, IsLooseUp, IsLooseDown}
+use Rattle.cell_queue.specs.Heap.{IsChild, IsOrdered, IsLoose, IsLooseUp, IsLooseDown}
 
 -- the keys after an exchange
 pub record IsExchange (K K' : ℕ → ℕ) (i j : ℕ) : Type 0 where
@@ -55,6 +55,16 @@ pub IsLooseDown-sink : (keys : List ℕ) (len at child : ℕ) → IsLooseDown ke
     ((c : ℕ) → IsChild at c → c < len → slice_index keys child ≤ slice_index keys c) →
     IsLooseDown (set (set keys at (slice_index keys child)) child (slice_index keys at)) len child
 IsLooseDown-sink keys len at child loose room is_child in_heap less least = grind (arith, nat_tests, common_steps, exchanged, sink_others, sink_across)
+
+-- the order without the last place, after its exchange with another
+pub IsLoose-last : (keys : List ℕ) (len at : ℕ) → IsOrdered keys len → len ≤ length keys → at < len →
+    IsLoose (set (set keys at (slice_index keys (len - 1))) (len - 1) (slice_index keys at)) (len - 1) at
+IsLoose-last keys len at ordered room inside =
+    let x = exchanged keys at (len - 1) (omega arith) (omega arith) in
+    record {
+      others = λ p c child lt pn cn. omega (arith, x.rest p pn (omega arith), x.rest c cn (omega arith), ordered p c child (omega arith));
+      across = λ p c above below lt. omega (arith, x.rest p (omega arith) (omega arith), x.rest c (omega arith) (omega arith), ordered p at above (omega arith), ordered at c below (omega arith));
+    }
 
 -- the top has the least key
 pub IsOrdered-top : (keys : List ℕ) (len : ℕ) → IsOrdered keys len → (fuel i : ℕ) → i ≤ fuel → i < len → slice_index keys 0 ≤ slice_index keys i

@@ -1,13 +1,15 @@
 use Rattle.std.proofs.lemmas.Bool.Decides.{nat_tests}
 use Rattle.std.proofs.lemmas.Grind.{common_steps}
 use Rattle.std.specs.Prelude.{slice_index, slice_index_or}
-use Rattle.std.proofs.Common.{◌+◌, sum_by, ◌≡◌, ◌≢◌, ℕ, ◌<◌, List, length, None, sym, ◌∙◌, arith, get_or-set_same, get_or-set_other}
+use Rattle.std.specs.List.{SwappedAt}
+use Rattle.std.proofs.Common.{◌+◌, sum_by, ◌≡◌, ◌≢◌, ℕ, ◌<◌, List, length, None, ap, sym, ◌∙◌, arith, get_or-set_same, get_or-set_other}
 use Rattle.std.proofs.Math.ListN.{set, length-set, length-map}
-use Rattle.std.proofs.lemmas.List.{get_or-map, ext_get_or}
+use Rattle.std.proofs.lemmas.List.{get_or-map, get_or_read, ext_get_or}
 use Rattle.std.proofs.lemmas.List.Sums.{sum_by-set}
 use Rattle.cell_queue.specs.Heap.{nowhere, absent}
 use Rattle.grid_cells.specs.Cell.{Point}
 use Rattle.grid_cells.specs.Size.{Extent}
+use Rattle.grid_cells.specs.Grid.{flag_index}
 use Rattle.cell_queue.specs.Queue.{area}
 use Rattle.cell_queue.specs.Heap.{IsSynced, number_in, key_by_place, keys_of}
 use Rattle.cell_queue.proofs.Indexes.{index_below}
@@ -16,6 +18,10 @@ use Rattle.cell_queue.proofs.HeapOrder.{IsExchange}
 -- the cell at a place of the heap
 abbrev pub cell_in : List Point → ℕ → Point
 cell_in cells i = slice_index_or cells i (record { x = 0; y = 0 })
+
+-- the number of a cell that was read
+pub number_read : (size : Extent) (cells : List Point) (i n : ℕ) (cell : Point) → i < length cells → cell ≡ slice_index_or cells i cell → n ≡ flag_index size cell → n ≡ number_in size cells i
+number_read size cells i n cell inside read is = is ∙ ap (λ (v : Point). flag_index size v) (get_or_read cells i cell inside read (record { x = 0; y = 0 }))
 
 -- what the exchange of two places does to the cells and to the places
 pub record IsMoved (size : Extent) (cells cells' : List Point) (P P' : ℕ → ℕ) (len i j : ℕ) : Type 0 where
@@ -26,10 +32,9 @@ pub record IsMoved (size : Extent) (cells cells' : List Point) (P P' : ℕ → �
   pub to_first : P' (number_in size cells j) ≡ i
   pub others : (n : ℕ) → n ≢ number_in size cells i → n ≢ number_in size cells j → P' n ≡ P n
 
-pub moved : (size : Extent) (cells : List Point) (keys places : List ℕ) (len i j : ℕ) → IsSynced size cells keys places len → i < len → j < len →
-    IsMoved size cells (set (set cells i (cell_in cells j)) j (cell_in cells i)) (λ x. slice_index places x)
-    (λ x. slice_index (set (set places (number_in size cells j) i) (number_in size cells i) j) x) len i j
-moved size cells keys places len i j s li lj = grind (arith, nat_tests, common_steps, length-set, get_or-set_same, index_below, get_or-set_other)
+pub moved : (size : Extent) (cells cells' : List Point) (keys places : List ℕ) (len i j : ℕ) → IsSynced size cells keys places len → i < len → j < len → SwappedAt cells cells' i j →
+    IsMoved size cells cells' (λ x. slice_index places x) (λ x. slice_index (set (set places (number_in size cells j) i) (number_in size cells i) j) x) len i j
+moved size cells cells' keys places len i j s li lj swapped = grind (arith, nat_tests, common_steps, length-set, get_or-set_same, index_below, get_or-set_other)
 
 -- the exchange keeps places and cells in step
 pub IsSynced-swap : (size : Extent) (cells cells' : List Point) (keys keys' places places' : List ℕ) (len i j : ℕ) → IsSynced size cells keys places len → i < len → j < len →

@@ -1,9 +1,9 @@
 //! A binary heap of cells that knows the place of each cell.
-ghost use Rattle.std.specs.Prelude.{◌≡◌, ◌<◌, ◌≤◌, Some, None, IfOk, IfSome, IfNone, is_some, slice_set, replicate, vec_len, vec_capacity};
+ghost use Rattle.std.specs.Prelude.{◌≡◌, ◌+◌, ◌<◌, ◌≤◌, Some, None, IfOk, IfSome, IfNone, is_some, slice_set, replicate, vec_len, vec_capacity};
 ghost use Rattle.grid_cells.specs.Size.{Holds};
 ghost use Rattle.grid_cells.specs.Grid.{flag_index};
 ghost use Rattle.cell_queue.specs.Queue.{area, key_at, IsLeastKey, IsEmpty};
-ghost use Rattle.cell_queue.specs.Heap.{IsHeap, IsLaid, keys_in, number_in, queue_of};
+ghost use Rattle.cell_queue.specs.Heap.{IsHeap, IsSyncedHeap, HasRoom, IsLaid, keys_in, number_in, queue_of};
 
 mod settling;
 
@@ -74,6 +74,24 @@ impl Heap {
         place < self.len
     }
 
+    // Takes out what stands at the last place.
+    fn remove_last(&mut self)
+        requires synced { IsSyncedHeap self.old }
+        requires some { 0 < self.old.len }
+        ensures synced { IsSyncedHeap self.new }
+        ensures room { HasRoom self.old → HasRoom self.new }
+        ensures size { self.new.size ≡ self.old.size }
+        ensures len { self.new.len + 1 ≡ self.old.len }
+        ensures order { self.new.keys.items ≡ self.old.keys.items }
+        ensures keys { keys_in self.new ≡
+            slice_set (keys_in self.old) (number_in self.old.size self.old.cells.items self.new.len) None }
+    {
+        let last = self.len - 1;
+        let index = self.size.index(self.cells[last]);
+        self.places[index] = NOWHERE;
+        self.len = last;
+    }
+
     // Takes out what stands at a place.
     fn remove_at(&mut self, place: usize)
         requires heap { IsHeap self.old }
@@ -85,9 +103,7 @@ impl Heap {
     {
         let last = self.len - 1;
         self.swap(place, last);
-        let index = self.size.index(self.cells[last]);
-        self.places[index] = NOWHERE;
-        self.len = last;
+        self.remove_last();
         if place < last {
             self.settle(place);
         }

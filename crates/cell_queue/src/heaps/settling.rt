@@ -18,14 +18,10 @@ impl Heap {
             slice_set (slice_set self.old.keys.items i (slice_index self.old.keys.items j)) j
             (slice_index self.old.keys.items i) }
     {
-        let (cell, other) = (self.cells[i], self.cells[j]);
-        let (key, other_key) = (self.keys[i], self.keys[j]);
-        self.cells[i] = other;
-        self.cells[j] = cell;
-        self.keys[i] = other_key;
-        self.keys[j] = key;
-        self.places[self.size.index(other)] = i as u32;
-        self.places[self.size.index(cell)] = j as u32;
+        self.cells.swap(i, j);
+        self.keys.swap(i, j);
+        self.places[self.size.index(self.cells[i])] = i as u32;
+        self.places[self.size.index(self.cells[j])] = j as u32;
     }
 
     // Moves a key that may be too small up to where it belongs.

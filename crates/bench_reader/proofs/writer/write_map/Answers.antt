@@ -1,4 +1,4 @@
-use Rattle.std.proofs.Common.{rules, ◌≡◌, sym, ap, subst, arith}
+use Rattle.std.proofs.Common.{rules, append-nil, ◌≡◌, ◌-◌, ◌∙◌, sym, ap, subst, arith}
 use Rattle.bench_reader.specs.MapSpelling.{map_spelling}
 use Rattle.bench_reader.specs.MapText.{IsMapText}
 use Rattle.bench_reader.proofs.SpellingLemmas.{row_written, map_reads}
@@ -9,5 +9,7 @@ loop-row-preserved c = row_written c.loop-row.text.items c.write_row.new.text.it
 
 pub returns-clause-reads : goal.returns-clause-reads
 returns-clause-reads c =
-    let whole : c.loop-row.text.items ≡ map_spelling c.args.grid.now = search rules in
-    subst (λ text. IsMapText text c.args.grid.now) (sym whole) (map_reads c.args.grid.now (search rules) c.size-size.ensures.whole)
+    let height : c.size-size.result.height ≡ c.args.grid.now.size.height = ap (λ size. size.height) c.size-size.ensures.is in
+    let over : c.args.grid.now.size.height - c.loop-row.row ≡ 0 = omega (arith, height, c.height-row-end.ensures.is, c.loop-row-test.false) in
+    let whole : c.loop-row.text.items ≡ map_spelling c.args.grid.now = sym (append-nil c.loop-row.text.items) ∙ (rw over at c.loop-row.invariant) in
+    subst (λ text. IsMapText text c.args.grid.now) (sym whole) (map_reads c.args.grid.now (rw c.size-size.ensures.is at c.height-row-end.ensures.size) c.size-size.ensures.whole)
