@@ -11,17 +11,24 @@ use crate::replies::{BadLine, Reply};
 use desk_commits::Reading;
 use desk_report::{Sink, Word, WriteFailed, put_line, write_report};
 
+// The word for what is wrong with a line.
+fn word_of(why: BadLine) -> &'static [u8]
+    ensures { result.now ≡ bad_word why }
+{
+    match why {
+        BadLine::Word => b"word",
+        BadLine::Shape => b"shape",
+        BadLine::NotBegun => b"notbegun",
+        BadLine::Full => b"full",
+    }
+}
+
 // What is wrong with a line.
 fn put_bad<W: Sink>(sink: &mut W, line: u32, why: BadLine) -> Result<(), WriteFailed>
     ensures { Puts W.held W.broken sink.old sink.new result (reply_text (Reply.Bad line why)) }
 {
-    let line = Word::Number(u64::from(line));
-    match why {
-        BadLine::Word => put_line(sink, b"bad", &[line, Word::Text(b"word")]),
-        BadLine::Shape => put_line(sink, b"bad", &[line, Word::Text(b"shape")]),
-        BadLine::NotBegun => put_line(sink, b"bad", &[line, Word::Text(b"notbegun")]),
-        BadLine::Full => put_line(sink, b"bad", &[line, Word::Text(b"full")]),
-    }
+    let words = [Word::Number(u64::from(line)), Word::Text(word_of(why))];
+    put_line(sink, b"bad", &words)
 }
 
 // A version.

@@ -1,10 +1,10 @@
 //! A report without its lists.
-ghost use Rattle.std.specs.Prelude.{◌≡◌, ◌||◌, codes, count_by, is_err, OnOk};
+ghost use Rattle.std.specs.Prelude.{◌≡◌, ◌||◌, is_err, OnOk};
 ghost use Rattle.std.specs.Io.KnownBytes.{Appends};
-ghost use Rattle.desk_report.specs.ReportText.{count_line, total_line, totals_text};
+ghost use Rattle.desk_report.specs.ReportText.{count_line};
 ghost use Rattle.desk_checks.specs.CheckTexts.{count_named, kind_line, kinds_text, quiet_text};
 
-use desk_report::{Kinds, Report, Sink, Word, WriteFailed, put_line};
+use desk_report::{Kinds, Report, Sink, WriteFailed, put_count, put_totals};
 use mapf_rules::Conflict;
 
 // No kind.
@@ -24,14 +24,6 @@ fn count_named(kinds: Kinds, entries: &[Conflict]) -> usize
         .iter()
         .filter(|entry| kinds.names(entry.kind()))
         .count()
-}
-
-// How many there are.
-fn put_count<W: Sink>(sink: &mut W, name: &[u8], count: usize) -> Result<(), WriteFailed>
-    ensures ok { OnOk result (Appends (W.held sink.old) (W.held sink.new) (count_line name.now count)) }
-    ensures broken { W.broken sink.new ≡ (W.broken sink.old || is_err result) }
-{
-    put_line(sink, name, &[Word::Number(count as u64)])
 }
 
 // How many of the entries are of a named kind.
@@ -82,35 +74,6 @@ fn put_kinds<W: Sink>(sink: &mut W, entries: &[Conflict]) -> Result<(), WriteFai
         },
         entries,
     )
-}
-
-// A total.
-fn put_total<W: Sink>(sink: &mut W, name: &[u8], total: Option<u64>) -> Result<(), WriteFailed>
-    ensures ok { OnOk result (Appends (W.held sink.old) (W.held sink.new) (total_line name.now total)) }
-    ensures broken { W.broken sink.new ≡ (W.broken sink.old || is_err result) }
-{
-    put_line(sink, name, &[Word::Given(total)])
-}
-
-// The makespan.
-fn put_makespan<W: Sink>(sink: &mut W, makespan: Option<u32>) -> Result<(), WriteFailed>
-    ensures ok { OnOk result (Appends (W.held sink.old) (W.held sink.new) (total_line (codes "makespan") makespan)) }
-    ensures broken { W.broken sink.new ≡ (W.broken sink.old || is_err result) }
-{
-    put_line(sink, b"makespan", &[Word::given(makespan)])
-}
-
-// The totals, and the end.
-#[tactic(auto, using(desk_report::proofs::Fronts::fronts))]
-fn put_totals<W: Sink>(sink: &mut W, report: &Report) -> Result<(), WriteFailed>
-    ensures ok { OnOk result (Appends (W.held sink.old) (W.held sink.new) (totals_text report.now)) }
-    ensures broken { W.broken sink.new ≡ (W.broken sink.old || is_err result) }
-{
-    put_total(sink, b"sum", report.sum)?;
-    put_makespan(sink, report.makespan)?;
-    put_total(sink, b"bounds", report.bounds)?;
-    put_total(sink, b"gap", report.total_gap)?;
-    put_line(sink, b"end", &[])
 }
 
 /// Writes the report without the agents' lines, the entries and the visits: how many there are of

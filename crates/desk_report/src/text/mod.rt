@@ -15,7 +15,7 @@ use crate::bytes::{Sink, WriteFailed};
 use crate::reports::Report;
 pub use entries::put_entry;
 use listed::put_list;
-use totals::put_totals;
+pub use totals::{put_count, put_totals};
 pub use visits::put_visit;
 
 /// Writes the text of the report: a line for each agent, conflict and blocked visit, times in

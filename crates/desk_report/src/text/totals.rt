@@ -7,7 +7,8 @@ use crate::bytes::{Sink, WriteFailed};
 use crate::reports::Report;
 use crate::words::{Word, put_line};
 
-// How many there are.
+/// Puts how many there are, after that word. Where the sink fails, or takes no byte, a prefix of
+/// the line went out.
 pub fn put_count<W: Sink>(sink: &mut W, name: &[u8], count: usize) -> Result<(), WriteFailed>
     ensures { Puts W.held W.broken sink.old sink.new result (count_line name.now count) }
 {
@@ -28,7 +29,8 @@ fn put_makespan<W: Sink>(sink: &mut W, makespan: Option<u32>) -> Result<(), Writ
     put_line(sink, b"makespan", &[Word::given(makespan)])
 }
 
-// The totals, and the end.
+/// Puts the totals of the report, each in a line, and its end. Where the sink fails, or takes no
+/// byte, a prefix of the lines went out.
 #[tactic(auto, using(crate::proofs::Fronts::fronts))]
 pub fn put_totals<W: Sink>(sink: &mut W, report: &Report) -> Result<(), WriteFailed>
     ensures ok { OnOk result (Appends (W.held sink.old) (W.held sink.new) (totals_text report.now)) }
