@@ -24,7 +24,7 @@ pub fn agents_of(
     let mut found = BTreeSet::new(alloc);
     gather_agents(&mut found, stands, time)?;
     gather_agents(&mut found, tails, time)?;
-    listed(alloc, &found)
+    listed(alloc, found)
 }
 
 /// Whom the spots in either list show at which times, by time, then agent.
@@ -38,7 +38,7 @@ pub fn passings_of(
     let mut found = BTreeSet::new(alloc);
     gather_passings(&mut found, stands)?;
     gather_passings(&mut found, tails)?;
-    listed(alloc, &found)
+    listed(alloc, found)
 }
 
 // Puts the agents of the spots up to the time into the set. It stops at the first one after it.
@@ -63,17 +63,19 @@ fn gather_passings(found: &mut BTreeSet<Passing>, spots: Range<'_, Spot>) -> Res
     ensures { OnOk result ((p : Passing) → Contains found.new.keys p ↔ (Contains found.old.keys p ⊎ HasPassing spots.entry p)) }
 {
     for spot in spots {
-        let (time, agent) = (spot.time, spot.step.agent);
-        found.insert(Passing { time, agent })?;
+        found.insert(Passing {
+            time: spot.time,
+            agent: spot.step.agent,
+        })?;
     }
     Ok(())
 }
 
 // The keys of the set, in their order.
-fn listed<T: Copy + Ord>(alloc: Global, found: &BTreeSet<T>) -> Result<List<T>, OutOfMemory>
-    ensures is { IfOk result (λ keys. keys ≡ found.now.keys) }
-    ensures ascending { IsStrictlySortedBy T.cmp found.now.keys }
+fn listed<T: Ord + Drop>(alloc: Global, found: BTreeSet<T>) -> Result<List<T>, OutOfMemory>
+    ensures is { IfOk result (λ keys. keys ≡ found.keys) }
+    ensures ascending { IsStrictlySortedBy T.cmp found.keys }
 {
     let _len = found.len();
-    Ok(List::new(found.iter().copied().collect(alloc)?))
+    Ok(List::new(found.into_iter().collect(alloc)?))
 }

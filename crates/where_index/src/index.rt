@@ -1,4 +1,4 @@
-ghost use Rattle.std.specs.Prelude.{◌≡◌, ℕ, ◌+◌, ◌<◌, ◌≤◌, min, max, Option, Some, None, OnOk, IfOk};
+ghost use Rattle.std.specs.Prelude.{◌≡◌, ℕ, ◌+◌, ◌<◌, ◌≤◌, min, max, Option, Some, None, IfOk};
 ghost use Rattle.std.specs.Option.{unwrap_or};
 ghost use Rattle.plan_table.specs.Path.{last_index};
 ghost use Rattle.plan_table.specs.Route.{Route, Fleet, position, last_of, route_of};
@@ -67,20 +67,14 @@ impl WhereIndex {
     /// # Errors
     ///
     /// Want of memory: the index is gone then.
-    pub fn put(mut self, agent: Agent, track: Track<'_>) -> Result<WhereIndex, OutOfMemory>
+    pub fn put(self, agent: Agent, track: Track<'_>) -> Result<WhereIndex, OutOfMemory>
         ensures stands { IfOk result (λ index. ChangesRoute self index agent None (Some (route_of track.entry))) }
         ensures horizon { IfOk result (λ index. index.horizon ≡ max self.horizon (last_index track.entry.plan.now)) }
         ensures touched { IfOk result (λ index. index.touched ≡ min (self.touched + records_apart nothing (route_of track.entry)) u64.MAX) }
     {
         let to = track.plan.last() + 1;
         let trail = Trail::of(&track);
-        match self.replace(agent, &Trail::none(), &trail, End::of(&track), 0, to) {
-            Ok(()) => Ok(self),
-            Err(refused) => {
-                drop(self);
-                Err(refused)
-            }
-        }
+        self.replace(agent, &Trail::none(), &trail, End::of(&track), 0, to)
     }
 
     /// Takes out an agent that is in it with that track.
@@ -110,7 +104,7 @@ impl WhereIndex {
     ///
     /// Want of memory: the index is gone then.
     pub fn swap(
-        mut self,
+        self,
         agent: Agent,
         old: Track<'_>,
         new: Track<'_>,
@@ -127,37 +121,31 @@ impl WhereIndex {
         let from = since.min(least).saturating_sub(1);
         let before = Trail::of(&old);
         let after = Trail::of(&new);
-        match self.replace(agent, &before, &after, End::of(&new), from, most + 1) {
-            Ok(()) => Ok(self),
-            Err(refused) => {
-                drop(self);
-                Err(refused)
-            }
-        }
+        self.replace(agent, &before, &after, End::of(&new), from, most + 1)
     }
 
     // Gives an agent one trail in the place of another, from one time to another, and its end.
     fn replace(
-        &mut self,
+        mut self,
         agent: Agent,
         old: &Trail<'_>,
         new: &Trail<'_>,
         end: End,
         from: u32,
         to: u32,
-    ) -> Result<(), OutOfMemory>
+    ) -> Result<WhereIndex, OutOfMemory>
         requires within { DifferWithin old.now new.now from to }
         requires end { IsEndOfRoute end new.now }
-        ensures stands { OnOk result ((was : Option Route) → old.now ≡ unwrap_or was nothing → ChangesRoute self.old self.new agent was (Some new.now)) }
-        ensures horizon { OnOk result (self.new.horizon ≡ max self.old.horizon end.last) }
-        ensures touched { OnOk result (self.new.touched ≡ min (self.old.touched + apart_below old.now new.now to) u64.MAX) }
+        ensures stands { IfOk result (λ index. (was : Option Route) → old.now ≡ unwrap_or was nothing → ChangesRoute self index agent was (Some new.now)) }
+        ensures horizon { IfOk result (λ index. index.horizon ≡ max self.horizon end.last) }
+        ensures touched { IfOk result (λ index. index.touched ≡ min (self.touched + apart_below old.now new.now to) u64.MAX) }
     {
         let last = end.last;
         let count = self.records.replace(agent, old, new, from, to)?;
         self.ends.insert(agent, end)?;
         self.horizon = self.horizon.max(last);
         self.touched = self.touched.saturating_add(u64::from(count));
-        Ok(())
+        Ok(self)
     }
 
     /// How many agents are in it.

@@ -48,7 +48,8 @@ fn change_leg(
     let count = count_of(&old.stand(time), &new.stand(time))
         + count_of_hops(&old.hop(time), &new.hop(time));
     if count > 0 {
-        set_leg(traffic, agent, time, old.leg(time), new.leg(time))?;
+        clear_leg(traffic, agent, time, old.leg(time));
+        fill_leg(traffic, agent, time, new.leg(time))?;
     }
     Ok(count)
 }
@@ -71,21 +72,7 @@ fn count_of_hops(old: &Option<Hop>, new: &Option<Hop>) -> u32
     }
 }
 
-// Puts where the agent goes by the new trail in the place of where it goes by the old one.
-fn set_leg(
-    traffic: &mut Traffic,
-    agent: Agent,
-    time: u32,
-    old: Option<Hop>,
-    new: Option<Hop>,
-) -> Result<(), OutOfMemory>
-    ensures set { OnOk result (ChangesLeg traffic.old traffic.new agent time old new) }
-    ensures free { new ≡ None → IsOk result }
-{
-    clear_leg(traffic, agent, time, old);
-    fill_leg(traffic, agent, time, new)
-}
-
+// Takes out where the agent goes, if it goes anywhere.
 fn clear_leg(traffic: &mut Traffic, agent: Agent, time: u32, old: Option<Hop>)
     ensures { ChangesLeg traffic.old traffic.new agent time old None }
 {
@@ -95,6 +82,7 @@ fn clear_leg(traffic: &mut Traffic, agent: Agent, time: u32, old: Option<Hop>)
     }
 }
 
+// Adds where the agent goes, if it goes anywhere.
 fn fill_leg(
     traffic: &mut Traffic,
     agent: Agent,

@@ -49,7 +49,8 @@ fn replace_rest(
 {
     let count = count_of(&old, &new);
     if count > 0 {
-        set_rest(tails, agent, time, old, new)?;
+        clear_rest(tails, agent, time, old);
+        fill_rest(tails, agent, time, new)?;
     }
     Ok(count)
 }
@@ -68,21 +69,7 @@ pub fn count_of(old: &Option<Cell>, new: &Option<Cell>) -> u32
     }
 }
 
-// Puts the new spot of rest in the place of the old one.
-fn set_rest(
-    tails: &mut Spots,
-    agent: Agent,
-    time: u32,
-    old: Option<Cell>,
-    new: Option<Cell>,
-) -> Result<(), OutOfMemory>
-    ensures set { OnOk result (ChangesSpot tails.old tails.new agent time (leg_between old None) (leg_between new None)) }
-    ensures free { new ≡ None → IsOk result }
-{
-    clear_rest(tails, agent, time, old);
-    fill_rest(tails, agent, time, new)
-}
-
+// Takes the agent's spot of rest out, if it has one.
 fn clear_rest(tails: &mut Spots, agent: Agent, time: u32, old: Option<Cell>)
     ensures { ChangesSpot tails.old tails.new agent time (leg_between old None) None }
 {
@@ -92,6 +79,7 @@ fn clear_rest(tails: &mut Spots, agent: Agent, time: u32, old: Option<Cell>)
     }
 }
 
+// Adds the agent's spot of rest, if it has one.
 fn fill_rest(
     tails: &mut Spots,
     agent: Agent,

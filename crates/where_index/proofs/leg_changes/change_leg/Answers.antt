@@ -1,12 +1,19 @@
-use Rattle.std.proofs.Common.{◌≡◌, sym, ap, ◌∙◌, arith}
+use Rattle.std.proofs.Common.{◌≡◌, None, sym, ap, ◌∙◌, arith}
 use Rattle.where_index.specs.Records.{stand_at, hop_at, leg_between, leg_at}
 use Rattle.where_index.specs.Changes.{set_at}
 use Rattle.where_index.proofs.Flowing.{HasTraffic-ext}
-use Rattle.where_index.proofs.Changes.{set_same}
+use Rattle.where_index.proofs.Changes.{set_same, set_twice, set_itself}
 use Rattle.where_index.proofs.leg_changes.change_leg.Goals as goal
 
-pub returns-in_ok-set_leg-clause-set : goal.returns-in_ok-set_leg-clause-set
-returns-in_ok-set_leg-clause-set c = rw (c.leg.ensures, c.leg-then-count-gt0.ensures) at c.in_ok-set_leg.ensures.set
+pub returns-in_ok-fill_leg-clause-set : goal.returns-in_ok-fill_leg-clause-set
+returns-in_ok-fill_leg-clause-set c = λ f has is.
+    let time = c.args.time in
+    let next = leg_at c.args.new.now time in
+    let mid = set_at f c.args.agent time None in
+    let gone = rw c.leg.ensures at c.clear_leg.ensures in
+    let come = rw c.leg-then-count-gt0.ensures at c.in_ok-fill_leg.ensures.set in
+    HasTraffic-ext c.fill_leg.new.traffic (set_at mid c.args.agent time next) (set_at f c.args.agent time next) (set_twice f c.args.agent time None next)
+    (come mid (gone f has is) (set_itself f c.args.agent time None))
 
 pub returns-else-count-gt0-clause-set : goal.returns-else-count-gt0-clause-set
 returns-else-count-gt0-clause-set c = λ f has is.

@@ -1,4 +1,5 @@
-use Rattle.std.proofs.Common.{ℕ, get_or, sym, ◌∙◌, arith, refl, subst, ◌≡◌, ◌≢◌, ◌<◌, get_or-set_other}
+use mathlib.Core.Bool.{false≢true}
+use Rattle.std.proofs.Common.{ℕ, length, get_or, sym, ◌∙◌, arith, refl, subst, ◌≡◌, ◌≢◌, ◌<◌, get_or-set_same, get_or-set_other}
 use Rattle.grid_cells.specs.Cell.{Point, point}
 use Rattle.grid_cells.specs.Size.{Holds}
 use Rattle.grid_cells.specs.Grid.{IsOpen, flag_index}
@@ -54,3 +55,14 @@ returns-then-is_open-clause-goes_on c =
       slots = λ i h. get_or-set_other s.queue.items s.tail i c.in-Some.cell s.goal (λ e. absurd (omega (arith, e, h)));
       marks = λ v held below. rw c.requires.index (kept s.grid.size s.marks.items cell v c.args.number c.requires.searching.one_mark_each c.requires.held held unmarked below);
     }
+
+pub returns-then-is_open-clause-reached : goal.returns-then-is_open-clause-reached
+returns-then-is_open-clause-reached c _ =
+    let marks = c.args.self.now.marks.items in
+    let below = index_below c.args.self.now.grid.size (point c.args.x c.args.y) c.requires.held in
+    let within : c.args.index < length marks = omega (arith, c.requires.index, c.requires.searching.one_mark_each, below) in
+    rw (← c.requires.index, get_or-set_same marks c.args.index c.args.number 0 within) (omega arith)
+
+pub returns-else-is_open-clause-reached : goal.returns-else-is_open-clause-reached
+returns-else-is_open-clause-reached c open_cell =
+    absurd (false≢true (c.if-is_open.ensures.1 (subst (λ (v : Point). IsOpen c.args.self.now.grid v) (sym c.in-Some.ensures.1) open_cell)))

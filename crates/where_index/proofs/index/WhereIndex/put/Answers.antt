@@ -1,4 +1,5 @@
 use Rattle.std.proofs.Common.{◌+◌, arith}
+use Rattle.std.proofs.lemmas.Result.{IfOk-weaker}
 use Rattle.plan_table.specs.Route.{route_of}
 use Rattle.where_index.specs.Records.{nothing}
 use Rattle.where_index.proofs.Standing.{same_past}
@@ -14,5 +15,6 @@ replace-requires-clause-within c =
       same_after = λ t h. rw (c.none.ensures, c.of-trail.ensures.is) (same_past nothing (route_of c.args.track) (c.last-to.result + 1) t (omega arith) (omega (arith, c.last-to.ensures.is)) h);
     }
 
-pub returns-in-Ok-clause-stands : goal.returns-in-Ok-clause-stands
-returns-in-Ok-clause-stands c = λ fleet has was. rw (← c.of-trail.ensures.is) (c.in-Ok.ensures.stands _ c.none.ensures fleet has was)
+pub returns-clause-stands : goal.returns-clause-stands
+returns-clause-stands c =
+    IfOk-weaker c.replace.result _ _ (λ index stands fleet has was. rw (← c.of-trail.ensures.is) (stands _ c.none.ensures fleet has was)) c.replace.ensures.stands

@@ -1,4 +1,5 @@
-use Rattle.std.proofs.Common.{◌+◌, arith}
+use Rattle.std.proofs.Common.{◌≡◌, ◌+◌, length, max, arith}
+use Rattle.std.proofs.lemmas.Result.{IfOk-weaker}
 use Rattle.plan_table.specs.Route.{route_of}
 use Rattle.where_index.proofs.Standing.{same_past, same_early}
 use Rattle.where_index.proofs.index.WhereIndex.swap.Goals as goal
@@ -15,5 +16,12 @@ replace-requires-clause-within c = record {
       (omega (arith, c.last-3.ensures.is, c.of-before.ensures.path.walkable.some_cell)) (omega (arith, c.last-4.ensures.is, c.of-after.ensures.path.walkable.some_cell)) h);
 }
 
-pub returns-in-Ok-clause-stands : goal.returns-in-Ok-clause-stands
-returns-in-Ok-clause-stands c = λ fleet has was. rw (← c.of-after.ensures.is) (c.in-Ok.ensures.stands _ c.of-before.ensures.is fleet has was)
+pub returns-clause-stands : goal.returns-clause-stands
+returns-clause-stands c =
+    IfOk-weaker c.replace.result _ _ (λ index stands fleet has was. rw (← c.of-after.ensures.is) (stands _ c.of-before.ensures.is fleet has was)) c.replace.ensures.stands
+
+pub returns-clause-touched : goal.returns-clause-touched
+returns-clause-touched c =
+    let to : max (length c.args.old.plan.now) (length c.args.new.plan.now) ≡ c.max-most.result + 1 =
+    omega (arith, c.last-3.ensures.is, c.last-4.ensures.is, c.of-before.ensures.path.walkable.some_cell, c.of-after.ensures.path.walkable.some_cell) in
+    rw to (rw (c.of-before.ensures.is, c.of-after.ensures.is) at c.replace.ensures.touched)
