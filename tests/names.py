@@ -1,5 +1,6 @@
 #!/usr/bin/env python3
-"""Says which names of names.txt stand nowhere in the repository, and ends with status 1 if one doesn't.
+"""Says which names of names.txt stand nowhere in the repository, and which wrong bodies name a library that their crate doesn't stand
+on by its row of crates.txt, so that they could not be planted; ends with status 1 if there is one of either.
 
 A name stands where a test function, an entry of a test's table (`(KIND, "NAME, NAME", ..`) or a wrong body (crates/*/must-fail/NAME.edit) has
 it, alone or as a whole part of a longer one that is joined by `_and_`, `_of_` and the like; so does one of the tests with processes, as
@@ -13,7 +14,10 @@ from pathlib import Path
 
 sys.dont_write_bytecode = True
 
+import switch
+import wrong_bodies
 from program import TOPICS
+from wrong_functions import libraries
 
 HERE = Path(__file__).resolve().parent
 CRATES = HERE.parent / "crates"
@@ -21,6 +25,7 @@ TEST = re.compile(r"#\[test\]\s+fn (\w+)")
 ENTRY = re.compile(r'\(\s*(?:\w+::)?\w+,\s+"([^"]*)"')
 PROCESS = re.compile(r"(?:worked: )?(\w+)(?:, .*)?")
 REMARK = re.compile(r"wrong body\s+(?://\s*)?(\w+)")
+PATH = re.compile(r"\b(\w+)::")
 
 
 def own_files(pattern):
@@ -48,6 +53,27 @@ def stands(name, names):
     return any(whole.search(other) for other in names)
 
 
+def planted():
+    """The texts that wrong bodies plant in libraries, each with its crate and the wrong body's name; those in the program may name all below it."""
+    for path in own_files("*/must-fail/*.edit"):
+        for line in path.read_text().splitlines():
+            if line.startswith("new: "):
+                yield path.parts[-3], path.stem, line
+    for name, file, _, text, _ in [*wrong_bodies.BODIES, *wrong_bodies.READERS]:
+        for crate in (switch.RUNS, switch.FILES, switch.READERS):
+            if (CRATES / crate / "src" / file).exists():
+                yield crate, name, text
+
+
+def foreign():
+    """What is said of wrong bodies that name a library which their crate doesn't stand on."""
+    below = libraries()
+    known = {*below, *(it for row in below.values() for it in row)}
+    for crate, name, text in planted():
+        for library in sorted({*PATH.findall(text)} & known - {crate, *below[crate]}):
+            yield f"{name} names {library}, which the row of {crate} in crates.txt lacks"
+
+
 def main():
     lines = (HERE / "names.txt").read_text().splitlines()
     wanted = [line for line in lines if line and not line.startswith("#")]
@@ -55,8 +81,11 @@ def main():
     missing = [name for name in wanted if not stands(name, names)]
     for name in missing:
         print(f"{name} stands nowhere")
+    strange = [*foreign()]
+    for line in strange:
+        print(line)
     print(f"{len(wanted) - len(missing)} of {len(wanted)} names stand")
-    return 1 if missing else 0
+    return 1 if missing or strange else 0
 
 
 if __name__ == "__main__":
