@@ -1,8 +1,8 @@
 -- Visits, added agent by agent and time by time.
-use Rattle.std.proofs.Common.{◌≡◌, ℕ, ◌+◌, ◌<◌, ◌≤◌, List, [], ◌∷◌, length, get_or, Some, refl, ap, ◌⊎◌, inl, inr, arith}
+use Rattle.std.proofs.Common.{◌≡◌, ℕ, ◌+◌, ◌<◌, ◌≤◌, List, [], ◌∷◌, length, get_or, Some, refl, ap, subst, ◌⊎◌, inl, inr, arith}
 use Rattle.std.specs.List.{slice_get, Contains}
 use Rattle.std.proofs.lemmas.Bool.Decides.{nat_tests}
-use Rattle.std.proofs.lemmas.Option.{same_Some, get_or_from_slice_get}
+use Rattle.std.proofs.lemmas.Option.{same_Some, get_or_from_slice_get, slice_get_within}
 use Rattle.grid_cells.specs.Grid.{Chart}
 use Rattle.grid_cells.specs.Cell.{Point}
 use Rattle.plan_table.specs.Path.{last_index}
@@ -33,6 +33,18 @@ pub record VisitsBelow (grid : Chart) (rows : List (ℕ × Row)) (rank : ℕ) (v
   pub each : (visit : Visit) → Contains visits visit → IsVisit grid rows visit
   pub below : (visit : Visit) → Contains visits visit → (k : ℕ) (d : ℕ × Row) → rank ≤ k → k < length rows → visit.agent < (get_or rows k d).0
   pub has : (agent k : ℕ) → k < rank → slice_get (agents_of rows) k ≡ Some agent → (visit : Visit) → visit.agent ≡ agent → IsVisit grid rows visit → Contains visits visit
+
+pub none_below : (grid : Chart) (rows : List (ℕ × Row)) → VisitsBelow grid rows 0 []
+none_below grid rows = record {
+  listed = λ i j d lt within. absurd (omega (arith, within));
+  each = λ visit h. absurd (omega (arith, h.1));
+  below = λ visit h. absurd (omega (arith, h.1));
+  has = λ agent k low. absurd (omega (arith, low));
+}
+
+pub below_here : (grid : Chart) (rows : List (ℕ × Row)) (rank agent : ℕ) (row : Row) (visits : List Visit) → slice_get rows rank ≡ Some (agent, row) → VisitsBelow grid rows rank visits → (visit : Visit) → Contains visits visit → visit.agent < agent
+below_here grid rows rank agent row visits at before visit h =
+    subst (λ (e : ℕ × Row). visit.agent < e.0) (get_or_from_slice_get rows rank (agent, row) (agent, row) at) (before.below visit h rank (agent, row) (omega arith) (slice_get_within rows rank (agent, row) at))
 
 module _ (grid : Chart) (rows : List (ℕ × Row)) (by_agent : IsByAgent rows) (rank agent : ℕ) (row : Row) (at : slice_get rows rank ≡ Some (agent, row)) (old new : List Visit) (adds : AddsVisits grid old new agent row.plan 0 (last_index row.plan + 1)) where
   here : (row_of rows agent ≡ Some row) × (slice_get (agents_of rows) rank ≡ Some agent)

@@ -1,6 +1,7 @@
 -- What a search for conflicts has found: words for a search's own steps (this project's choice).
-use Rattle.std.specs.Prelude.{◌≡◌, ◌⊎◌, ℕ, List, Contains, slice_index, Option, Some}
-use Rattle.plan_table.specs.Route.{Fleet, tracks_of}
+use Rattle.std.specs.Prelude.{◌≡◌, ◌⊎◌, ℕ, ◌+◌, List, Contains, slice_index, Option, Some}
+use Rattle.grid_cells.specs.Cell.{Point}
+use Rattle.plan_table.specs.Route.{Fleet, position_of, tracks_of}
 use Rattle.mapf_rules.specs.Cycles.{IsRing}
 use Rattle.mapf_rules.specs.ConflictList.{Stands}
 use Rattle.mapf_rules.specs.Naming.{IsOfPair, time_of, first_agent}
@@ -45,3 +46,8 @@ StandsAt fleet time entry = Stands fleet entry × (time_of entry ≡ time)
 -- likewise, and it names that agent first
 abbrev pub StandsFirst : Fleet → ℕ → ℕ → Conflict → Type 0
 StandsFirst fleet time first entry = StandsAt fleet time entry × (first_agent entry ≡ first)
+
+-- the agent is in the one cell at the step's start, and in the other at its end
+pub record Steps (fleet : Fleet) (time agent : ℕ) (from to : Point) : Type 0 where
+  pub there : position_of fleet agent time ≡ Some from
+  pub then : position_of fleet agent (time + 1) ≡ Some to

@@ -2,11 +2,11 @@ ghost use Rattle.std.specs.Prelude.{◌≡◌, ◌+◌, ◌<◌, ◌≤◌, Some
 ghost use Rattle.grid_cells.specs.Cell.{Point};
 ghost use Rattle.plan_table.specs.Route.{position_of, last_of, leaves_of, tracks_of};
 ghost use Rattle.mapf_rules.specs.Entries.{OnePasses, both_end_by};
-ghost use Rattle.mapf_rules.specs.Finding.{fleet_of, Finds, StandsOfPair};
+ghost use Rattle.mapf_rules.specs.Finding.{fleet_of, Finds, StandsOfPair, Steps};
 ghost use Rattle.mapf_rules.specs.declared.entries.Conflict.TheVariants.{Vertex, Parked, Edge, Following, Swapping};
 
 use crate::entries::Conflict;
-use crate::movers::Table;
+use crate::movers::{Table, destination};
 use grid_cells::{Agent, Cell, Step};
 use plan_table::{MOST_LAST_INDEX, Mode, Plans};
 
@@ -68,26 +68,38 @@ pub(crate) fn meeting(table: &Table<'_>, time: u32, first: Agent, second: Agent)
 {
     let cell = position(table.plans, table.mode, first, time)?;
     let other = position(table.plans, table.mode, second, time)?;
-    let passes = passes(table.plans, table.mode, time, first, second);
-    let rests = time == both_end(table.plans, table.mode, first, second);
-    if first >= second || cell != other || !(passes || rests) {
+    if first >= second || cell != other {
         return None;
     }
-    Some(if passes {
-        Conflict::Vertex {
+    let passes = passes(table.plans, table.mode, time, first, second);
+    if passes {
+        return Some(Conflict::Vertex {
             time: Step::new(time),
             first,
             second,
             cell,
-        }
-    } else {
-        Conflict::Parked {
-            time: Step::new(time),
-            first,
-            second,
-            cell,
-        }
+        });
+    }
+    if time != both_end(table.plans, table.mode, first, second) {
+        return None;
+    }
+    Some(Conflict::Parked {
+        time: Step::new(time),
+        first,
+        second,
+        cell,
     })
+}
+
+// Where the agent is at the start of the step that begins at the time, and where at its end.
+fn step(table: &Table<'_>, time: u32, agent: Agent) -> Option<(Cell, Cell)>
+    requires { time ≤ MOST_LAST_INDEX }
+    ensures steps { IfSome result (λ step. Steps (fleet_of table.now) time agent step.0 step.1) }
+    ensures found { (from to : Point) → Steps (fleet_of table.now) time agent from to → result ≡ Some (from, to) }
+{
+    let from = position(table.plans, table.mode, agent, time)?;
+    let to = position(table.plans, table.mode, agent, time + 1)?;
+    Some((from, to))
 }
 
 // The entry of the two agents where they make the same move in the step, or change places.
@@ -97,32 +109,30 @@ pub(crate) fn moving(table: &Table<'_>, time: u32, first: Agent, second: Agent) 
     ensures edge { (cell next : Point) → Finds (fleet_of table.now) result (Edge time first second cell next) }
     ensures swapping { (cell other : Point) → Finds (fleet_of table.now) result (Swapping time first second cell other) }
 {
-    let cell = position(table.plans, table.mode, first, time)?;
-    let other = position(table.plans, table.mode, second, time)?;
-    let next = position(table.plans, table.mode, first, time + 1)?;
-    let other_next = position(table.plans, table.mode, second, time + 1)?;
-    let alike = other == cell && other_next == next;
-    let changed = other == next && other_next == cell;
-    if first >= second || cell == next || !(alike || changed) {
+    let (cell, next) = step(table, time, first)?;
+    let (other, other_next) = step(table, time, second)?;
+    if first >= second || cell == next {
         return None;
     }
-    let begins = Step::new(time);
-    Some(if alike {
-        Conflict::Edge {
-            time: begins,
+    let time = Step::new(time);
+    if other == cell && other_next == next {
+        return Some(Conflict::Edge {
+            time,
             first,
             second,
             cell,
             next,
-        }
-    } else {
-        Conflict::Swapping {
-            time: begins,
-            first,
-            second,
-            cell,
-            other,
-        }
+        });
+    }
+    if other != next || other_next != cell {
+        return None;
+    }
+    Some(Conflict::Swapping {
+        time,
+        first,
+        second,
+        cell,
+        other,
     })
 }
 
@@ -138,15 +148,13 @@ pub(crate) fn following(
     ensures found { (cell : Point) → Finds (fleet_of table.now) result (Following time follower leader cell) }
 {
     let cell = position(table.plans, table.mode, leader, time)?;
-    let from = position(table.plans, table.mode, follower, time);
-    let to = position(table.plans, table.mode, follower, time + 1)?;
     let _goes_on = position(table.plans, table.mode, leader, time + 1)?;
-    if follower == leader || to != cell || from == Some(cell) {
+    let to = destination(table.plans, table.mode, time, follower)?;
+    if follower == leader || to != cell {
         return None;
     }
-    let time = Step::new(time);
     Some(Conflict::Following {
-        time,
+        time: Step::new(time),
         follower,
         leader,
         cell,

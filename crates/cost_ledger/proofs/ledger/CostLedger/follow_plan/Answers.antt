@@ -44,3 +44,12 @@ returns-in-Ok-clause-stands c = λ stands.
     let live : row_of c.self.inside.rows c.args.agent ≡ Some c.in-Some.old = sym c.in-Some.ensures.value in
     visits_replanned c.args.grid.now c.self.inside.rows c.remove.new.self c.add_row.new.rows c.args.agent c.in-Some.old row live c.remove.ensures.gone c.in-Ok.ensures.row.change c.same_front-since.result (same_below _ _ _ c.same_front-since.ensures)
     c.self.inside.blocked.keys c.unblock.new.blocked.keys c.add_row.new.blocked.keys (rw (← c.self.view_is) at stands) c.unblock.ensures c.in-Ok.ensures.blocked c.len-count.ensures.ordered
+
+pub returns-in-Ok-clause-by_agent : goal.returns-in-Ok-clause-by_agent
+returns-in-Ok-clause-by_agent c = c.in-Ok.ensures.row.by_agent
+
+pub overflow_sub-self : goal.overflow_sub-self
+overflow_sub-self c = omega (arith, c.from.ensures, c.last-last.ensures.is, c.self.invariant.total_is, c.in-Some.ensures.sums last_of_row)
+
+pub overflow_sub-self-in-Ok : goal.overflow_sub-self-in-Ok
+overflow_sub-self-in-Ok c = omega (arith, c.elsewhere.ensures, c.self.invariant.elsewhere_is, c.in-Some.ensures.sums ends_elsewhere)
