@@ -55,8 +55,8 @@ fn put_fault<W: Sink>(sink: &mut W, index: u64, name: &[u8]) -> Result<(), Write
 fn put_faulty<W: Sink>(sink: &mut W, index: u64, why: EditFault) -> Result<(), WriteFailed>
     ensures { Puts W.held W.broken sink.old sink.new result (refused_line (codes "faulty" ∷ decimal index ∷ fault_words why)) }
 {
-    let name = match why {
-        EditFault::UnknownAgent => b"unknown-agent".as_slice(),
+    let name: &[u8] = match why {
+        EditFault::UnknownAgent => b"unknown-agent",
         EditFault::AgentTaken => b"agent-taken",
         EditFault::TooManyAgents => b"too-many-agents",
         EditFault::OutOfMap => b"out-of-map",

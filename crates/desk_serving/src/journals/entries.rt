@@ -76,13 +76,9 @@ impl Written for Thing {
 
     fn put_into<W: Sink>(&self, sink: &mut W) -> Result<(), WriteFailed> {
         match self {
-            Thing::Agent(agent) => put_line(
-                sink,
-                b"watch",
-                &[Word::Text(b"agent"), agent_word(*agent)],
-            ),
-            Thing::Cell(cell) => put_line(sink, b"watch", &[Word::Text(b"cell"), cell_word(*cell)]),
-            Thing::Map => put_line(sink, b"watch", &[Word::Text(b"map")]),
+            Thing::Agent(agent) => put_line(sink, b"watch agent", &[agent_word(*agent)]),
+            Thing::Cell(cell) => put_line(sink, b"watch cell", &[cell_word(*cell)]),
+            Thing::Map => put_all(sink, b"watch map\n"),
         }
     }
 }

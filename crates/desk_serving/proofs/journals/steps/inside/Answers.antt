@@ -1,4 +1,4 @@
-use Rattle.std.proofs.Common.{◌<◌, inl, inr, rules, arith, ◌∷◌, [], length, ap, length-append}
+use Rattle.std.proofs.Common.{◌<◌, inl, inr, arith, ◌∷◌, [], length, ap, length-append}
 use Rattle.std.proofs.lemmas.Bool.{or_cases, ltb-true}
 use Rattle.std.proofs.lemmas.List.Elements.{All-append, All-cons, All-nil}
 use Rattle.desk_serving.specs.JournalText.Begun.{lacks_watch, lacks_edit}
@@ -15,10 +15,10 @@ settled-requires-2 c =
     ] in
     let lawful = rw c.in-Some-2.is at c.in_ok-edit.ensures in
     record {
-      numbers = search rules;
-      watched = search rules;
+      numbers = c.requires.2.numbers;
+      watched = c.requires.2.watched;
       edited = rw c.in_ok-edits.ensures (omega (arith, due, length-append entry.edits (c.in-Some-2.edit ∷ [])));
-      order = search rules;
-      watch = search rules;
+      order = λ lacks. absurd (omega (arith, count, c.if-items-head.false, lacks));
+      watch = c.requires.2.watch;
       edits = rw c.in_ok-edits.ensures (All-append IsEdit entry.edits (c.in-Some-2.edit ∷ []) c.requires.2.edits (All-cons IsEdit c.in-Some-2.edit [] lawful.0 (All-nil IsEdit)));
     }
