@@ -1,5 +1,5 @@
 -- Laws of what a sink took: texts one behind the other, and some text; and of whether a call of it has failed.
-use Rattle.std.proofs.Common.{◌≡◌, ◌∙◌, ◌||◌, ℕ, Bool, false, List, [], ◌++◌, ap, append_assoc}
+use Rattle.std.proofs.Common.{◌≡◌, ◌∙◌, ◌||◌, ℕ, Bool, false, List, [], ◌++◌, append_assoc}
 use Rattle.std.proofs.Math.Bool.{or-false}
 use Rattle.std.specs.Prelude.{Option, Result, OnOk}
 use Rattle.std.specs.Io.KnownBytes.{Appends}
@@ -38,10 +38,6 @@ grows-around a b c d text g h k = record {
 
 pub ok-grows-around : {T E : Type 0} (r : Result T E) (a b c d : Option (List ℕ)) (text : List ℕ) → Grows a b → Appends b c text → OnOk r (Grows c d) → OnOk r (GrowsAround a d text)
 ok-grows-around r a b c d text g h k = on_ok_weaker r (grows-around a b c d text g h) k
-
--- no call has failed, and then the last one may
-pub sound-more : (a b c last : Bool) → b ≡ (a || false) → c ≡ (b || last) → c ≡ (a || last)
-sound-more a b c last h k = k ∙ ap (λ (x : Bool). x || last) (h ∙ or-false a)
 
 -- no call has failed, and one more hasn't
 pub sound-on : (a b c : Bool) → b ≡ a → c ≡ (b || false) → c ≡ a

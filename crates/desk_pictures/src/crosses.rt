@@ -28,7 +28,6 @@ fn put_cross_opening<W: Sink>(sink: &mut W, lit: bool, x: u32, y: u32) -> Writte
 }
 
 // The mark of a visit, which a moving picture has at all times.
-#[tactic(auto, using(crate::proofs::Growth::texts), unfolding(crate::specs::Marks::cross_text))]
 fn put_cross<W: Sink>(sink: &mut W, frame: &Frame, visit: &Visit) -> Written
     ensures ok { OnOk result (Appends (W.held sink.old) (W.held sink.new) (cross_text frame.now.at visit.now)) }
     ensures broken { W.broken sink.new ≡ (W.broken sink.old || is_err result) }

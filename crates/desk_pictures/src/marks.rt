@@ -32,7 +32,6 @@ fn put_opening<'a, W: Sink>(sink: &mut W, symbol: &'a [u8], spot: Spot) -> Writt
 }
 
 // The mark of an entry.
-#[tactic(auto, using(crate::proofs::Growth::texts), unfolding(crate::specs::Marks::mark_text))]
 fn put_mark<W: Sink>(sink: &mut W, scene: &Scene, entry: &Conflict) -> Written
     ensures ok { OnOk result (Appends (W.held sink.old) (W.held sink.new) (mark_text (tracks_of scene.now.mode scene.now.rows) entry.now)) }
     ensures broken { W.broken sink.new ≡ (W.broken sink.old || is_err result) }

@@ -59,24 +59,23 @@ fn turned_at(turned: Cell, way: Option<Way>, next: Option<Way>, cell: Cell) -> C
     }
 }
 
-// The line along the cells: waits don't show, and a straight run is one stroke.
+// The line from the start along the cells: waits don't show, and a straight run is one stroke.
 fn put_strokes<W: Sink>(sink: &mut W, start: Cell, cells: &[Cell]) -> Written
     ensures ok { OnOk result (Grows (W.held sink.old) (W.held sink.new)) }
     ensures broken { W.broken sink.new ≡ (W.broken sink.old || is_err result) }
 {
     let mut turned = start;
     let mut way = None;
-    for at in 1..cells.len() {
-        let next = way_to(cells[at - 1], cells[at]);
-        let corner = turned_at(turned, way, next, cells[at - 1]);
+    let mut cell = start;
+    for following in cells {
+        let next = way_to(cell, *following);
+        let corner = turned_at(turned, way, next, cell);
         put_stroke(sink, turned, corner)?;
         turned = corner;
         way = next.or(way);
+        cell = *following;
     }
-    match cells {
-        [.., last] => put_stroke(sink, turned, *last),
-        [] => Ok(()),
-    }
+    put_stroke(sink, turned, cell)
 }
 
 // A line from where the agent rests to its goal, where that is another cell.

@@ -1,8 +1,5 @@
-use Rattle.desk_pictures.proofs.Growth.{grows-more, ok-grows-more, sound-more}
+use Rattle.desk_pictures.proofs.Growth.{grows-more, ok-grows-more}
 use Rattle.desk_pictures.proofs.pictures.put_head.Goals as goal
 
 pub returns-clause-ok : goal.returns-clause-ok
 returns-clause-ok g c = ok-grows-more _ _ _ _ (grows-more _ _ _ (grows-more _ _ _ (grows-more _ _ _ c.in_ok-put_first.ensures.ok c.in_ok-put_title.ensures.ok) c.in_ok-put_styles.ensures.ok) c.in_ok-put_rulers.ensures.ok) c.put_map.ensures.ok
-
-pub returns-clause-broken : goal.returns-clause-broken
-returns-clause-broken g c = sound-more _ _ _ _ (sound-more _ _ _ _ (sound-more _ _ _ _ (sound-more _ _ _ _ c.in_ok-put_first.ensures.broken c.in_ok-put_title.ensures.broken) c.in_ok-put_styles.ensures.broken) c.in_ok-put_rulers.ensures.broken) c.put_map.ensures.broken

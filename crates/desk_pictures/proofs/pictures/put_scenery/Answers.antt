@@ -1,8 +1,5 @@
-use Rattle.desk_pictures.proofs.Growth.{grows-more, ok-grows-more, sound-more}
+use Rattle.desk_pictures.proofs.Growth.{grows-more, ok-grows-more}
 use Rattle.desk_pictures.proofs.pictures.put_scenery.Goals as goal
 
 pub returns-clause-ok : goal.returns-clause-ok
 returns-clause-ok g c = ok-grows-more _ _ _ _ (grows-more _ _ _ (grows-more _ _ _ (grows-more _ _ _ (grows-more _ _ _ (grows-more _ _ _ (grows-more _ _ _ c.in_ok-put_ground.ensures.ok c.in_ok-put_letters.ensures.ok) c.in_ok-put_routes.ensures.ok) c.in_ok-put_letters-2.ensures.ok) c.in_ok-put_rings.ensures.ok) c.in_ok-put_letters-3.ensures.ok) c.in_ok-put_movers.ensures.ok) c.put_letters-4.ensures.ok
-
-pub returns-clause-broken : goal.returns-clause-broken
-returns-clause-broken g c = sound-more _ _ _ _ (sound-more _ _ _ _ (sound-more _ _ _ _ (sound-more _ _ _ _ (sound-more _ _ _ _ (sound-more _ _ _ _ (sound-more _ _ _ _ c.in_ok-put_ground.ensures.broken c.in_ok-put_letters.ensures.broken) c.in_ok-put_routes.ensures.broken) c.in_ok-put_letters-2.ensures.broken) c.in_ok-put_rings.ensures.broken) c.in_ok-put_letters-3.ensures.broken) c.in_ok-put_movers.ensures.broken) c.put_letters-4.ensures.broken

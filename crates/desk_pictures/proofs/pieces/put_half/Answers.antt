@@ -1,8 +1,5 @@
-use Rattle.desk_pictures.proofs.Growth.{ok-text-after, sound-more}
+use Rattle.desk_pictures.proofs.Growth.{ok-text-after}
 use Rattle.desk_pictures.proofs.pieces.put_half.Goals as goal
 
 pub returns-clause-ok : goal.returns-clause-ok
 returns-clause-ok g c = rw c.half_of.ensures at (ok-text-after _ _ _ _ _ _ c.in_ok-put_number.ensures.ok c.put_all.ensures.ok)
-
-pub returns-clause-broken : goal.returns-clause-broken
-returns-clause-broken g c = sound-more _ _ _ _ c.in_ok-put_number.ensures.broken c.put_all.ensures.broken

@@ -1,8 +1,5 @@
-use Rattle.desk_pictures.proofs.Growth.{grows-more, ok-grows-more, sound-more}
+use Rattle.desk_pictures.proofs.Growth.{grows-more, ok-grows-more}
 use Rattle.desk_pictures.proofs.rings.put_ring.Goals as goal
 
 pub returns-in_ok-put_corners-in-Cycle-clause-ok : goal.returns-in_ok-put_corners-in-Cycle-clause-ok
 returns-in_ok-put_corners-in-Cycle-clause-ok g c = ok-grows-more _ _ _ _ (grows-more _ _ _ c.in_ok-put_letters-in-Cycle.ensures.ok c.in_ok-put_corners-in-Cycle.ensures.ok) c.put_end.ensures.ok
-
-pub returns-in_ok-put_corners-in-Cycle-clause-broken : goal.returns-in_ok-put_corners-in-Cycle-clause-broken
-returns-in_ok-put_corners-in-Cycle-clause-broken g c = sound-more _ _ _ _ (sound-more _ _ _ _ c.in_ok-put_letters-in-Cycle.ensures.broken c.in_ok-put_corners-in-Cycle.ensures.broken) c.put_end.ensures.broken

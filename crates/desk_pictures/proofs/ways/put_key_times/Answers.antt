@@ -1,8 +1,5 @@
-use Rattle.desk_pictures.proofs.Growth.{ok-grows-more, sound-more}
+use Rattle.desk_pictures.proofs.Growth.{ok-grows-more}
 use Rattle.desk_pictures.proofs.ways.put_key_times.Goals as goal
 
 pub returns-clause-ok : goal.returns-clause-ok
 returns-clause-ok g c = ok-grows-more _ _ _ _ c.in_ok-put_letters.ensures.ok c.put_times.ensures.ok
-
-pub returns-clause-broken : goal.returns-clause-broken
-returns-clause-broken g c = sound-more _ _ _ _ c.in_ok-put_letters.ensures.broken c.put_times.ensures.broken

@@ -1,8 +1,5 @@
-use Rattle.desk_pictures.proofs.Growth.{ok-grows-more, sound-more}
+use Rattle.desk_pictures.proofs.Growth.{ok-grows-more}
 use Rattle.desk_pictures.proofs.ways.put_place.Goals as goal
 
 pub returns-clause-ok : goal.returns-clause-ok
 returns-clause-ok g c = ok-grows-more _ _ _ _ c.in_ok-put_offset.ensures.ok c.put_offset-2.ensures.ok
-
-pub returns-clause-broken : goal.returns-clause-broken
-returns-clause-broken g c = sound-more _ _ _ _ c.in_ok-put_offset.ensures.broken c.put_offset-2.ensures.broken
