@@ -1,5 +1,5 @@
 -- Pieces that follow one another, and their parts joined.
-use Rattle.std.proofs.Common.{◌≡◌, ℕ, ◌≤◌, List, [], ◌∷◌, ◌++◌, length, slice_range, refl, sym, subst, ◌∙◌, arith, Bool, true, false}
+use Rattle.std.proofs.Common.{◌≡◌, ℕ, ◌≤◌, List, [], ◌∷◌, ◌++◌, length, map, slice_range, refl, sym, subst, ◌∙◌, arith, Bool, true, false}
 use Rattle.std.specs.List.{Contains}
 use Rattle.grid_cells.specs.Grid.{Chart}
 use Rattle.plan_table.specs.Order.{ListsAll}
@@ -27,6 +27,11 @@ use Rattle.desk_audit.proofs.Merging.{joined, visits_joined, visits_none, EachOf
 pub tiles-more : (scene : SceneState) (a b : ℕ) (ps : List Piece) (p : Piece) → Tiles scene a ps b → p.scene.now ≡ scene → p.from ≡ b → b ≤ p.to → Tiles scene a (ps ++ (p ∷ [])) p.to
 tiles-more scene a b [] p t is from le = (is, from ∙ sym t, omega arith, refl)
 tiles-more scene a b (q ∷ ps) p t is from le = (t.0, t.1, t.2, tiles-more scene q.to b ps p t.3 is from le)
+
+-- where there are no pieces, the end is where they begin
+pub tiles_none : {X : Type 0} (of : X → Piece) (scene : SceneState) (a b : ℕ) (xs : List X) → length xs ≡ 0 → Tiles scene a (map of xs) b → a ≡ b
+tiles_none of scene a b [] none t = t
+tiles_none of scene a b (x ∷ xs) none t = absurd (omega (arith, none))
 
 pub apart : (b : Bool) → b ≡ true → b ≡ false → ⊥
 apart b t f = cc
