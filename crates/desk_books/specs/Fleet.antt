@@ -1,4 +1,4 @@
--- What the books of a fleet keep: who stands and moves where, and the conflict entries (this project's choice).
+-- What the books of a fleet keep: who stands and moves where, and the conflict entries; and what visit a passage is (this project's choice).
 use Rattle.std.specs.Prelude.{◌≡◌, ℕ, Option, List}
 use Rattle.plan_table.specs.Route.{Route, Fleet}
 use Rattle.grid_cells.specs.Cell.{Point}
