@@ -48,6 +48,6 @@ abbrev pub StandsFirst : Fleet → ℕ → ℕ → Conflict → Type 0
 StandsFirst fleet time first entry = StandsAt fleet time entry × (first_agent entry ≡ first)
 
 -- the agent is in the one cell at the step's start, and in the other at its end
-pub record Steps (fleet : Fleet) (time agent : ℕ) (from to : Point) : Type 0 where
+pub record StepsBetween (fleet : Fleet) (time agent : ℕ) (from to : Point) : Type 0 where
   pub there : position_of fleet agent time ≡ Some from
   pub then : position_of fleet agent (time + 1) ≡ Some to

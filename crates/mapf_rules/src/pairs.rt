@@ -2,7 +2,7 @@ ghost use Rattle.std.specs.Prelude.{◌≡◌, ◌+◌, ◌<◌, ◌≤◌, Some
 ghost use Rattle.grid_cells.specs.Cell.{Point};
 ghost use Rattle.plan_table.specs.Route.{position_of, last_of, leaves_of, tracks_of};
 ghost use Rattle.mapf_rules.specs.Entries.{OnePasses, both_end_by};
-ghost use Rattle.mapf_rules.specs.Finding.{fleet_of, Finds, StandsOfPair, Steps};
+ghost use Rattle.mapf_rules.specs.Finding.{fleet_of, Finds, StandsOfPair, StepsBetween};
 ghost use Rattle.mapf_rules.specs.declared.entries.Conflict.TheVariants.{Vertex, Parked, Edge, Following, Swapping};
 
 use crate::entries::Conflict;
@@ -94,8 +94,8 @@ pub(crate) fn meeting(table: &Table<'_>, time: u32, first: Agent, second: Agent)
 // Where the agent is at the start of the step that begins at the time, and where at its end.
 fn step(table: &Table<'_>, time: u32, agent: Agent) -> Option<(Cell, Cell)>
     requires { time ≤ MOST_LAST_INDEX }
-    ensures steps { IfSome result (λ step. Steps (fleet_of table.now) time agent step.0 step.1) }
-    ensures found { (from to : Point) → Steps (fleet_of table.now) time agent from to → result ≡ Some (from, to) }
+    ensures steps { IfSome result (λ step. StepsBetween (fleet_of table.now) time agent step.0 step.1) }
+    ensures found { (from to : Point) → StepsBetween (fleet_of table.now) time agent from to → result ≡ Some (from, to) }
 {
     let from = position(table.plans, table.mode, agent, time)?;
     let to = position(table.plans, table.mode, agent, time + 1)?;
