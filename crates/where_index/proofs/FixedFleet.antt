@@ -66,5 +66,5 @@ pub one_fleet : OneFleet
 one_fleet index one two has also agent =
     let route : one agent ≡ two agent = one_route _ (one agent) (two agent) (has.ends agent) (also.ends agent)
     (λ t. same_starts stand_at (λ r t. hop_at r.path t) (one agent) (two agent) t (same_spots index.traffic.stands (all_of leg_at one) (all_of leg_at two) has.traffic.stands also.traffic.stands agent t))
-    (λ t. same_starts tail_at (λ r t. None) (one agent) (two agent) t (same_spots index.tails (all_of rest_at one) (all_of rest_at two) has.tails also.tails agent t)) in
+    (λ t. same_starts tail_at (λ r t. None) (one agent) (two agent) t (same_spots index.traffic.tails (all_of rest_at one) (all_of rest_at two) has.tails also.tails agent t)) in
     (route, λ time. ap (λ o. option_and_then (λ r. position r time) o) route)

@@ -73,13 +73,13 @@ module _ (fleet : Fleet) (agent : ℕ) (before next : Option Route) (was : fleet
   -- the index after the records, the end and the horizon are changed
   pub stands_next : (index new : Contents) (end : Option End) → StandsFor index fleet
       → ChangesLegs index.traffic new.traffic agent (leg_at (unwrap_or before nothing)) (leg_at (unwrap_or next nothing))
-      → ChangesSpots index.tails new.tails agent (rest_at (unwrap_or before nothing)) (rest_at (unwrap_or next nothing))
+      → ChangesSpots index.traffic.tails new.traffic.tails agent (rest_at (unwrap_or before nothing)) (rest_at (unwrap_or next nothing))
       → ((q : ℕ) → end_in new.ends q ≡ cond (is_eq (nat_cmp agent q)) end (end_in index.ends q)) → IsEndOf end next
       → index.horizon ≤ new.horizon → last_index (unwrap_or next nothing).path ≤ new.horizon
       → StandsFor new (with_route fleet agent next)
   stands_next index new end has legs tails puts is more last = record {
     traffic = HasTraffic-ext new.traffic _ _ (row_next leg_at no_leg) (legs (all_of leg_at fleet) has.traffic (agrees leg_at no_leg));
-    tails = HasSpots-ext new.tails _ _ (row_next rest_at no_rest) (tails (all_of rest_at fleet) has.tails (agrees rest_at no_rest));
+    tails = HasSpots-ext new.traffic.tails _ _ (row_next rest_at no_rest) (tails (all_of rest_at fleet) has.tails (agrees rest_at no_rest));
     ends = ends_next index.ends new.ends end puts has.ends is;
     horizon = horizon_next index.horizon new.horizon has.horizon more last;
   }

@@ -8,14 +8,12 @@ use Rattle.where_index.specs.declared.traffic.Traffic.{Traffic}
 use Rattle.where_index.specs.declared.ends.End.{End}
 use Rattle.where_index.specs.Ends.{IsEndOf}
 use Rattle.where_index.specs.Records.{leg_at, rest_at}
-use Rattle.where_index.specs.ByCell.{ByCell}
 use Rattle.where_index.specs.Changes.{HasSpots}
 use Rattle.where_index.specs.Traffic.{HasTraffic}
 
 -- what an index keeps
 pub record Contents : Type 0 where
   pub traffic : Traffic
-  pub tails : ByCell
   pub ends : List (ℕ × End)
   pub horizon : ℕ
   pub touched : ℕ
@@ -31,7 +29,7 @@ all_of g fleet agent time = option_and_then (λ r. g r time) (fleet agent)
 -- the contents are the records of the fleet's routes, and nothing else
 pub record StandsFor (index : Contents) (fleet : Fleet) : Type 0 where
   pub traffic : HasTraffic index.traffic (all_of leg_at fleet)
-  pub tails : HasSpots index.tails (all_of rest_at fleet)
+  pub tails : HasSpots index.traffic.tails (all_of rest_at fleet)
   pub ends : (agent : ℕ) → IsEndOf (end_in index.ends agent) (fleet agent)
   pub horizon : (agent : ℕ) → last_of fleet agent ≤ index.horizon
 

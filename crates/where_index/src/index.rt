@@ -9,7 +9,8 @@ ghost use Rattle.where_index.specs.Index.{StandsFor, ChangesRoute};
 ghost use Rattle.where_index.specs.Asked.{CountsAgents};
 
 use crate::ends::End;
-use crate::records::Records;
+use crate::records::change_records;
+use crate::traffic::Traffic;
 use crate::trails::Trail;
 use grid_cells::{Agent, OutOfMemory};
 use plan_table::Track;
@@ -20,7 +21,7 @@ use std::marker::Model;
 /// Which agents stand and move where: it stands for a finite map from agents to tracks.
 pub struct WhereIndex {
     pub(crate) alloc: Global,
-    pub(crate) records: Records,
+    pub(crate) traffic: Traffic,
     pub(crate) ends: BTreeMap<Agent, End>,
     pub(crate) horizon: u32,
     touched: u64,
@@ -30,7 +31,7 @@ impl Drop for WhereIndex {
     fn drop(self) {
         let WhereIndex {
             alloc: _,
-            records: _records,
+            traffic: _traffic,
             ends: _ends,
             horizon: _,
             touched: _,
@@ -43,7 +44,7 @@ impl Model for WhereIndex {
 
     ghost Value = { Contents };
 
-    ghost view = { λ i. record { traffic = i.records.traffic; tails = i.records.tails; ends = i.ends.entries; horizon = i.horizon; touched = i.touched } };
+    ghost view = { λ i. record { traffic = i.traffic; ends = i.ends.entries; horizon = i.horizon; touched = i.touched } };
 }
 
 impl WhereIndex {
@@ -55,7 +56,7 @@ impl WhereIndex {
     {
         WhereIndex {
             alloc,
-            records: Records::new(alloc),
+            traffic: Traffic::new(alloc),
             ends: BTreeMap::new(alloc),
             horizon: 0,
             touched: 0,
@@ -85,9 +86,8 @@ impl WhereIndex {
     {
         let last = track.plan.last();
         let trail = Trail::of(&track);
-        let changed = self
-            .records
-            .replace(agent, &trail, &Trail::none(), 0, last + 1);
+        let nothing = Trail::none();
+        let changed = change_records(&mut self.traffic, agent, &trail, &nothing, 0, last + 1);
         let count = match changed {
             Ok(count) => count,
             Err(_) => unreachable!(),
@@ -141,7 +141,7 @@ impl WhereIndex {
         ensures touched { IfOk result (λ index. index.touched ≡ min (self.touched + apart_below old.now new.now to) u64.MAX) }
     {
         let last = end.last;
-        let count = self.records.replace(agent, old, new, from, to)?;
+        let count = change_records(&mut self.traffic, agent, old, new, from, to)?;
         self.ends.insert(agent, end)?;
         self.horizon = self.horizon.max(last);
         self.touched = self.touched.saturating_add(u64::from(count));

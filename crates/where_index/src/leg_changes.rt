@@ -20,6 +20,7 @@ pub fn change_legs(
 ) -> Result<u32, OutOfMemory>
     requires { DifferWithin old.now new.now from to }
     ensures set { OnOk result (ChangesLegs traffic.old traffic.new agent (leg_at old.now) (leg_at new.now)) }
+    ensures tails { traffic.new.tails ≡ traffic.old.tails }
     ensures free { length new.now.path ≡ 0 → IsOk result }
     ensures few { IfOk result (λ n. n ≤ 4 * to) }
     ensures count { IfOk result (λ n. n ≡ legs_apart old.now new.now to) }
@@ -41,6 +42,7 @@ fn change_leg(
     time: u32,
 ) -> Result<u32, OutOfMemory>
     ensures set { OnOk result (ChangesLeg traffic.old traffic.new agent time (leg_at old.now time) (leg_at new.now time)) }
+    ensures tails { traffic.new.tails ≡ traffic.old.tails }
     ensures free { leg_at new.now time ≡ None → IsOk result }
     ensures few { IfOk result (λ n. n ≤ 4) }
     ensures count { IfOk result (λ n. n ≡ leg_changed old.now new.now time) }
@@ -74,7 +76,8 @@ fn count_of_hops(old: &Option<Hop>, new: &Option<Hop>) -> u32
 
 // Takes out where the agent goes, if it goes anywhere.
 fn clear_leg(traffic: &mut Traffic, agent: Agent, time: u32, old: Option<Hop>)
-    ensures { ChangesLeg traffic.old traffic.new agent time old None }
+    ensures set { ChangesLeg traffic.old traffic.new agent time old None }
+    ensures tails { traffic.new.tails ≡ traffic.old.tails }
 {
     match old {
         Some(leg) => traffic.lose(agent, time, leg),
@@ -90,6 +93,7 @@ fn fill_leg(
     new: Option<Hop>,
 ) -> Result<(), OutOfMemory>
     ensures set { OnOk result (ChangesLeg traffic.old traffic.new agent time None new) }
+    ensures tails { traffic.new.tails ≡ traffic.old.tails }
     ensures free { new ≡ None → IsOk result }
 {
     match new {

@@ -20,8 +20,8 @@ impl WhereIndex {
         ensures { IfOk result (λ agents. (fleet : Fleet) → StandsFor self.now fleet → AreStandingAt fleet step cell agents) }
     {
         let time = step.number();
-        let stands = self.records.traffic.stands.from(cell, time);
-        let tails = self.records.tails.from(cell, 0);
+        let stands = self.traffic.stands.from(cell, time);
+        let tails = self.traffic.tails.from(cell, 0);
         agents_of(self.alloc, stands, tails, time)
     }
 
@@ -30,8 +30,8 @@ impl WhereIndex {
         ensures { (fleet : Fleet) → StandsFor self.now fleet → AreOccupants fleet cell from result }
     {
         Occupants {
-            stands: self.records.traffic.stands.from(cell, from.number()),
-            tails: self.records.tails.from(cell, 0),
+            stands: self.traffic.stands.from(cell, from.number()),
+            tails: self.traffic.tails.from(cell, 0),
         }
     }
 
@@ -39,15 +39,15 @@ impl WhereIndex {
     pub fn movers(&self, step: Step, cell: Cell) -> &[Move]
         ensures { (fleet : Fleet) → StandsFor self.now fleet → AreMovers fleet step cell result.now }
     {
-        self.records.traffic.movers(cell, step.number())
+        self.traffic.movers(cell, step.number())
     }
 
     /// Whether some agent moves that way in the step.
     pub fn goes(&self, step: Step, way: Way) -> bool
         ensures { (fleet : Fleet) → StandsFor self.now fleet → IsTrue result ↔ Goes fleet step way }
     {
-        self.records.traffic.stands.are_within();
-        self.records.traffic.flows.at(way, step.number()) > 0
+        self.traffic.stands.are_within();
+        self.traffic.flows.at(way, step.number()) > 0
     }
 
     /// Those who are in the cell at the step or later, up to the last index of their paths, by time,
@@ -56,8 +56,8 @@ impl WhereIndex {
         ensures { IfOk result (λ passings. (fleet : Fleet) → StandsFor self.now fleet → ArePassing fleet cell from passings) }
     {
         let time = from.number();
-        let stands = self.records.traffic.stands.from(cell, time);
-        let tails = self.records.tails.from(cell, time);
+        let stands = self.traffic.stands.from(cell, time);
+        let tails = self.traffic.tails.from(cell, time);
         passings_of(self.alloc, stands, tails)
     }
 
@@ -66,11 +66,11 @@ impl WhereIndex {
         ensures { (fleet : Fleet) → StandsFor self.now fleet → IsTrue result ↔ (position_of fleet agent step ≡ Some cell) }
     {
         let time = step.number();
-        if self.records.traffic.stands.has(cell, time, agent) {
+        if self.traffic.stands.has(cell, time, agent) {
             return true;
         }
         match self.end_of(agent) {
-            Some(end) => end.last <= time && self.records.tails.has(cell, end.last, agent),
+            Some(end) => end.last <= time && self.traffic.tails.has(cell, end.last, agent),
             None => false,
         }
     }

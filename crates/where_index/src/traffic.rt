@@ -1,4 +1,4 @@
-ghost use Rattle.std.specs.Prelude.{◌≡◌, ◌↔◌, ℕ, Option, Some, None, OnOk, Contains};
+ghost use Rattle.std.specs.Prelude.{◌≡◌, ◌↔◌, ℕ, Option, Some, None, OnOk, Contains, []};
 ghost use Rattle.where_index.specs.declared.trails.Hop.{Hop};
 ghost use Rattle.where_index.specs.declared.moves.Move.{Move};
 ghost use Rattle.where_index.specs.Changes.{HasSpots};
@@ -16,11 +16,12 @@ use grid_cells::{Agent, Cell, OutOfMemory};
 use std::alloc::Global;
 use std::slice;
 
-/// Where agents are at each time and one step later: by cell, the moves of crowds once more as lists,
-/// and how many go each way.
+/// Where agents are at each time and one step later, and from when on they rest: by cell, the moves of
+/// crowds once more as lists, and how many go each way.
 #[derive(Drop)]
 pub struct Traffic {
     pub stands: Spots,
+    pub tails: Spots,
     pub crowds: Crowds,
     pub flows: Flows,
 }
@@ -28,10 +29,12 @@ pub struct Traffic {
 impl Traffic {
     /// Nobody is anywhere.
     pub fn new(alloc: Global) -> Traffic
-        ensures { HasTraffic result (λ _ _. None) }
+        ensures legs { HasTraffic result (λ _ _. None) }
+        ensures tails { result.tails ≡ [] }
     {
         Traffic {
             stands: Spots::new(alloc),
+            tails: Spots::new(alloc),
             crowds: Crowds::new(alloc),
             flows: Flows::new(alloc),
         }
@@ -63,7 +66,8 @@ impl Traffic {
 
     /// Adds where the agent goes in that step, where nothing is known of it.
     pub fn add(&mut self, agent: Agent, time: u32, leg: Hop) -> Result<(), OutOfMemory>
-        ensures { OnOk result (ChangesLeg self.old self.new agent time None (Some leg)) }
+        ensures set { OnOk result (ChangesLeg self.old self.new agent time None (Some leg)) }
+        ensures tails { self.new.tails ≡ self.old.tails }
     {
         let (cell, to) = (leg.from, leg.to);
         let beside = self.beside(cell, time);
@@ -75,7 +79,8 @@ impl Traffic {
 
     /// Takes out where the agent goes in that step.
     pub fn lose(&mut self, agent: Agent, time: u32, leg: Hop)
-        ensures { ChangesLeg self.old self.new agent time (Some leg) None }
+        ensures set { ChangesLeg self.old self.new agent time (Some leg) None }
+        ensures tails { self.new.tails ≡ self.old.tails }
     {
         let (cell, to) = (leg.from, leg.to);
         let step = Move { agent, to };

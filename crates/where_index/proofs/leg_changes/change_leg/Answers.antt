@@ -10,7 +10,7 @@ returns-in_ok-fill_leg-clause-set c = λ f has is.
     let time = c.args.time in
     let next = leg_at c.args.new.now time in
     let mid = set_at f c.args.agent time None in
-    let gone = rw c.leg.ensures at c.clear_leg.ensures in
+    let gone = rw c.leg.ensures at c.clear_leg.ensures.set in
     let come = rw c.leg-then-count-gt0.ensures at c.in_ok-fill_leg.ensures.set in
     HasTraffic-ext c.fill_leg.new.traffic (set_at mid c.args.agent time next) (set_at f c.args.agent time next) (set_twice f c.args.agent time None next)
     (come mid (gone f has is) (set_itself f c.args.agent time None))

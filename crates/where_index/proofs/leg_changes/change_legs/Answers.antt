@@ -1,4 +1,4 @@
-use Rattle.std.proofs.Common.{◌≡◌, ◌+◌, refl, arith}
+use Rattle.std.proofs.Common.{◌≡◌, ◌+◌, refl, ◌∙◌, arith}
 use Rattle.where_index.specs.Records.{stand_at, hop_at, leg_at, changed, changed_hop}
 use Rattle.where_index.specs.Changes.{set_at, set_row, mixed}
 use Rattle.where_index.proofs.Flowing.{HasTraffic-ext}
@@ -13,6 +13,7 @@ loop-time-init c =
     let hops = none_below changed_hop (hop_at c.args.old.now.path) (hop_at c.args.new.now.path) changed_hop_itself c.args.from (λ t h. (c.requires.same_before t h).hops) in
     record {
       set = λ f has agree. HasTraffic-ext c.args.traffic.now f (set_row f c.args.agent (mixed o n c.args.from)) (mixed_start f c.args.agent o n c.args.from (λ t h. same_leg (c.requires.same_before t h)) agree) has;
+      tails = refl;
       count = omega (arith, stands, hops);
       few = omega arith;
     }
@@ -29,6 +30,7 @@ loop-time-preserved c =
       set = λ f has agree.
           HasTraffic-ext c.change_leg.new.traffic (set_at (set_row f c.args.agent (mixed o n x)) c.args.agent x (n x)) (set_row f c.args.agent (mixed o n (x + 1))) (mixed_more f c.args.agent o n x)
           (g.set (set_row f c.args.agent (mixed o n x)) (c.loop-time.invariant.set f has agree) (mixed_here f c.args.agent o n x));
+      tails = g.tails ∙ c.loop-time.invariant.tails;
       count = omega (arith, stands, hops, c.loop-time.invariant.count, g.count);
       few = omega (arith, g.few);
     }
@@ -41,3 +43,9 @@ returns-clause-set c = λ f has agree.
     let at_end : x ≡ c.args.to = omega arith in
     HasTraffic-ext c.loop-time.traffic (set_row f c.args.agent (mixed o n x)) (set_row f c.args.agent n) (mixed_end f c.args.agent o n x (λ t h. same_leg (c.requires.same_after t (omega arith))))
     (c.loop-time.invariant.set f has agree)
+
+pub returns-clause-tails : goal.returns-clause-tails
+returns-clause-tails c = c.loop-time.invariant.tails
+
+pub returns-in_err-count-clause-tails : goal.returns-in_err-count-clause-tails
+returns-in_err-count-clause-tails c = c.in_err-count.ensures.tails ∙ c.loop-time.invariant.tails

@@ -4,8 +4,8 @@ use Rattle.where_index.proofs.Changes.{set_same}
 use Rattle.where_index.proofs.Flowing.{HasTraffic-ext}
 use Rattle.where_index.proofs.leg_changes.clear_leg.Goals as goal
 
-pub returns-in-Some : goal.returns-in-Some
-returns-in-Some c = λ f has is. c.lose.ensures f has (is ∙ c.in-Some.is)
+pub returns-in-Some-clause-set : goal.returns-in-Some-clause-set
+returns-in-Some-clause-set c = λ f has is. c.lose.ensures.set f has (is ∙ c.in-Some.is)
 
-pub returns-in-None : goal.returns-in-None
-returns-in-None c = λ f has is. HasTraffic-ext c.args.traffic.now f (set_at f c.args.agent c.args.time None) (set_same f c.args.agent c.args.time None (is ∙ c.in-None.is)) has
+pub returns-in-None-clause-set : goal.returns-in-None-clause-set
+returns-in-None-clause-set c = λ f has is. HasTraffic-ext c.args.traffic.now f (set_at f c.args.agent c.args.time None) (set_same f c.args.agent c.args.time None (is ∙ c.in-None.is)) has

@@ -17,8 +17,8 @@ returns-then-end-time c = λ fleet has.
     let records = rw (← c.self.view_is) at has in
     let is = subst (λ e. IsEndOf e (fleet c.args.agent)) (sym c.in-Some.ensures) (has.ends c.args.agent) in
     let standing = rw c.number-time.ensures at c.has.ensures in (
-      (λ h. is_there c.self.inside.records.traffic.stands c.self.inside.records.tails fleet c.args.cell c.args.agent c.args.step c.in-Some.end (stands_show _ fleet records.traffic.stands) (tails_show _ fleet records.tails) is (omega (arith, c.if-end-time.true, c.number-time.ensures)) (c.has-then-end-time.ensures.0 h)),
-      (λ h. c.has-then-end-time.ensures.1 (is_rest c.self.inside.records.traffic.stands c.self.inside.records.tails fleet c.args.cell c.args.agent c.args.step c.in-Some.end (stands_show _ fleet records.traffic.stands) (tails_show _ fleet records.tails) is (λ there. not_both _ c.if-has.false (standing.1 there)) h).1),
+      (λ h. is_there c.self.inside.traffic.stands c.self.inside.traffic.tails fleet c.args.cell c.args.agent c.args.step c.in-Some.end (stands_show _ fleet records.traffic.stands) (tails_show _ fleet records.tails) is (omega (arith, c.if-end-time.true, c.number-time.ensures)) (c.has-then-end-time.ensures.0 h)),
+      (λ h. c.has-then-end-time.ensures.1 (is_rest c.self.inside.traffic.stands c.self.inside.traffic.tails fleet c.args.cell c.args.agent c.args.step c.in-Some.end (stands_show _ fleet records.traffic.stands) (tails_show _ fleet records.tails) is (λ there. not_both _ c.if-has.false (standing.1 there)) h).1),
     )
 
 pub returns-else-end-time : goal.returns-else-end-time
@@ -27,7 +27,7 @@ returns-else-end-time c = λ fleet has.
     let is = subst (λ e. IsEndOf e (fleet c.args.agent)) (sym c.in-Some.ensures) (has.ends c.args.agent) in
     let standing = rw c.number-time.ensures at c.has.ensures in (
       (λ h. absurd (omega (arith, at_least _ _ h, c.if-end-time.false))),
-      (λ h. absurd (omega (arith, (is_rest c.self.inside.records.traffic.stands c.self.inside.records.tails fleet c.args.cell c.args.agent c.args.step c.in-Some.end (stands_show _ fleet records.traffic.stands) (tails_show _ fleet records.tails) is (λ there. not_both _ c.if-has.false (standing.1 there)) h).0, c.if-end-time.false, c.number-time.ensures))),
+      (λ h. absurd (omega (arith, (is_rest c.self.inside.traffic.stands c.self.inside.traffic.tails fleet c.args.cell c.args.agent c.args.step c.in-Some.end (stands_show _ fleet records.traffic.stands) (tails_show _ fleet records.tails) is (λ there. not_both _ c.if-has.false (standing.1 there)) h).0, c.if-end-time.false, c.number-time.ensures))),
     )
 
 pub returns-in-None : goal.returns-in-None
@@ -39,4 +39,4 @@ pub returns-then-has : goal.returns-then-has
 returns-then-has c = λ fleet has.
     let records = rw (← c.self.view_is) at has in
     let standing = rw c.number-time.ensures at c.has.ensures in
-    ((λ h. is_standing c.self.inside.records.traffic.stands fleet c.args.cell c.args.agent c.args.step (stands_show _ fleet records.traffic.stands) (standing.0 c.if-has.true)), (λ h. refl))
+    ((λ h. is_standing c.self.inside.traffic.stands fleet c.args.cell c.args.agent c.args.step (stands_show _ fleet records.traffic.stands) (standing.0 c.if-has.true)), (λ h. refl))
