@@ -55,13 +55,10 @@ impl<'a> Pipes<'a> {
     fn operate<C: Counter>(&self, alloc: Global, counter: &mut C) -> Outcome
         ensures { Sits C.counting None counter.old counter.new result }
     {
-        let ended = sit_between(
-            alloc,
-            counter,
-            self.host.reader(),
-            io::writer(self.host),
-            false,
-        );
+        // (lent, since standard input has its buffer in itself)
+        let mut input = self.host.reader();
+        let output = io::writer(self.host);
+        let ended = sit_between(alloc, counter, &mut input, output, false);
         self.tell("operator", &ended);
         ended
     }

@@ -31,8 +31,9 @@ pub fn serve_streams<'a, R: Files + AllocGlobal + Print + Eprint + Input>(
         Ok(named) => named,
         Err(fault) => return Err(fault),
     };
-    let (input, output) = (rt.reader(), io::writer(rt));
-    let ended = serve_between(rt, named.texts(), words, input, output, more, verbose);
+    // (lent, since standard input has its buffer in itself)
+    let (mut input, output) = (rt.reader(), io::writer(rt));
+    let ended = serve_between(rt, named.texts(), words, &mut input, output, more, verbose);
     drop(named);
     ended
 }
