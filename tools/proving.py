@@ -71,7 +71,7 @@ class Crate:
             return [[*words, "--statements", "-o", f"{room}/{self.name}.rlib"]]
         toolchain, made = ["--toolchain", f"{KIT}/toolchain"], f"{room}/{self.name}"
         link = [f"{KIT}/bin/rattle-link", "--target", "x86_64-unknown-linux-gnu", *toolchain, "-o", made, f"{made}.o"]
-        return [[*words, *toolchain, "--backend", "llvm", "-o", f"{made}.o"], [*link, f"{KIT}/c/libos_c.a", f"{KIT}/c/liblibc_c.a"]]
+        return [[*words, *toolchain, "--backend", "rattle", "-o", f"{made}.o"], [*link, f"{KIT}/c/libos_c.a", f"{KIT}/c/liblibc_c.a"]]
 
     def forget(self):
         """Takes the stamp away; also from what stands on a library that is proved anew, since an rlib fits only those that it was made over."""
