@@ -104,7 +104,7 @@ BODIES = [
     ("scripts_counted_that_were_not_served", "tallies.rt", "tally.begun.load(Ordering::SeqCst)", "true", "counts_of_no_script"),
     # Planners that are hosted
     ("front_of_a_line_taken_for_a_line", "seats.rt", "sit_between(alloc, counter, input, output, ‹true›)", "false", "broken_off_within_a_line"),
-    ("operator_needs_a_last_lf", "seats.rt", "io::writer(self.host),\n            ‹false›", "true", "last_line_of_the_operator"),
+    ("operator_needs_a_last_lf", "seats.rt", "sit_between(alloc, counter, &mut input, output, ‹false›)", "true", "last_line_of_the_operator"),
     ("fault_of_a_planner_untold", "seats.rt", "self.tell(doors.name.as_str(), &ended)", "()", "broken_off_within_a_line"),
     ("fault_of_a_planner_taken_for_its_end", "hosting.rt", "end.operator.is_err() || end.planners.iter().any(|ended| ended.is_err())", "false", "answers_unheard"),
     ("planners_not_waited_for", "seats.rt", "for _ in ‹0..seconds›", "seconds..seconds", "never_comes"),
