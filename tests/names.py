@@ -1,6 +1,7 @@
 #!/usr/bin/env python3
 """Says which names of names.txt stand nowhere in the repository, and which wrong bodies name a library that their crate doesn't stand
-on by its row of crates.txt, so that they could not be planted; ends with status 1 if there is one of either.
+on by its row of crates.txt, or, of the program's, turn a text that doesn't stand once, so that they could not be planted; ends with
+status 1 if there is one of these.
 
 A name stands where a test function, an entry of a test's table (`(KIND, "NAME, NAME", ..`) or a wrong body (crates/*/must-fail/NAME.edit) has
 it, alone or as a whole part of a longer one that is joined by `_and_`, `_of_` and the like; so does one of the tests with processes, as
@@ -74,6 +75,18 @@ def foreign():
             yield f"{name} names {library}, which the row of {crate} in crates.txt lacks"
 
 
+def lost():
+    """What is said of wrong bodies of the program, and of readers of words, whose text doesn't stand once in their file."""
+    for name, file, text, _, _ in [*wrong_bodies.BODIES, *wrong_bodies.READERS]:
+        for crate in (switch.PROGRAM, switch.RUNS, switch.FILES, switch.READERS):
+            path = CRATES / crate / "src" / file
+            if path.exists():
+                try:
+                    switch.place(path.read_text(), text, file)
+                except ValueError as why:
+                    yield f"{name}: {why}"
+
+
 def main():
     lines = (HERE / "names.txt").read_text().splitlines()
     wanted = [line for line in lines if line and not line.startswith("#")]
@@ -81,7 +94,7 @@ def main():
     missing = [name for name in wanted if not stands(name, names)]
     for name in missing:
         print(f"{name} stands nowhere")
-    strange = [*foreign()]
+    strange = [*foreign(), *lost()]
     for line in strange:
         print(line)
     print(f"{len(wanted) - len(missing)} of {len(wanted)} names stand")
