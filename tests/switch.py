@@ -34,8 +34,8 @@ pub fn is_wrong(name: &[u8]) -> bool {
 """ % WRONG
 
 # What the program's main function does with its words.
-READS = "    let (words, verbose) = match read_words(alloc, given.as_slice()) {"
-TELLS = """    let asked = read_words(alloc, given.as_slice());
+READS = "    let (words, verbose) = match read_words(alloc, given.leak()) {"
+TELLS = """    let asked = read_words(alloc, given.leak());
     if switch::has(b"%s", b"1") {
         let mut text = String::new(alloc);
         if read_as::put_asked(&mut text, &asked).is_ok() {

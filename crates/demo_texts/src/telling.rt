@@ -10,7 +10,7 @@ use plan_table::Mode;
 use std::alloc::AllocError;
 
 /// What words are read as.
-pub fn put_asked(text: &mut String, asked: &Asked<'_>) -> Result<(), AllocError> {
+pub fn put_asked(text: &mut String, asked: &Asked) -> Result<(), AllocError> {
     match asked {
         Asked::NoMemory => text.push_str("no memory"),
         Asked::Refused(error) => put_refusal(text, error),
@@ -32,7 +32,7 @@ fn put_refusal(text: &mut String, error: &Error) -> Result<(), AllocError> {
     write!(text, "refused {kind:?}")
 }
 
-fn put_words(text: &mut String, words: &Words<'_>) -> Result<(), AllocError> {
+fn put_words(text: &mut String, words: &Words) -> Result<(), AllocError> {
     match words {
         Words::Version => text.push_str("version"),
         Words::Serve(serve) => put_serve(text, serve),
@@ -44,12 +44,12 @@ fn put_words(text: &mut String, words: &Words<'_>) -> Result<(), AllocError> {
     }
 }
 
-fn put_serve(text: &mut String, words: &ServeWords<'_>) -> Result<(), AllocError> {
+fn put_serve(text: &mut String, words: &ServeWords) -> Result<(), AllocError> {
     text.push_str("serve")?;
     put_desk(text, words)
 }
 
-fn put_desk(text: &mut String, words: &ServeWords<'_>) -> Result<(), AllocError> {
+fn put_desk(text: &mut String, words: &ServeWords) -> Result<(), AllocError> {
     put_file(text, "map", words.map)?;
     put_file(text, "scen", words.scen)?;
     put_number(text, "agents", words.agents, 0)?;
@@ -73,14 +73,14 @@ fn put_opening(
     put_mode(text, mode)
 }
 
-fn put_audit(text: &mut String, words: &AuditWords<'_>) -> Result<(), AllocError> {
+fn put_audit(text: &mut String, words: &AuditWords) -> Result<(), AllocError> {
     text.push_str("audit")?;
     put_opening(text, words.map, words.scen, words.agents, words.mode)?;
     put_file(text, "journal", words.journal)?;
     put_number(text, "workers", words.workers, 4)
 }
 
-fn put_drill(text: &mut String, words: &DrillWords<'_>) -> Result<(), AllocError> {
+fn put_drill(text: &mut String, words: &DrillWords) -> Result<(), AllocError> {
     text.push_str("drill")?;
     put_opening(text, words.map, words.scen, words.agents, words.mode)?;
     put_number(text, "workers", words.workers, 4)?;
@@ -90,7 +90,7 @@ fn put_drill(text: &mut String, words: &DrillWords<'_>) -> Result<(), AllocError
     Ok(())
 }
 
-fn put_host(text: &mut String, words: &HostWords<'_>) -> Result<(), AllocError> {
+fn put_host(text: &mut String, words: &HostWords) -> Result<(), AllocError> {
     text.push_str("host")?;
     put_desk(text, &words.desk)?;
     put_given(text, "wait", words.wait)?;
@@ -101,7 +101,7 @@ fn put_host(text: &mut String, words: &HostWords<'_>) -> Result<(), AllocError> 
     Ok(())
 }
 
-fn put_check(text: &mut String, words: &CheckWords<'_>) -> Result<(), AllocError> {
+fn put_check(text: &mut String, words: &CheckWords) -> Result<(), AllocError> {
     text.push_str("check")?;
     put_file(text, "map", Some(words.map))?;
     put_file(text, "paths", Some(words.paths))?;
@@ -117,7 +117,7 @@ fn put_check(text: &mut String, words: &CheckWords<'_>) -> Result<(), AllocError
     Ok(())
 }
 
-fn put_draw(text: &mut String, words: &DrawWords<'_>) -> Result<(), AllocError> {
+fn put_draw(text: &mut String, words: &DrawWords) -> Result<(), AllocError> {
     text.push_str("draw")?;
     put_file(text, "map", Some(words.map))?;
     put_file(text, "scen", words.scen)?;

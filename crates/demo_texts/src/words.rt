@@ -21,5 +21,5 @@ pub fn put_line(alloc: Global, told: &mut String, text: &[u8]) -> Result<(), All
         return told.push_str("not UTF-8");
     };
     let words = words_of(alloc, line)?;
-    put_asked(told, &read_words(alloc, words.as_slice()))
+    put_asked(told, &read_words(alloc, words.leak()))
 }

@@ -77,16 +77,16 @@ impl From<ServeFault> for RunFault {
 
 /// Why the program did not do what its words ask for.
 #[derive(Debug, Drop, Error)]
-pub enum Fault<'a> {
+pub enum Fault {
     /// Agents are asked for, and there is no scenario that has their tasks.
     #[error("--agents needs --scen")]
     AgentsWithoutScen,
     /// A file can't be opened or read, or has too many bytes.
     #[error("can't read {file}")]
-    CannotRead { file: &'a str },
+    CannotRead { file: &'static str },
     /// The desk's journal can't be saved in a file, which is then as it was.
     #[error("can't write {file}")]
-    CannotWrite { file: &'a str },
+    CannotWrite { file: &'static str },
     #[error("{0}")]
     Run(RunFault),
 }

@@ -9,11 +9,11 @@ use std::rt::Files;
 /// # Errors
 ///
 /// The file can't be opened or read, or has more than `MOST_BYTES` bytes; or want of memory.
-pub fn file_bytes<'a, R: Files + AllocGlobal>(
+pub fn file_bytes<R: Files + AllocGlobal>(
     rt: &R,
-    file: &'a str,
+    file: &'static str,
     more: &mut More,
-) -> Result<Vec<u8>, Fault<'a>> {
+) -> Result<Vec<u8>, Fault> {
     let alloc = rt.alloc();
     let opened = match fs::open(rt, file) {
         Ok(opened) => opened,
@@ -42,11 +42,11 @@ pub fn file_bytes<'a, R: Files + AllocGlobal>(
 /// # Errors
 ///
 /// As `file_bytes`.
-pub fn named_bytes<'a, R: Files + AllocGlobal>(
+pub fn named_bytes<R: Files + AllocGlobal>(
     rt: &R,
-    file: Option<&'a str>,
+    file: Option<&'static str>,
     more: &mut More,
-) -> Result<Option<Vec<u8>>, Fault<'a>> {
+) -> Result<Option<Vec<u8>>, Fault> {
     match file {
         None => Ok(None),
         Some(file) => match file_bytes(rt, file, more) {
@@ -61,11 +61,11 @@ pub fn named_bytes<'a, R: Files + AllocGlobal>(
 /// # Errors
 ///
 /// Those of `file_bytes`, at the first file that has one; or want of memory.
-pub fn all_bytes<'a, R: Files + AllocGlobal>(
+pub fn all_bytes<R: Files + AllocGlobal>(
     rt: &R,
-    files: &[&'a str],
+    files: &[&'static str],
     more: &mut More,
-) -> Result<Vec<Vec<u8>>, Fault<'a>> {
+) -> Result<Vec<Vec<u8>>, Fault> {
     let mut all = Vec::new(rt.alloc());
     for file in files {
         let bytes = match file_bytes(rt, file, more) {

@@ -12,11 +12,11 @@ use std::rt::Files;
 /// # Errors
 ///
 /// It can't be, and why.
-pub fn look_ahead<'a, R: Files + AllocGlobal>(
+pub fn look_ahead<R: Files + AllocGlobal>(
     rt: &R,
-    file: &'a str,
+    file: &'static str,
     more: &mut More,
-) -> Result<(), Fault<'a>> {
+) -> Result<(), Fault> {
     told(rt.alloc(), is_ready(rt, file), file, more)
 }
 
@@ -25,12 +25,12 @@ pub fn look_ahead<'a, R: Files + AllocGlobal>(
 /// # Errors
 ///
 /// It wasn't done.
-pub fn told<'a>(
+pub fn told(
     alloc: Global,
     done: Done<()>,
-    file: &'a str,
+    file: &'static str,
     more: &mut More,
-) -> Result<(), Fault<'a>> {
+) -> Result<(), Fault> {
     match done {
         Ok(()) => Ok(()),
         Err(why) => {

@@ -30,13 +30,13 @@ impl Named {
 /// # Errors
 ///
 /// The first file that can't be read.
-pub fn read_files<'a, R: Files + AllocGlobal>(
+pub fn read_files<R: Files + AllocGlobal>(
     rt: &R,
-    map: Option<&'a str>,
-    scen: Option<&'a str>,
-    journal: Option<&'a str>,
+    map: Option<&'static str>,
+    scen: Option<&'static str>,
+    journal: Option<&'static str>,
     more: &mut More,
-) -> Result<Named, Fault<'a>> {
+) -> Result<Named, Fault> {
     let map = match named_bytes(rt, map, more) {
         Ok(map) => map,
         Err(fault) => return Err(fault),
@@ -64,11 +64,11 @@ pub fn read_files<'a, R: Files + AllocGlobal>(
 /// # Errors
 ///
 /// What the words lack, or the first file that can't be read or written.
-pub fn read_named<'a, R: Files + AllocGlobal>(
+pub fn read_named<R: Files + AllocGlobal>(
     rt: &R,
-    words: &ServeWords<'a>,
+    words: &ServeWords,
     more: &mut More,
-) -> Result<Named, Fault<'a>> {
+) -> Result<Named, Fault> {
     if words.agents > 0 && words.scen.is_none() {
         return Err(Fault::AgentsWithoutScen);
     }

@@ -20,7 +20,7 @@ const CLASSICAL: Kinds = Kinds {
     ..NO_KINDS
 };
 
-fn form_of(matches: &ArgMatches<'_>) -> Option<Form> {
+fn form_of(matches: &ArgMatches<'static>) -> Option<Form> {
     match matches.get_str("form") {
         Some("time") => Some(Form::ByTime),
         Some("agent") => Some(Form::ByAgent),
@@ -30,7 +30,7 @@ fn form_of(matches: &ArgMatches<'_>) -> Option<Form> {
 }
 
 // The kinds that are named; where none is, those of the classical problem.
-fn kinds_of(matches: &ArgMatches<'_>) -> Kinds {
+fn kinds_of(matches: &ArgMatches<'static>) -> Kinds {
     let Some(named) = matches.get_strs("solves") else {
         return CLASSICAL;
     };
@@ -48,7 +48,7 @@ fn kinds_of(matches: &ArgMatches<'_>) -> Kinds {
 }
 
 /// What a check is asked for.
-pub fn check_words<'a>(matches: &ArgMatches<'a>) -> CheckWords<'a> {
+pub fn check_words(matches: &ArgMatches<'static>) -> CheckWords {
     CheckWords {
         map: matches.get_str("map").unwrap_or(""),
         scen: matches.get_str("scen"),

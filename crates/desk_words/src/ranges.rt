@@ -24,7 +24,7 @@ pub fn range_of(text: &str) -> Option<(Agent, Agent)> {
 }
 
 /// Whether agents to be drawn are named, and aren't a range.
-pub fn names_no_range(matches: &ArgMatches<'_>) -> bool {
+pub fn names_no_range(matches: &ArgMatches<'static>) -> bool {
     match matches.subcommand() {
         Some(("draw", inner)) => match inner.get_str("agents-shown") {
             Some(text) => range_of(text).is_none(),
@@ -35,7 +35,7 @@ pub fn names_no_range(matches: &ArgMatches<'_>) -> bool {
 }
 
 /// The mistake of agents to be drawn that are no range.
-pub fn refused_range<'a>(alloc: Global) -> Asked<'a> {
+pub fn refused_range(alloc: Global) -> Asked {
     let Ok(mut command) = command(alloc) else {
         return Asked::NoMemory;
     };

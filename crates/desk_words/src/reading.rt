@@ -3,7 +3,7 @@ use crate::checks::check_words;
 use crate::commands::command;
 use crate::ranges::{names_no_range, range_of, refused_range};
 use crate::words::{Asked, AuditWords, DrawWords, DrillWords, HostWords, ServeWords, Words};
-use clap::ArgMatches;
+use clap::{ArgMatches, Error};
 use plan_table::Mode;
 use std::alloc::{AllocError, Global};
 
@@ -13,34 +13,34 @@ const USUAL_LIMIT: u32 = 100_000;
 /// How many threads make a report where the words don't say.
 const USUAL_WORKERS: u32 = 4;
 
-pub(crate) fn mode_of(matches: &ArgMatches<'_>) -> Mode {
+pub(crate) fn mode_of(matches: &ArgMatches<'static>) -> Mode {
     match matches.get_str("mode") {
         Some("disappear") => Mode::Disappear,
         _ => Mode::Stay,
     }
 }
 
-fn agents_of(matches: &ArgMatches<'_>) -> u32 {
+fn agents_of(matches: &ArgMatches<'static>) -> u32 {
     matches.get_one::<u32>("agents").unwrap_or(0)
 }
 
-pub(crate) fn workers_of(matches: &ArgMatches<'_>) -> u32 {
+pub(crate) fn workers_of(matches: &ArgMatches<'static>) -> u32 {
     matches.get_one::<u32>("workers").unwrap_or(USUAL_WORKERS)
 }
 
 // The scripts or planners that are named, in their order.
-fn named_of<'a>(
+fn named_of(
     alloc: Global,
-    matches: &ArgMatches<'a>,
+    matches: &ArgMatches<'static>,
     what: &str,
-) -> Result<Vec<&'a str>, AllocError> {
+) -> Result<Vec<&'static str>, AllocError> {
     match matches.get_strs(what) {
         Some(named) => named.to_vec(alloc),
         None => Ok(Vec::new(alloc)),
     }
 }
 
-fn serve_words<'a>(matches: &ArgMatches<'a>) -> ServeWords<'a> {
+fn serve_words(matches: &ArgMatches<'static>) -> ServeWords {
     ServeWords {
         map: matches.get_str("map"),
         scen: matches.get_str("scen"),
@@ -52,7 +52,7 @@ fn serve_words<'a>(matches: &ArgMatches<'a>) -> ServeWords<'a> {
     }
 }
 
-fn audit_words<'a>(matches: &ArgMatches<'a>) -> AuditWords<'a> {
+fn audit_words(matches: &ArgMatches<'static>) -> AuditWords {
     AuditWords {
         map: matches.get_str("map").unwrap_or(""),
         scen: matches.get_str("scen"),
@@ -63,7 +63,7 @@ fn audit_words<'a>(matches: &ArgMatches<'a>) -> AuditWords<'a> {
     }
 }
 
-fn drill_words<'a>(alloc: Global, matches: &ArgMatches<'a>) -> Result<DrillWords<'a>, AllocError> {
+fn drill_words(alloc: Global, matches: &ArgMatches<'static>) -> Result<DrillWords, AllocError> {
     Ok(DrillWords {
         map: matches.get_str("map").unwrap_or(""),
         scen: matches.get_str("scen"),
@@ -74,7 +74,7 @@ fn drill_words<'a>(alloc: Global, matches: &ArgMatches<'a>) -> Result<DrillWords
     })
 }
 
-fn host_words<'a>(alloc: Global, matches: &ArgMatches<'a>) -> Result<HostWords<'a>, AllocError> {
+fn host_words(alloc: Global, matches: &ArgMatches<'static>) -> Result<HostWords, AllocError> {
     Ok(HostWords {
         desk: serve_words(matches),
         wait: matches.get_one::<u32>("wait"),
@@ -83,7 +83,7 @@ fn host_words<'a>(alloc: Global, matches: &ArgMatches<'a>) -> Result<HostWords<'
     })
 }
 
-fn draw_words<'a>(matches: &ArgMatches<'a>) -> DrawWords<'a> {
+fn draw_words(matches: &ArgMatches<'static>) -> DrawWords {
     DrawWords {
         map: matches.get_str("map").unwrap_or(""),
         scen: matches.get_str("scen"),
@@ -97,7 +97,7 @@ fn draw_words<'a>(matches: &ArgMatches<'a>) -> DrawWords<'a> {
 }
 
 // What is asked for where no word names it.
-fn usual_words<'a>() -> ServeWords<'a> {
+fn usual_words() -> ServeWords {
     ServeWords {
         map: None,
         scen: None,
@@ -110,11 +110,11 @@ fn usual_words<'a>() -> ServeWords<'a> {
 }
 
 // What is asked for by the word of that name.
-fn named_words<'a>(
+fn named_words(
     alloc: Global,
     name: &str,
-    inner: &ArgMatches<'a>,
-) -> Result<Words<'a>, AllocError> {
+    inner: &ArgMatches<'static>,
+) -> Result<Words, AllocError> {
     match name {
         "drill" => Ok(Words::Drill(drill_words(alloc, inner)?)),
         "host" => Ok(Words::Host(host_words(alloc, inner)?)),
@@ -126,7 +126,7 @@ fn named_words<'a>(
 }
 
 // The version is told whatever else is asked for, as help is.
-fn words_of<'a>(alloc: Global, matches: &ArgMatches<'a>) -> Result<Words<'a>, AllocError> {
+fn words_of(alloc: Global, matches: &ArgMatches<'static>) -> Result<Words, AllocError> {
     if matches.get_flag("version") {
         return Ok(Words::Version);
     }
@@ -137,7 +137,7 @@ fn words_of<'a>(alloc: Global, matches: &ArgMatches<'a>) -> Result<Words<'a>, Al
 }
 
 // Whether more is to be told: the flag stands before the word or behind it.
-fn is_verbose(matches: &ArgMatches<'_>) -> bool {
+fn is_verbose(matches: &ArgMatches<'static>) -> bool {
     matches.get_flag("verbose")
         || match matches.subcommand() {
             Some((_, inner)) => inner.get_flag("verbose"),
@@ -146,7 +146,7 @@ fn is_verbose(matches: &ArgMatches<'_>) -> bool {
 }
 
 // What the words that were matched ask for.
-fn asked_of<'a>(alloc: Global, matches: &ArgMatches<'a>) -> Asked<'a> {
+fn asked_of(alloc: Global, matches: &ArgMatches<'static>) -> Asked {
     if names_no_range(matches) {
         return refused_range(alloc);
     }
@@ -159,17 +159,23 @@ fn asked_of<'a>(alloc: Global, matches: &ArgMatches<'a>) -> Asked<'a> {
     }
 }
 
-/// What the program's words, its name first, ask for.
-pub fn read_words<'a>(alloc: Global, words: &'a [String]) -> Asked<'a> {
-    let Ok(command) = command(alloc) else {
-        return Asked::NoMemory;
-    };
-    match command.try_get_matches_from(words) {
-        Ok(matches) => {
+// The words as their parser matches them; none where memory is short.
+fn matched<'a>(alloc: Global, words: &'a [String]) -> Option<Result<ArgMatches<'a>, Error>> {
+    match command(alloc) {
+        Ok(command) => Some(command.try_get_matches_from(words)),
+        Err(_) => None,
+    }
+}
+
+/// What the program's words, its name first, ask for; they stay as long as it runs.
+pub fn read_words(alloc: Global, words: &'static [String]) -> Asked {
+    match matched(alloc, words) {
+        Some(Ok(matches)) => {
             let asked = asked_of(alloc, &matches);
             drop(matches);
             asked
         }
-        Err(error) => Asked::Refused(error),
+        Some(Err(error)) => Asked::Refused(error),
+        None => Asked::NoMemory,
     }
 }

@@ -16,12 +16,12 @@ use text_runs::run_audit;
 /// # Errors
 ///
 /// What the words lack, a file that can't be read, or the run's fault.
-pub fn audit_files<'a, R: Files + AllocGlobal + Print + Eprint + Threads + Wait>(
+pub fn audit_files<R: Files + AllocGlobal + Print + Eprint + Threads + Wait>(
     rt: &R,
-    words: &AuditWords<'a>,
+    words: &AuditWords,
     stages: bool,
     more: &mut More,
-) -> Result<(), Fault<'a>> {
+) -> Result<(), Fault> {
     if words.agents > 0 && words.scen.is_none() {
         return Err(Fault::AgentsWithoutScen);
     }
@@ -42,7 +42,7 @@ pub fn audit_files<'a, R: Files + AllocGlobal + Print + Eprint + Threads + Wait>
 fn audit_texts<R: AllocGlobal + Print + Eprint + Threads + Wait>(
     rt: &R,
     texts: Texts<'_>,
-    words: &AuditWords<'_>,
+    words: &AuditWords,
     stages: bool,
     more: &mut More,
 ) -> Result<(), RunFault> {

@@ -16,12 +16,12 @@ use std::thread::Threads;
 /// # Errors
 ///
 /// What the words lack, a file that can't be read, or why there is no verdict.
-pub fn check_files<'a, R: Files + AllocGlobal + Print + Eprint + Threads + Wait>(
+pub fn check_files<R: Files + AllocGlobal + Print + Eprint + Threads + Wait>(
     rt: &R,
-    words: &CheckWords<'a>,
+    words: &CheckWords,
     stages: bool,
     more: &mut More,
-) -> Result<bool, ProgramFault<'a>> {
+) -> Result<bool, ProgramFault> {
     if words.agents.is_some() && words.scen.is_none() {
         return Err(ProgramFault::Desk(Fault::AgentsWithoutScen));
     }
@@ -43,7 +43,7 @@ pub fn check_files<'a, R: Files + AllocGlobal + Print + Eprint + Threads + Wait>
 fn check_texts<R: AllocGlobal + Print + Threads + Wait>(
     rt: &R,
     texts: Texts<'_>,
-    words: &CheckWords<'_>,
+    words: &CheckWords,
     more: &mut More,
 ) -> Result<bool, CheckFault> {
     let alloc = rt.alloc();

@@ -17,7 +17,7 @@ pub fn fault_of(ended: Result<u32, ServeFault>) -> Option<RunFault> {
 }
 
 /// The session's fault, where it has one.
-pub fn outcome_of<'a>(fault: Option<RunFault>) -> Result<(), Fault<'a>> {
+pub fn outcome_of(fault: Option<RunFault>) -> Result<(), Fault> {
     match fault {
         None => Ok(()),
         Some(fault) => Err(Fault::Run(fault)),
@@ -62,14 +62,14 @@ fn with_reason(
 /// # Errors
 ///
 /// The session's fault, or that of the save: where both have one, that of the session is told here.
-pub fn end_desk<'a, R: Files + AllocGlobal + Eprint>(
+pub fn end_desk<R: Files + AllocGlobal + Eprint>(
     rt: &R,
     desk: Desk,
     fault: Option<RunFault>,
-    file: Option<&'a str>,
+    file: Option<&'static str>,
     more: &mut More,
     verbose: bool,
-) -> Result<(), Fault<'a>> {
+) -> Result<(), Fault> {
     let mut unsaved = More::none();
     let saved = save_named(rt, &desk, file, &mut unsaved);
     drop(desk);

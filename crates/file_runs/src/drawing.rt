@@ -17,7 +17,7 @@ use text_runs::{Courses, run_draw};
 const WORKERS: u32 = 4;
 
 // The text that tells where agents go, by the word that names its file.
-fn courses_of<'t>(words: &DrawWords<'_>, text: Option<&'t [u8]>) -> Courses<'t> {
+fn courses_of<'t>(words: &DrawWords, text: Option<&'t [u8]>) -> Courses<'t> {
     match text {
         Some(paths) if words.paths.is_some() => Courses::Solver(paths),
         journal => Courses::Journal(journal),
@@ -30,12 +30,12 @@ fn courses_of<'t>(words: &DrawWords<'_>, text: Option<&'t [u8]>) -> Courses<'t> 
 /// # Errors
 ///
 /// What the words lack, a file that can't be read, or why there is no picture.
-pub fn draw_files<'a, R: Files + AllocGlobal + Print + Eprint + Threads + Wait>(
+pub fn draw_files<R: Files + AllocGlobal + Print + Eprint + Threads + Wait>(
     rt: &R,
-    words: &DrawWords<'a>,
+    words: &DrawWords,
     stages: bool,
     more: &mut More,
-) -> Result<(), ProgramFault<'a>> {
+) -> Result<(), ProgramFault> {
     if words.agents.is_some() && words.scen.is_none() {
         return Err(ProgramFault::Desk(Fault::AgentsWithoutScen));
     }
@@ -58,7 +58,7 @@ pub fn draw_files<'a, R: Files + AllocGlobal + Print + Eprint + Threads + Wait>(
 fn draw_texts<R: AllocGlobal + Print + Threads + Wait>(
     rt: &R,
     texts: Texts<'_>,
-    words: &DrawWords<'_>,
+    words: &DrawWords,
     more: &mut More,
 ) -> Result<(), CheckFault> {
     let alloc = rt.alloc();

@@ -3,18 +3,18 @@ use std::fmt::{Display, Error, Formatter, Write};
 
 /// Why the program did not do what its words ask for.
 #[derive(Drop)]
-pub enum ProgramFault<'a> {
+pub enum ProgramFault {
     /// The words lack something, a file is at fault, or a run has a fault.
-    Desk(Fault<'a>),
+    Desk(Fault),
     /// There is no verdict on a solver's paths, or no picture.
     Check(CheckFault),
     /// Planners weren't hosted.
     Host(HostFault),
     /// Two planners have one name, and so one pair of files.
-    NamedTwice { name: &'a str },
+    NamedTwice { name: &'static str },
 }
 
-impl<'a> Display for ProgramFault<'a> {
+impl Display for ProgramFault {
     fn fmt<W: Write>(&self, f: &mut Formatter<W>) -> Result<(), Error> {
         match self {
             ProgramFault::Desk(fault) => fault.fmt(f),

@@ -9,7 +9,7 @@ use std::rt::Files;
 use text_runs::open_desk;
 
 // The planner that is named twice, where one is.
-fn named_twice<'a>(names: &[&'a str]) -> Option<&'a str> {
+fn named_twice(names: &[&'static str]) -> Option<&'static str> {
     for (place, name) in names.iter().enumerate() {
         if names.iter().take(place).any(|other| other == name) {
             return Some(name);
@@ -23,11 +23,11 @@ fn named_twice<'a>(names: &[&'a str]) -> Option<&'a str> {
 /// # Errors
 ///
 /// What the words lack, a file that can't be read, two planners of one name, or the run's fault.
-pub fn open_named<'a, R: Files + AllocGlobal>(
+pub fn open_named<R: Files + AllocGlobal>(
     rt: &R,
-    words: &HostWords<'a>,
+    words: &HostWords,
     more: &mut More,
-) -> Result<Desk, ProgramFault<'a>> {
+) -> Result<Desk, ProgramFault> {
     let named = match read_named(rt, &words.desk, more) {
         Ok(named) => named,
         Err(fault) => return Err(ProgramFault::Desk(fault)),

@@ -17,12 +17,12 @@ use text_runs::save_desk;
 ///
 /// It can't be saved, and why: the file is then as it was, and the new one is gone; or want of
 /// memory.
-pub fn save_named<'a, R: Files + AllocGlobal>(
+pub fn save_named<R: Files + AllocGlobal>(
     rt: &R,
     desk: &Desk,
-    file: Option<&'a str>,
+    file: Option<&'static str>,
     more: &mut More,
-) -> Result<(), Fault<'a>> {
+) -> Result<(), Fault> {
     let Some(file) = file else {
         return Ok(());
     };

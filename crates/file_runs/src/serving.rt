@@ -21,12 +21,12 @@ use text_runs::serve_desk;
 ///
 /// What the words lack, a file that can't be read or written, the run's fault, or that of the save;
 /// where both have one, that of the run is told here.
-pub fn serve_streams<'a, R: Files + AllocGlobal + Print + Eprint + Input>(
+pub fn serve_streams<R: Files + AllocGlobal + Print + Eprint + Input>(
     rt: &R,
-    words: &ServeWords<'a>,
+    words: &ServeWords,
     more: &mut More,
     verbose: bool,
-) -> Result<(), Fault<'a>> {
+) -> Result<(), Fault> {
     let named = match read_named(rt, words, more) {
         Ok(named) => named,
         Err(fault) => return Err(fault),
@@ -40,15 +40,15 @@ pub fn serve_streams<'a, R: Files + AllocGlobal + Print + Eprint + Input>(
 
 // Serves a session from a reader to a writer, both buffered. What was answered goes out before more
 // is read, and at the end.
-fn serve_between<'a, R: Files + AllocGlobal + Eprint, I: Read + Drop, O: Write + Drop>(
+fn serve_between<R: Files + AllocGlobal + Eprint, I: Read + Drop, O: Write + Drop>(
     rt: &R,
     texts: Texts<'_>,
-    words: &ServeWords<'a>,
+    words: &ServeWords,
     input: I,
     output: O,
     more: &mut More,
     verbose: bool,
-) -> Result<(), Fault<'a>> {
+) -> Result<(), Fault> {
     match BufWriter::new(rt.alloc(), output) {
         Ok(buffered) => serve_buffered(rt, texts, words, input, buffered, more, verbose),
         Err(_) => {
@@ -60,15 +60,15 @@ fn serve_between<'a, R: Files + AllocGlobal + Eprint, I: Read + Drop, O: Write +
 }
 
 // Serves a session from a reader to a writer in a buffer, which goes out at the end.
-fn serve_buffered<'a, R: Files + AllocGlobal + Eprint, I: Read + Drop, O: Write + Drop>(
+fn serve_buffered<R: Files + AllocGlobal + Eprint, I: Read + Drop, O: Write + Drop>(
     rt: &R,
     texts: Texts<'_>,
-    words: &ServeWords<'a>,
+    words: &ServeWords,
     input: I,
     buffered: BufWriter<O>,
     more: &mut More,
     verbose: bool,
-) -> Result<(), Fault<'a>> {
+) -> Result<(), Fault> {
     let outlet = RefCell::new(Outlet::new(buffered));
     let ended = serve_lines(rt.alloc(), texts, words, input, &outlet);
     let last = send_last(&outlet);
@@ -83,7 +83,7 @@ fn serve_buffered<'a, R: Files + AllocGlobal + Eprint, I: Read + Drop, O: Write 
 }
 
 // The journal's limit, which the words' parser has held to its range.
-pub(crate) fn limit_of(words: &ServeWords<'_>) -> Limit {
+pub(crate) fn limit_of(words: &ServeWords) -> Limit {
     match Limit::new(words.limit.clamp(1, MOST_ENTRIES)) {
         Some(limit) => limit,
         None => unreachable!(),
@@ -94,7 +94,7 @@ pub(crate) fn limit_of(words: &ServeWords<'_>) -> Limit {
 fn serve_lines<I: Read + Drop, O: Write + Drop>(
     alloc: Global,
     texts: Texts<'_>,
-    words: &ServeWords<'_>,
+    words: &ServeWords,
     input: I,
     outlet: &RefCell<Outlet<O>>,
 ) -> Result<(Desk, Result<u32, ServeFault>), RunFault> {

@@ -16,13 +16,13 @@ use std::thread::Threads;
 /// # Errors
 ///
 /// What the words lack, a file that can't be read, or the run's fault.
-pub fn drill_files<'a, R: Files + AllocGlobal + Print + Eprint + Threads + Wait + Sync>(
+pub fn drill_files<R: Files + AllocGlobal + Print + Eprint + Threads + Wait + Sync>(
     rt: &R,
-    words: &DrillWords<'a>,
+    words: &DrillWords,
     stages: bool,
     more: &mut More,
     verbose: bool,
-) -> Result<bool, Fault<'a>> {
+) -> Result<bool, Fault> {
     if words.agents > 0 && words.scen.is_none() {
         return Err(Fault::AgentsWithoutScen);
     }
@@ -53,7 +53,7 @@ fn drill_counted<R: AllocGlobal + Print + Threads + Wait + Sync>(
     rt: &R,
     texts: Texts<'_>,
     scripts: Vec<Vec<u8>>,
-    words: &DrillWords<'_>,
+    words: &DrillWords,
     more: &mut More,
     verbose: bool,
 ) -> Result<bool, RunFault> {

@@ -18,13 +18,13 @@ use std::thread::Threads;
 /// # Errors
 ///
 /// What the words lack, a file that can't be read or written, the run's fault, or that of the save.
-pub fn host_files<'a, R: Files + AllocGlobal + Print + Threads + Wait + Sync>(
+pub fn host_files<R: Files + AllocGlobal + Print + Threads + Wait + Sync>(
     rt: &R,
     host: &HostRuntime,
-    words: &HostWords<'a>,
+    words: &HostWords,
     stages: bool,
     more: &mut More,
-) -> Result<ExitCode, ProgramFault<'a>> {
+) -> Result<ExitCode, ProgramFault> {
     let desk = match open_named(rt, words, more) {
         Ok(desk) => desk,
         Err(fault) => return Err(fault),
@@ -44,12 +44,12 @@ pub fn host_files<'a, R: Files + AllocGlobal + Print + Threads + Wait + Sync>(
 
 // Saves the desk's journal where the words ask for it, and prints whether the audit's report is that
 // of the desk.
-fn end_hosted<'a, R: Files + AllocGlobal + Print>(
+fn end_hosted<R: Files + AllocGlobal + Print>(
     rt: &R,
     end: &HostEnd,
-    words: &HostWords<'a>,
+    words: &HostWords,
     more: &mut More,
-) -> Result<ExitCode, ProgramFault<'a>> {
+) -> Result<ExitCode, ProgramFault> {
     match save_named(rt, &end.desk, words.desk.save, more) {
         Ok(()) => {}
         Err(fault) => return Err(ProgramFault::Desk(fault)),
@@ -64,7 +64,7 @@ fn end_hosted<'a, R: Files + AllocGlobal + Print>(
     }
 }
 
-fn out_of_memory<'a>() -> ProgramFault<'a> {
+fn out_of_memory() -> ProgramFault {
     ProgramFault::Desk(Fault::Run(RunFault::OutOfMemory))
 }
 
@@ -85,7 +85,7 @@ fn host_all<R: AllocGlobal + Threads + Wait + Sync>(
     rt: &R,
     desk: Desk,
     pipes: &Pipes<'_>,
-    words: &HostWords<'_>,
+    words: &HostWords,
 ) -> Result<HostEnd, HostFault> {
     let Ok(planners) = u32::try_from(words.names.len()) else {
         drop(desk);

@@ -25,14 +25,14 @@ pub const DIFFERS: u8 = 1;
 const UNSOLVED: u8 = 1;
 
 // Does what the words ask for. Where it is wanted, stages are told.
-fn obey<'a, R: Files + AllocGlobal + Print + Eprint + Input + Threads + Wait + Sync>(
+fn obey<R: Files + AllocGlobal + Print + Eprint + Input + Threads + Wait + Sync>(
     rt: &R,
     runtime: &HostRuntime,
-    words: &Words<'a>,
+    words: &Words,
     more: &mut More,
     verbose: bool,
     stages: bool,
-) -> Result<ExitCode, ProgramFault<'a>> {
+) -> Result<ExitCode, ProgramFault> {
     match words {
         Words::Version => match println!(rt; "{VERSION}") {
             Ok(()) => Ok(ExitCode::SUCCESS),
@@ -93,7 +93,7 @@ fn main(rt: HostRuntime) -> ExitCode {
             Ok(given) => given,
         },
     };
-    let (words, verbose) = match read_words(alloc, given.as_slice()) {
+    let (words, verbose) = match read_words(alloc, given.leak()) {
         Asked::For { words, verbose } => (words, verbose),
         Asked::Refused(error) => return tell_words(&rt, error),
         Asked::NoMemory => return tell(&rt, RunFault::OutOfMemory),
