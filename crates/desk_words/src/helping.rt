@@ -43,8 +43,8 @@ An edit is committed at once:
 Several edits in one commit, all or none: begin, edits and watch lines, then commit or cancel.
 Questions: version; report; distance A X,Y; solves KIND.. of vertex, edge, follow, swap, cycle.
 
-With --save F the journal is in F when the session is over, however it ended, and with --journal F
-the next session goes on from there; both may name one file. F is whole at any moment.
+With --save F the journal is in F when the session is over: Ctrl-D ends it, Ctrl-C kills it and saves
+nothing. With --journal F the next one goes on from there; both may name one file.
 
 Statuses: 0 the input has ended; 2 a fault, told on standard error.
 
