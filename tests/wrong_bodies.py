@@ -61,6 +61,9 @@ BODIES = [
     ("report_that_is_not_taken_untold", "finishing.rt", "buffered.flush()",
      "{ let _sent = buffered.flush(); let done: std::io::Result<()> = Ok(()); done }", "no_audit_goes_out_whole"),
     ("more_of_a_text_dropped", "finishing.rt", "fault.more(alloc, texts)", "None", "reason: audit --map map_letter"),
+    ("reason_of_a_full_buffer_dropped", "finishing.rt", "Some(why) => ‹more.reason(alloc, &why)›", "()", "reasons_of_a_full_device"),
+    ("reason_of_a_last_line_dropped", "hosting.rt", "more.reason(rt.alloc(), &why)", "()", "reasons_of_a_full_device"),
+    ("reason_of_a_version_dropped", "main.rt", "more.reason(rt.alloc(), &why)", "()", "reasons_of_a_full_device"),
     ("line_of_another_text", "details.rt", "RunFault::Map(why) => line_of(alloc, ‹texts.map›", "texts.scen", "reason: serve --map map_octile"),
     # How a journal is saved
     ("saved_file_not_named", "saving.rt", "fs::rename(rt, beside, file)?", "()", "saved"),

@@ -2,7 +2,7 @@
 import os
 import pty
 
-from .running import is_fault, run, want
+from .running import TOP, is_fault, put, remove, run, want
 
 # Words, and what the second line on standard error says where the first word is --verbose or -v.
 REASONS = [
@@ -85,6 +85,21 @@ def counts_of_no_script():
     is_fault(["drill", "--map", "none", "-v", "one"], "can't read none\n  No such file or directory (os error 2)")
 
 
+def reasons_of_a_full_device():
+    """Where standard output takes no more, the reason is told, however much it was to take; of `host` behind the ends of sessions."""
+    told = "mapf_desk: write failed\n  No space left on device (os error 28)\n"
+    fleet = "--map m --scen sixty --agents 60"
+    put("sixty", b"version 1\n" + b"0 m 3 1 0 0 2 0 2\n" * 60)
+    put("east.in", b"")
+    for words in ("--version", "audit --map m", f"audit {fleet}", f"drill {fleet} one", "check --map m --paths p", f"draw {fleet}",
+                  "host --map m east"):
+        with open("/dev/full", "wb") as full:
+            status, _, complained = run(["-v", *words.split()], stdout=full)
+        want("the status", status, 2)
+        want(f"what is told of {words}", told in complained and complained.startswith(told) == (words[:4] != "host"), True)
+    remove("sixty", "east.in", "east.out")
+
+
 def stages():
     """Audits, drills and checks tell on a terminal what they are at, and nothing elsewhere."""
     for words, said in ((["audit", "--map", "m"], 2), (["drill", "--map", "m", "one", "two"], 2),
@@ -103,5 +118,5 @@ def stages():
 def tests():
     for words, more in REASONS:
         yield f"reason: {words}", lambda words=words, more=more: is_reason(words.split(), f"  {more}\n")
-    for test in (faults_without_more, scripts_counted, scripts_counted_behind_a_fault, counts_of_no_script, stages):
+    for test in (faults_without_more, scripts_counted, scripts_counted_behind_a_fault, counts_of_no_script, reasons_of_a_full_device, stages):
         yield test.__name__, test

@@ -1,5 +1,6 @@
 //! The end of a run whose report is in a buffer.
 use crate::details::{Detailed, Texts};
+use crate::noting::Noting;
 use crate::telling::More;
 use desk_checks::RunFault;
 use desk_report::Spout;
@@ -15,15 +16,18 @@ pub fn finish<T: Drop, F: Detailed + From<RunFault> + Drop, O: Write + Drop>(
     alloc: Global,
     ended: Result<T, F>,
     texts: Texts<'_>,
-    writer: Spout<BufWriter<O>>,
+    writer: Spout<Noting<BufWriter<O>>>,
     more: &mut More,
 ) -> Result<T, F> {
-    let mut buffered = writer.into_inner();
-    if let Err(fault) = &ended {
-        more.put(fault.more(alloc, texts));
-    }
+    let (mut buffered, why) = writer.into_inner().into_parts();
     match ended {
-        Err(fault) => Err(fault),
+        Err(fault) => {
+            match why {
+                Some(why) => more.reason(alloc, &why),
+                None => more.put(fault.more(alloc, texts)),
+            }
+            Err(fault)
+        }
         Ok(value) => match buffered.flush() {
             Ok(()) => Ok(value),
             Err(why) => {

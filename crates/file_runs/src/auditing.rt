@@ -1,6 +1,6 @@
 //! The word `audit`.
 use desk_checks::{Fault, RunFault};
-use desk_files::{More, Texts, finish, read_files, tell_stage};
+use desk_files::{More, Noting, Texts, finish, read_files, tell_stage};
 use desk_report::Spout;
 use desk_words::AuditWords;
 use std::io;
@@ -50,7 +50,7 @@ fn audit_texts<R: AllocGlobal + Print + Eprint + Threads + Wait>(
     let Ok(buffered) = BufWriter::new(alloc, io::writer(rt)) else {
         return Err(RunFault::OutOfMemory);
     };
-    let mut writer = Spout::new(buffered);
+    let mut writer = Spout::new(Noting::new(buffered));
     let workers = words.workers.clamp(1, 64);
     tell_stage(rt, stages, "opening the desk, and auditing it");
     let ended = run_audit(

@@ -1,7 +1,7 @@
 //! The word `check`.
 use crate::faults::ProgramFault;
 use desk_checks::{CheckFault, Fault, run_check};
-use desk_files::{More, Texts, finish, problem_of, read_files, tell_stage};
+use desk_files::{More, Noting, Texts, finish, problem_of, read_files, tell_stage};
 use desk_report::Spout;
 use desk_words::CheckWords;
 use std::io;
@@ -50,7 +50,7 @@ fn check_texts<R: AllocGlobal + Print + Threads + Wait>(
     let Ok(buffered) = BufWriter::new(alloc, io::writer(rt)) else {
         return Err(CheckFault::OutOfMemory);
     };
-    let mut writer = Spout::new(buffered);
+    let mut writer = Spout::new(Noting::new(buffered));
     let ended = run_check(
         rt,
         alloc,

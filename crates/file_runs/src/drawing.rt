@@ -1,7 +1,7 @@
 //! The word `draw`.
 use crate::faults::ProgramFault;
 use desk_checks::{CheckFault, Fault};
-use desk_files::{More, Texts, finish, problem_of, read_files, tell_stage};
+use desk_files::{More, Noting, Texts, finish, problem_of, read_files, tell_stage};
 use desk_pictures::Frame;
 use desk_report::Spout;
 use desk_words::DrawWords;
@@ -69,7 +69,7 @@ fn draw_texts<R: AllocGlobal + Print + Threads + Wait>(
     let Ok(buffered) = BufWriter::new(alloc, io::writer(rt)) else {
         return Err(CheckFault::OutOfMemory);
     };
-    let mut writer = Spout::new(buffered);
+    let mut writer = Spout::new(Noting::new(buffered));
     let problem = problem_of(texts, words.agents, words.mode);
     let courses = courses_of(words, texts.journal);
     let ended = run_draw(rt, alloc, problem, courses, &frame, WORKERS, &mut writer);

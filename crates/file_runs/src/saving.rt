@@ -1,12 +1,12 @@
 //! A file that is whole at any moment.
 use desk_checks::{Fault, RunFault};
 use desk_core::Desk;
-use desk_files::{More, folder_of, told};
+use desk_files::{More, Noting, folder_of, told};
 use desk_report::Spout;
 use std::alloc::Global;
 use std::fs;
 use std::fs::OpenFile;
-use std::io::{BufWriter, Error, ErrorKind, Result as Done, Write};
+use std::io::{BufWriter, ErrorKind, Result as Done, Write};
 use std::rt::Files;
 use text_runs::save_desk;
 
@@ -61,9 +61,9 @@ fn write_whole<F: Write + OpenFile + Drop>(alloc: Global, desk: &Desk, opened: F
     let Ok(writer) = BufWriter::new(alloc, opened) else {
         return Err(ErrorKind::OutOfMemory.into());
     };
-    let mut sink = Spout::new(Noting { writer, why: None });
+    let mut sink = Spout::new(Noting::new(writer));
     let saved = save_desk(desk, &mut sink);
-    let Noting { mut writer, why } = sink.into_inner();
+    let (mut writer, why) = sink.into_inner().into_parts();
     if saved.is_err() {
         return Err(match why {
             Some(why) => why,
@@ -72,27 +72,4 @@ fn write_whole<F: Write + OpenFile + Drop>(alloc: Global, desk: &Desk, opened: F
     }
     writer.flush()?;
     writer.get_ref().sync_all()
-}
-
-// A writer that notes the reason for its last failure.
-#[derive(Drop)]
-struct Noting<W: Write + Drop> {
-    writer: W,
-    why: Option<Error>,
-}
-
-impl<W: Write + Drop> Write for Noting<W> {
-    fn write(&mut self, bytes: &[u8]) -> Done<usize> {
-        match self.writer.write(bytes) {
-            Ok(count) => Ok(count),
-            Err(why) => {
-                self.why = Some(why);
-                Err(why)
-            }
-        }
-    }
-
-    fn flush(&mut self) -> Done<()> {
-        self.writer.flush()
-    }
 }

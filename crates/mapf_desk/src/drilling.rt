@@ -1,5 +1,7 @@
 //! The word `drill`.
-use desk_files::{More, Tallies, Texts, all_bytes, finish, problem_of, read_files, tell_stage};
+use desk_files::{
+    More, Noting, Tallies, Texts, all_bytes, finish, problem_of, read_files, tell_stage,
+};
 use desk_report::Spout;
 use desk_runs::{Fault, RunFault, hear_drill};
 use desk_words::DrillWords;
@@ -67,7 +69,7 @@ fn drill_counted<R: AllocGlobal + Print + Threads + Wait + Sync>(
         drop(scripts);
         return Err(RunFault::OutOfMemory);
     };
-    let mut writer = Spout::new(buffered);
+    let mut writer = Spout::new(Noting::new(buffered));
     let problem = problem_of(texts, Some(words.agents), words.mode);
     let workers = words.workers.clamp(1, 64);
     let drilled = hear_drill(rt, alloc, problem, workers, scripts, &tallies, &mut writer);

@@ -60,7 +60,10 @@ fn end_hosted<R: Files + AllocGlobal + Print>(
     let line = if same { "audit same" } else { "audit differs" };
     match println!(rt; "{line}") {
         Ok(()) => Ok(status_of(end, same)),
-        Err(_) => Err(ProgramFault::Desk(Fault::Run(RunFault::WriteFailed))),
+        Err(why) => {
+            more.reason(rt.alloc(), &why);
+            Err(ProgramFault::Desk(Fault::Run(RunFault::WriteFailed)))
+        }
     }
 }
 

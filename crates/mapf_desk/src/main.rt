@@ -34,10 +34,7 @@ fn obey<R: Files + AllocGlobal + Print + Eprint + Input + Threads + Wait + Sync>
     stages: bool,
 ) -> Result<ExitCode, ProgramFault> {
     match words {
-        Words::Version => match println!(rt; "{VERSION}") {
-            Ok(()) => Ok(ExitCode::SUCCESS),
-            Err(_) => Err(ProgramFault::Desk(Fault::Run(RunFault::WriteFailed))),
-        },
+        Words::Version => tell_version(rt, more),
         Words::Serve(serve) => match serve_streams(rt, serve, more, verbose) {
             Ok(()) => Ok(ExitCode::SUCCESS),
             Err(fault) => Err(ProgramFault::Desk(fault)),
@@ -61,6 +58,17 @@ fn obey<R: Files + AllocGlobal + Print + Eprint + Input + Threads + Wait + Sync>
             Ok(()) => Ok(ExitCode::SUCCESS),
             Err(fault) => Err(fault),
         },
+    }
+}
+
+// Prints the program's name and what it is proved with.
+fn tell_version<R: AllocGlobal + Print>(rt: &R, more: &mut More) -> Result<ExitCode, ProgramFault> {
+    match println!(rt; "{VERSION}") {
+        Ok(()) => Ok(ExitCode::SUCCESS),
+        Err(why) => {
+            more.reason(rt.alloc(), &why);
+            Err(ProgramFault::Desk(Fault::Run(RunFault::WriteFailed)))
+        }
     }
 }
 
