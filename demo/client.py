@@ -60,6 +60,8 @@ def path_line(agent, cells):
 
 
 def main():
+    if len(sys.argv) != 3:
+        sys.exit("client.py DESK MAP")
     desk = Desk(sys.argv[1], "serve", "--map", sys.argv[2])
     east = [(x, 0) for x in range(7)]
     for line in ("agent 0 0,0 6,0", "agent 1 6,0 0,0", path_line(0, east), path_line(1, east[::-1])):

@@ -8,13 +8,26 @@ import os
 import subprocess
 import sys
 import tempfile
+import time
 
 HERE = os.path.dirname(os.path.abspath(__file__))
 DEMO = os.path.dirname(HERE)
 MAP, SCEN = f"{DEMO}/warehouse.map", f"{DEMO}/warehouse.scen"
 
 
+def failed_of(planners, host):
+    """The planners that failed, when all have ended; where the host ends before them, they are ended too."""
+    while any(it.poll() is None for it in planners):
+        if host.poll() is not None:
+            for it in planners:
+                it.kill()
+        time.sleep(0.05)
+    return [it for it in planners if it.returncode]
+
+
 def main():
+    if len(sys.argv) not in (2, 4):
+        sys.exit("fleet.py DESK [AGENTS PLANNERS]")
     desk, agents, planners = sys.argv[1], *[int(it) for it in sys.argv[2:] or (40, 4)]
     with tempfile.TemporaryDirectory() as folder:
         names = [f"{folder}/{number}" for number in range(1, planners + 1)]
@@ -28,7 +41,7 @@ def main():
             subprocess.Popen([*run, name, MAP, SCEN, str(agents), str(first), str(end)])
             for name, first, end in zip(names, shares, shares[1:])
         ]
-        failed = [it for it in plans if it.wait() != 0]
+        failed = failed_of(plans, host)
         said, _ = host.communicate("solves vertex edge follow swap cycle\nreport\n")
     lines = said.split("\n")
     for line in lines:
