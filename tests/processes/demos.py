@@ -53,6 +53,15 @@ def demo_fleet():
     want("how many planners tell", complained.count(" commits taken, "), 4)
 
 
+def demos_called_wrongly():
+    """A demo that is told nothing says what it wants; planners whose host ends at once end too."""
+    for script, usage in (("client.py", "client.py DESK MAP\n"), ("planners/fleet.py", "fleet.py DESK [AGENTS PLANNERS]\n")):
+        ran = subprocess.run([sys.executable, f"{DEMO}/{script}"], capture_output=True, timeout=PATIENCE, text=True)
+        want("how it ends", (ran.returncode, ran.stdout, ran.stderr), (1, "", usage))
+    ran = subprocess.run([sys.executable, f"{DEMO}/planners/fleet.py", "/bin/false"], capture_output=True, timeout=PATIENCE, text=True)
+    want("how it ends", (ran.returncode, ran.stdout), (1, ""))
+
+
 def demo_audit():
     """The report from scratch is the one of a session, byte for byte."""
     words = ["--map", f"{DEMO}/warehouse.map", "--scen", f"{DEMO}/warehouse.scen", "--agents", "100"]
@@ -81,5 +90,5 @@ def demo_maps():
 
 
 def tests():
-    for test in (demo_maps, demo_session, demo_drill, demo_client, demo_fleet, demo_audit):
+    for test in (demo_maps, demo_session, demo_drill, demo_client, demo_fleet, demos_called_wrongly, demo_audit):
         yield test.__name__, test
