@@ -2,7 +2,7 @@
 import os
 import pty
 
-from .running import TOP, is_fault, put, remove, run, want
+from .running import is_fault, put, remove, run, want
 
 # Words, and what the second line on standard error says where the first word is --verbose or -v.
 REASONS = [
@@ -86,7 +86,7 @@ def counts_of_no_script():
 
 
 def reasons_of_a_full_device():
-    """Where standard output takes no more, the reason is told, however much it was to take; of `host` behind the ends of sessions."""
+    """Where standard output takes no more, the system's reason is told, however much it was to take."""
     told = "mapf_desk: write failed\n  No space left on device (os error 28)\n"
     fleet = "--map m --scen sixty --agents 60"
     put("sixty", b"version 1\n" + b"0 m 3 1 0 0 2 0 2\n" * 60)
@@ -96,7 +96,7 @@ def reasons_of_a_full_device():
         with open("/dev/full", "wb") as full:
             status, _, complained = run(["-v", *words.split()], stdout=full)
         want("the status", status, 2)
-        want(f"what is told of {words}", told in complained and complained.startswith(told) == (words[:4] != "host"), True)
+        want(f"what is told of {words}", told in complained, True)
     remove("sixty", "east.in", "east.out")
 
 
