@@ -1,3 +1,4 @@
 mod SameReports
 mod OfPaths
 mod Refusing
+pub mod Unserved

@@ -12,7 +12,7 @@ use Rattle.desk_checks.specs.Faults.{is_of_sink}
 use Rattle.desk_checks.specs.declared.faults.RunFault.{RunFault}
 use Rattle.desk_checks.specs.declared.faults.RunFault.TheVariants.{OutOfMemory}
 use Rattle.desk_runs.proofs.Numbering.{IsGiven}
-use Rattle.text_runs.proofs.Unserved.{scene_unserved, session_told}
+use Rattle.desk_checks.proofs.Unserved.{scene_unserved, session_told}
 
 -- what holds of a fault, where there is one
 pub on_err : {T : Type 0} (r : Result T RunFault) (P Q : RunFault → Type 0) → ((fault : RunFault) → P fault → Q fault) → IfErr r P → IfErr r Q

@@ -1,6 +1,5 @@
-//! What the program's words do, over texts: a drill, and planners hosted over one desk. A session, an
-//! audit and a picture are those of `text_runs`, a verdict on a solver's paths that of `desk_checks`,
-//! offered here again.
+//! What the program does over texts with a desk that is shared: a drill, and planners hosted over one
+//! desk.
 #![tactic(auto)]
 
 mod drilling;
@@ -16,7 +15,3 @@ pub use desk_checks::{
 };
 pub use drilling::{MOST_SCRIPTS, hear_drill, run_drill};
 pub use hosts::{HostEnd, MOST_HOSTED, host_planners};
-pub use text_runs::{
-    Courses, open_desk, run_audit, run_draw, run_serve, save_desk, saved_desks_come_back,
-    serve_desk,
-};

@@ -1,5 +1,5 @@
 mod Running
-pub mod Unserved
+mod Unserved
 mod Coming
 mod Returning
 mod Stopping

@@ -1,6 +1,6 @@
 use Rattle.std.proofs.Common.{Ok, Err}
 use Rattle.text_runs.proofs.Running.{ran}
-use Rattle.text_runs.proofs.Unserved.{session_told}
+use Rattle.desk_checks.proofs.Unserved.{session_told}
 use Rattle.text_runs.proofs.serving.run_serve.Goals as goal
 
 pub returns-in-Err-ended-clause-runs : goal.returns-in-Err-ended-clause-runs
