@@ -16,7 +16,7 @@ const NOWHERE: u32 = u32::MAX;
 // A binary heap of cells, the least key on top, that knows the place of each cell. `cells` and
 // `keys` count up to `len`; they have room for each cell, and grow as the heap does.
 #[derive(Drop)]
-pub struct Heap {
+pub(crate) struct Heap {
     pub size: Size,
     pub cells: Vec<Cell>,
     pub keys: Vec<u32>,
@@ -26,7 +26,7 @@ pub struct Heap {
 
 impl Heap {
     // An empty heap with room for each cell.
-    pub fn new(alloc: Global, size: Size) -> Result<Heap, OutOfMemory>
+    pub(crate) fn new(alloc: Global, size: Size) -> Result<Heap, OutOfMemory>
         ensures heap { IfOk result IsHeap }
         ensures size { IfOk result (λ h. h.size ≡ size) }
         ensures empty { IfOk result (λ h. keys_in h ≡ replicate (area size) None) }
@@ -42,7 +42,7 @@ impl Heap {
     }
 
     // Puts the cell in, or gives it another key.
-    pub fn put(&mut self, cell: Cell, key: u32)
+    pub(crate) fn put(&mut self, cell: Cell, key: u32)
         requires heap { IsHeap self.old }
         requires held { Holds self.old.size cell }
         ensures heap { IsHeap self.new }
@@ -65,7 +65,7 @@ impl Heap {
     }
 
     // Whether the cell is in.
-    pub fn has(&self, cell: Cell) -> bool
+    pub(crate) fn has(&self, cell: Cell) -> bool
         requires heap { IsHeap self.now }
         requires held { Holds self.now.size cell }
         ensures { result ≡ is_some (key_at (queue_of self.now) cell) }
@@ -110,7 +110,7 @@ impl Heap {
     }
 
     // Takes the cell out, and tells whether it was in.
-    pub fn remove(&mut self, cell: Cell) -> bool
+    pub(crate) fn remove(&mut self, cell: Cell) -> bool
         requires heap { IsHeap self.old }
         requires held { Holds self.old.size cell }
         ensures heap { IsHeap self.new }
@@ -128,7 +128,7 @@ impl Heap {
     }
 
     // Takes out a cell with a least key.
-    pub fn take_top(&mut self) -> Option<(Cell, u32)>
+    pub(crate) fn take_top(&mut self) -> Option<(Cell, u32)>
         requires { IsHeap self.old }
         ensures heap { IsHeap self.new }
         ensures held { IfSome result (λ t. Holds self.old.size t.0) }

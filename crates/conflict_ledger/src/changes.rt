@@ -17,14 +17,14 @@ use where_index::WhereIndex;
 // What an agent has to do with the entries of a fleet: the entries that name it, the rings of the
 // others that its moves break, and those that it joins.
 #[derive(Drop)]
-pub struct Share {
+pub(crate) struct Share {
     entries: Vec<Conflict>,
     broken: Vec<Conflict>,
     joined: Vec<Conflict>,
 }
 
 // The share of the agent with the track at the span's times, beside the others of the index.
-pub fn share_of<'x>(
+pub(crate) fn share_of<'x>(
     alloc: Global,
     agent: Agent,
     track: Track<'x>,
@@ -54,7 +54,7 @@ pub fn share_of<'x>(
 }
 
 // Puts in what comes with the agent whose share it is.
-pub fn enter(kept: &mut BTreeSet<Conflict>, share: Share) -> Result<(), OutOfMemory>
+pub(crate) fn enter(kept: &mut BTreeSet<Conflict>, share: Share) -> Result<(), OutOfMemory>
     ensures { OnOk result (Enters share kept.old.keys kept.new.keys) }
 {
     lose_all(kept, &share.broken);
@@ -63,7 +63,7 @@ pub fn enter(kept: &mut BTreeSet<Conflict>, share: Share) -> Result<(), OutOfMem
 }
 
 // Takes out what goes with the agent whose share it is.
-pub fn leave(kept: &mut BTreeSet<Conflict>, share: Share) -> Result<(), OutOfMemory>
+pub(crate) fn leave(kept: &mut BTreeSet<Conflict>, share: Share) -> Result<(), OutOfMemory>
     ensures { OnOk result (Leaves share kept.old.keys kept.new.keys) }
 {
     lose_all(kept, &share.joined);

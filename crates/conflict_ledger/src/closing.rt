@@ -47,7 +47,7 @@ impl Sight<'_> {
 
     // Whether the step can have a ring. Each goes all four ways: it comes back on each way that it
     // goes, and not by the way that it went, since it has three agents at least.
-    pub fn may_have_ring(&self, time: u32) -> bool
+    pub(crate) fn may_have_ring(&self, time: u32) -> bool
         requires { time < u32.MAX }
         ensures { (fleet : Fleet) (ring : List ℕ) → Sees self.now fleet → IsRing fleet time ring → IsTrue result }
     {

@@ -7,7 +7,7 @@ use mapf_rules::{Conflict, Kind};
 use std::alloc::Global;
 
 // An entry of the kind that is listed before all others of it. It need not stand in any fleet.
-pub fn least_of(alloc: Global, kind: Kind) -> Conflict
+pub(crate) fn least_of(alloc: Global, kind: Kind) -> Conflict
     ensures { IsLeastOf kind result }
 {
     let time = Step::new(0);

@@ -14,7 +14,7 @@ use mapf_rules::Conflict;
 // Where the agent meets the other one of an entry: beside it as the step begins, ahead of it then, or
 // behind it as the step ends. What is known of the two by the place is not looked up again below.
 #[derive(Clone, Copy)]
-pub enum Place {
+pub(crate) enum Place {
     Beside,
     Ahead,
     Behind,
@@ -24,7 +24,7 @@ pub enum Place {
 // begins at `past`, and goes on to the next one. Where the step that leads here is not asked about,
 // `past` is the time, and `before` is here; `goes` tells whether the step on from here is.
 #[derive(Clone, Copy)]
-pub struct Stop {
+pub(crate) struct Stop {
     pub past: u32,
     pub time: u32,
     pub before: Cell,

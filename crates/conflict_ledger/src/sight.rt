@@ -30,7 +30,7 @@ pub(crate) fn position_on(track: &Track<'_>, time: u32) -> Option<Cell>
 
 impl Sight<'_> {
     // Where the agent itself is at the time.
-    pub fn own(&self, time: u32) -> Option<Cell>
+    pub(crate) fn own(&self, time: u32) -> Option<Cell>
         ensures { result ≡ option_and_then (λ route. position route time) (option_map route_of self.now.shown) }
     {
         match &self.shown {
@@ -40,7 +40,7 @@ impl Sight<'_> {
     }
 
     // The cell to which the agent itself moves out of that one in the step, if it does.
-    pub fn own_move(&self, time: u32, cell: Cell) -> Option<Cell>
+    pub(crate) fn own_move(&self, time: u32, cell: Cell) -> Option<Cell>
         requires { time < u32.MAX }
         ensures { (to : Point) → (result ≡ Some to) ↔ IsOwnMove (own_route self.now) time cell to }
     {
@@ -54,7 +54,7 @@ impl Sight<'_> {
     }
 
     // The last index of the agent's own path.
-    pub fn own_last(&self) -> u32
+    pub(crate) fn own_last(&self) -> u32
         ensures is { (fleet : Fleet) → Sees self.now fleet → result ≡ last_of fleet self.now.agent }
         ensures bound { result ≤ MOST_LAST_INDEX }
     {
@@ -65,7 +65,7 @@ impl Sight<'_> {
     }
 
     // Whether the agent's position at the time is the cell.
-    pub fn is_at(&self, agent: Agent, time: u32, cell: Cell) -> bool
+    pub(crate) fn is_at(&self, agent: Agent, time: u32, cell: Cell) -> bool
         ensures { (fleet : Fleet) → Sees self.now fleet → IsTrue result ↔ (position_of fleet agent time ≡ Some cell) }
     {
         if agent == self.agent {
@@ -76,7 +76,7 @@ impl Sight<'_> {
     }
 
     // Whether the agent has a position at the time.
-    pub fn has_position(&self, agent: Agent, time: u32) -> bool
+    pub(crate) fn has_position(&self, agent: Agent, time: u32) -> bool
         ensures { (fleet : Fleet) → Sees self.now fleet → IsTrue result ↔ IsSome (position_of fleet agent time) }
     {
         if agent == self.agent {
@@ -87,7 +87,7 @@ impl Sight<'_> {
     }
 
     // The last index of the agent's path.
-    pub fn last(&self, agent: Agent) -> u32
+    pub(crate) fn last(&self, agent: Agent) -> u32
         ensures { (fleet : Fleet) → Sees self.now fleet → result ≡ last_of fleet agent }
     {
         if agent == self.agent {
@@ -104,7 +104,7 @@ impl Sight<'_> {
     }
 
     // Whether the agent leaves after the last index of its path.
-    pub fn leaves(&self, agent: Agent) -> bool
+    pub(crate) fn leaves(&self, agent: Agent) -> bool
         ensures { (fleet : Fleet) → Sees self.now fleet → result ≡ leaves_of fleet agent }
     {
         if agent == self.agent {
@@ -118,14 +118,14 @@ impl Sight<'_> {
     }
 
     // The greater of the two agents' last indices.
-    pub fn both_end(&self, first: Agent, second: Agent) -> u32
+    pub(crate) fn both_end(&self, first: Agent, second: Agent) -> u32
         ensures { (fleet : Fleet) → Sees self.now fleet → result ≡ both_end_by fleet first second }
     {
         self.last(first).max(self.last(second))
     }
 
     // Whether one of the two agents still moves at the time, or is to leave.
-    pub fn passes(&self, time: u32, first: Agent, second: Agent) -> bool
+    pub(crate) fn passes(&self, time: u32, first: Agent, second: Agent) -> bool
         ensures { (fleet : Fleet) → Sees self.now fleet → IsTrue result ↔ ((time < both_end_by fleet first second) ⊎ (Leaves fleet first ⊎ Leaves fleet second)) }
     {
         time < self.both_end(first, second) || self.leaves(first) || self.leaves(second)

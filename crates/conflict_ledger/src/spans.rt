@@ -33,7 +33,7 @@ impl Tracks<'_> {
 
 impl<'a> Span<'a> {
     // All times.
-    pub fn whole() -> Span<'a>
+    pub(crate) fn whole() -> Span<'a>
         ensures from { result.from ≡ 0 }
         ensures tracks { result.tracks ≡ None }
     {
@@ -45,7 +45,7 @@ impl<'a> Span<'a> {
 
     // The times that tell the two tracks apart, which are equal below `since`: from one step before
     // that, or before the earlier end, on, and only those at which they differ where both end alike.
-    pub fn apart(old: Track<'a>, new: Track<'a>, since: u32) -> Span<'a>
+    pub(crate) fn apart(old: Track<'a>, new: Track<'a>, since: u32) -> Span<'a>
         requires { (t : ℕ) → t < since → position (route_of old) t ≡ position (route_of new) t }
         ensures old { Fits result (last_index old.entry.plan.now) }
         ensures new { Fits result (last_index new.entry.plan.now) }
@@ -64,7 +64,7 @@ impl<'a> Span<'a> {
     }
 
     // Whether the time is one of the span's.
-    pub fn has(&self, time: u32) -> bool
+    pub(crate) fn has(&self, time: u32) -> bool
         requires { time < u32.MAX }
         ensures { IsTrue result ↔ IsIn self.now time }
     {

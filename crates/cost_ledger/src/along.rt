@@ -11,7 +11,7 @@ use std::alloc::Global;
 use std::collections::BTreeSet;
 
 /// Adds the agent's visits to closed cells from one time on.
-pub fn block(
+pub(crate) fn block(
     blocked: &mut BTreeSet<Visit>,
     grid: &Grid,
     agent: Agent,
@@ -50,7 +50,7 @@ fn block_at(
 }
 
 /// Takes the agent's visits from one time on out, wherever on its path they are.
-pub fn unblock(blocked: &mut BTreeSet<Visit>, agent: Agent, plan: &Plan, from: u32)
+pub(crate) fn unblock(blocked: &mut BTreeSet<Visit>, agent: Agent, plan: &Plan, from: u32)
     requires { from ≤ last_index plan.now + 1 }
     ensures { LosesAll blocked.old.keys blocked.new.keys (IsThrough agent plan.now from (last_index plan.now + 1)) }
 {
@@ -64,7 +64,7 @@ pub fn unblock(blocked: &mut BTreeSet<Visit>, agent: Agent, plan: &Plan, from: u
 }
 
 /// Adds the agent's visits to the cell.
-pub fn add_through(
+pub(crate) fn add_through(
     found: &mut Vec<Visit>,
     agent: Agent,
     plan: &Plan,
@@ -100,7 +100,7 @@ fn add_if_there(
 }
 
 /// Adds the visits where their cell is closed, and takes them out otherwise.
-pub fn set_blocked(
+pub(crate) fn set_blocked(
     blocked: &mut BTreeSet<Visit>,
     visits: &[Visit],
     closed: bool,
@@ -136,7 +136,7 @@ fn unblock_all(blocked: &mut BTreeSet<Visit>, visits: &[Visit])
 }
 
 /// The visits, in their order.
-pub fn listed(alloc: Global, blocked: &BTreeSet<Visit>) -> Result<List<Visit>, OutOfMemory>
+pub(crate) fn listed(alloc: Global, blocked: &BTreeSet<Visit>) -> Result<List<Visit>, OutOfMemory>
     ensures { IfOk result (λ list. list ≡ blocked.now.keys) }
 {
     let mut list = Vec::new(alloc);

@@ -15,7 +15,7 @@ use std::collections::BTreeSet;
 
 /// An agent, its goal, and the plan that it gets on a grid.
 #[derive(Drop)]
-pub struct Planned<'a> {
+pub(crate) struct Planned<'a> {
     pub agent: Agent,
     pub goal: Cell,
     pub plan: &'a Plan,
@@ -24,7 +24,7 @@ pub struct Planned<'a> {
 
 /// Adds the row of an agent that has none, and what is kept along its path: its rest, and its visits
 /// from a time on. Answers how many paths of the row end elsewhere than at its goal.
-pub fn add_row(
+pub(crate) fn add_row(
     rows: &mut Rows,
     blocked: &mut BTreeSet<Visit>,
     rests: &mut BTreeSet<Rest>,

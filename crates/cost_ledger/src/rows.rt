@@ -15,7 +15,7 @@ use std::marker::Model;
 
 /// The rows of agents, by agent.
 #[derive(Drop)]
-pub struct Rows {
+pub(crate) struct Rows {
     rows: BTreeMap<Agent, Row>,
 }
 
@@ -30,7 +30,7 @@ impl Model for Rows {
 
 impl Rows {
     /// No rows.
-    pub fn new(alloc: Global) -> Rows
+    pub(crate) fn new(alloc: Global) -> Rows
         ensures { result ≡ [] }
     {
         Rows {
@@ -39,14 +39,14 @@ impl Rows {
     }
 
     /// The agent's row, if it has one.
-    pub fn row(&self, agent: Agent) -> Option<&Row>
+    pub(crate) fn row(&self, agent: Agent) -> Option<&Row>
         ensures { option_copied result ≡ row_of self.now agent }
     {
         self.rows.get(&agent)
     }
 
     /// The visits of the rows' paths to the cell. It goes along all of them.
-    pub fn through(&self, alloc: Global, cell: Cell) -> Result<Vec<Visit>, OutOfMemory>
+    pub(crate) fn through(&self, alloc: Global, cell: Cell) -> Result<Vec<Visit>, OutOfMemory>
         ensures { IfOk result (λ visits. AreThrough self.now cell visits.items) }
     {
         let mut found = Vec::new(alloc);
@@ -57,7 +57,7 @@ impl Rows {
     }
 
     /// Adds an agent's row.
-    pub fn insert(&mut self, agent: Agent, row: Row) -> Result<(), OutOfMemory>
+    pub(crate) fn insert(&mut self, agent: Agent, row: Row) -> Result<(), OutOfMemory>
         requires absent { row_of self.old agent ≡ None }
         ensures { OnOk result (GainsRow self.old self.new agent row) }
     {
@@ -66,7 +66,7 @@ impl Rows {
     }
 
     /// Takes an agent's row out, if it has one.
-    pub fn remove(&mut self, agent: Agent) -> Option<Row>
+    pub(crate) fn remove(&mut self, agent: Agent) -> Option<Row>
         ensures value { result ≡ row_of self.old agent }
         ensures gone { ChangesRow self.old self.new agent None }
         ensures sums { IfSome result (λ row. (number : Row → ℕ) → sum_of_rows number self.new + number row ≡ sum_of_rows number self.old) }
@@ -78,7 +78,7 @@ impl Rows {
 
     /// Gives an agent's row another goal, and answers how many paths of that row ended elsewhere
     /// than at its goal, before and after.
-    pub fn aim(&mut self, agent: Agent, goal: Cell) -> Option<(u32, u32)>
+    pub(crate) fn aim(&mut self, agent: Agent, goal: Cell) -> Option<(u32, u32)>
         ensures none { IfNone result ((row_of self.old agent ≡ None) × (self.new ≡ self.old)) }
         ensures some { IfSome result (AimsRow self.old self.new agent goal) }
         ensures by_agent { IsByAgent self.new }
@@ -93,7 +93,7 @@ impl Rows {
 }
 
 /// 0 where the row's path ends at its goal, and 1 otherwise.
-pub fn elsewhere(row: &Row) -> u32
+pub(crate) fn elsewhere(row: &Row) -> u32
     ensures { result ≡ ends_elsewhere row.now }
 {
     let end = row.plan.at(Step::new(row.plan.last()));

@@ -30,7 +30,7 @@ fn add_pair(
 }
 
 // Adds the entries of that time that name the agent first, with one that is met then.
-pub fn add_met(
+pub(crate) fn add_met(
     alloc: Global,
     entries: &mut Vec<Conflict>,
     plans: &Plans,
@@ -51,7 +51,7 @@ pub fn add_met(
 }
 
 // Adds the entries that name the agent first, with one that passes after that time.
-pub fn add_passed(
+pub(crate) fn add_passed(
     alloc: Global,
     entries: &mut Vec<Conflict>,
     plans: &Plans,
@@ -71,7 +71,7 @@ pub fn add_passed(
 }
 
 // Adds the ring of that time whose least agent is that one.
-pub fn add_ring(
+pub(crate) fn add_ring(
     alloc: Global,
     entries: &mut Vec<Conflict>,
     movers: &Indexed<'_>,

@@ -19,7 +19,7 @@ use std::thread;
 use std::thread::Threads;
 
 /// The most threads of an audit.
-pub const MOST_WORKERS: u32 = 64;
+pub(crate) const MOST_WORKERS: u32 = 64;
 
 // The report of the scene, whose part of all agents that is.
 fn report_of(alloc: Global, scene: &Scene, whole: Part) -> Result<Report, OutOfMemory>

@@ -141,7 +141,7 @@ fn add_agent(
 }
 
 /// The entries whose first written agent has a rank from one on and before another.
-pub fn entries_of(
+pub(crate) fn entries_of(
     alloc: Global,
     plans: &Plans,
     mode: Mode,

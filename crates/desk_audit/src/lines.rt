@@ -97,7 +97,7 @@ fn bound_at(
 }
 
 /// The lines of the agents at ranks from one on and before another, in their order.
-pub fn lines_of(
+pub(crate) fn lines_of(
     alloc: Global,
     grid: &Grid,
     plans: &Plans,

@@ -15,7 +15,7 @@ use std::marker::Model;
 
 /// The plans of a table in a mode, with their index.
 #[derive(Drop)]
-pub struct Indexed<'a> {
+pub(crate) struct Indexed<'a> {
     pub plans: &'a Plans,
     pub mode: Mode,
     pub index: &'a Sightings,
@@ -42,7 +42,7 @@ impl Movers for Indexed<'_> {
 
 impl<'a> Indexed<'a> {
     /// The cell to which the agent moves in the step that begins at the time, if it moves.
-    pub fn destination(&self, time: u32, agent: Agent) -> Option<Cell>
+    pub(crate) fn destination(&self, time: u32, agent: Agent) -> Option<Cell>
         requires { time < u32.MAX }
         ensures moves { IfSome result (MovesTo (tracks_of self.now.mode self.now.rows) time agent) }
         ensures found { (cell : Point) → MovesTo (tracks_of self.now.mode self.now.rows) time agent cell → result ≡ Some cell }

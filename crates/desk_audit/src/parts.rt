@@ -16,7 +16,7 @@ use std::alloc::Global;
 
 /// Entries in any order, visits and lines.
 #[derive(Drop)]
-pub struct Part {
+pub(crate) struct Part {
     pub conflicts: Vec<Conflict>,
     pub visits: Vec<Visit>,
     pub lines: Vec<AgentLine>,
@@ -24,7 +24,7 @@ pub struct Part {
 
 impl Part {
     /// The part of no agents.
-    pub fn new(alloc: Global) -> Part
+    pub(crate) fn new(alloc: Global) -> Part
         ensures conflicts { result.conflicts.items ≡ [] }
         ensures visits { result.visits.items ≡ [] }
         ensures lines { result.lines.items ≡ [] }
@@ -37,7 +37,7 @@ impl Part {
     }
 
     /// The part of the agents at ranks from one on and before another.
-    pub fn of(
+    pub(crate) fn of(
         alloc: Global,
         grid: &Grid,
         mode: Mode,
@@ -63,7 +63,7 @@ impl Part {
     }
 
     /// Adds what the other part has, after what this one has.
-    pub fn append(&mut self, other: Part) -> Result<(), OutOfMemory>
+    pub(crate) fn append(&mut self, other: Part) -> Result<(), OutOfMemory>
         ensures conflicts { OnOk result (self.new.conflicts.items ≡ self.old.conflicts.items ++ other.conflicts.items) }
         ensures visits { OnOk result (self.new.visits.items ≡ self.old.visits.items ++ other.visits.items) }
         ensures lines { OnOk result (self.new.lines.items ≡ self.old.lines.items ++ other.lines.items) }

@@ -14,7 +14,7 @@ use std::alloc::Global;
 /// Where agents are: while they follow their paths, by cell and time and again by cell alone, and
 /// where they rest for ever, by cell.
 #[derive(Drop)]
-pub struct Sightings {
+pub(crate) struct Sightings {
     // Each agent in each cell of its path, by cell and time.
     pub moments: Table,
     // Each agent that never leaves in its last cell, by cell, with the last index of its path.
@@ -27,7 +27,7 @@ pub struct Sightings {
 
 impl Sightings {
     /// The index of the plans.
-    pub fn new(alloc: Global, mode: Mode, plans: &Plans) -> Result<Sightings, OutOfMemory>
+    pub(crate) fn new(alloc: Global, mode: Mode, plans: &Plans) -> Result<Sightings, OutOfMemory>
         ensures { IfOk result (IsIndexOf (tracks_of mode plans.now.rows)) }
     {
         let agents = plans.count() as usize;

@@ -8,14 +8,14 @@ use std::alloc::Global;
 
 /// An agent, and a time at which it is in a cell that is known.
 #[derive(Clone, Copy)]
-pub struct Pass {
+pub(crate) struct Pass {
     pub time: u32,
     pub agent: Agent,
 }
 
 /// What is filed under a cell and a number, and the slot that was filed before it in its bucket.
 #[derive(Clone, Copy)]
-pub struct Slot {
+pub(crate) struct Slot {
     pub cell: Cell,
     pub number: u32,
     pub pass: Pass,
@@ -24,7 +24,7 @@ pub struct Slot {
 
 /// Slots in buckets, and the last slot of each bucket.
 #[derive(Drop)]
-pub struct Table {
+pub(crate) struct Table {
     pub heads: Vec<Option<u32>>,
     pub slots: Vec<Slot>,
 }
@@ -40,7 +40,7 @@ impl Slot {
 
 // The bucket of the cell and the number, of that many.
 #[tactic(auto, unfolding(crate::specs::Filing::bucket_of))]
-pub fn bucket(many: usize, cell: Cell, number: u32) -> usize
+pub(crate) fn bucket(many: usize, cell: Cell, number: u32) -> usize
     requires { 0 < many }
     ensures is { result ≡ bucket_of many cell number }
     ensures bound { result < many }
@@ -52,7 +52,7 @@ pub fn bucket(many: usize, cell: Cell, number: u32) -> usize
 impl Table {
     // A table of about that many buckets, with room for that many slots, in which nothing is filed.
     // The number of buckets is odd: with a power of two the cells of a column would meet in a few.
-    pub fn new(alloc: Global, buckets: usize, room: usize) -> Result<Table, OutOfMemory>
+    pub(crate) fn new(alloc: Global, buckets: usize, room: usize) -> Result<Table, OutOfMemory>
         ensures { IfOk result IsFiled }
     {
         Ok(Table {
@@ -63,7 +63,7 @@ impl Table {
 
     // Files the agent, at the time, under the cell and the number. A table holds at most
     // `u32::MAX` slots, far more than a scene has cells on its paths.
-    pub fn file(&mut self, cell: Cell, number: u32, pass: Pass) -> Result<(), OutOfMemory>
+    pub(crate) fn file(&mut self, cell: Cell, number: u32, pass: Pass) -> Result<(), OutOfMemory>
         requires { IsFiled self.old }
         ensures filed { OnOk result (IsFiled self.new) }
         ensures keeps { OnOk result (KeepsFiled self.old self.new) }
@@ -85,7 +85,7 @@ impl Table {
     }
 
     // Adds what is filed under the cell and the number, of other agents than that one.
-    pub fn add_others(
+    pub(crate) fn add_others(
         &self,
         found: &mut Vec<Pass>,
         cell: Cell,

@@ -16,7 +16,7 @@ use std::thread::{Promise, PromisedHandle, Scope, Threads};
 
 // The agents of the scene at ranks from one on and before another.
 #[derive(Clone, Copy)]
-pub struct Piece<'a> {
+pub(crate) struct Piece<'a> {
     pub scene: &'a Scene,
     pub from: u32,
     pub to: u32,
@@ -65,7 +65,7 @@ fn edge_of(agents: u32, workers: u32, piece: u32) -> u32
 
 // The part of all agents, where each piece has a thread of its own; none where a growth or the
 // start of a thread was refused. Each thread that was started is joined.
-pub fn in_scope<'s, E: 's, G: Gate, R: Threads>(
+pub(crate) fn in_scope<'s, E: 's, G: Gate, R: Threads>(
     rt: &R,
     alloc: Global,
     scope: &'s Scope<'s, E>,

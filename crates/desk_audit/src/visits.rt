@@ -10,7 +10,7 @@ use plan_table::Plans;
 use std::alloc::Global;
 
 /// The blocked visits of the agents at ranks from one on and before another, by agent, then time.
-pub fn visits_of(
+pub(crate) fn visits_of(
     alloc: Global,
     grid: &Grid,
     plans: &Plans,

@@ -10,14 +10,14 @@ use std::marker::Model;
 
 /// An agent that aims at a goal. Aims compare by goal, then agent.
 #[derive(Clone, Copy, PartialEq, Eq, PartialOrd, Ord)]
-pub struct Aim {
+pub(crate) struct Aim {
     pub goal: Cell,
     pub agent: Agent,
 }
 
 /// A set of aims, in their order.
 #[derive(Drop)]
-pub struct Aims {
+pub(crate) struct Aims {
     aims: BTreeSet<Aim>,
 }
 
@@ -35,7 +35,7 @@ impl Model for Aims {
 
 impl Aims {
     /// No aims.
-    pub fn new(alloc: Global) -> Aims
+    pub(crate) fn new(alloc: Global) -> Aims
         ensures { result ≡ [] }
     {
         Aims {
@@ -44,7 +44,7 @@ impl Aims {
     }
 
     /// Adds the agent's aim at the goal.
-    pub fn add(&mut self, goal: Cell, agent: Agent) -> Result<(), OutOfMemory>
+    pub(crate) fn add(&mut self, goal: Cell, agent: Agent) -> Result<(), OutOfMemory>
         ensures { OnOk result (Gains self.old self.new (aim goal agent)) }
     {
         let _number = agent.number();
@@ -53,14 +53,14 @@ impl Aims {
     }
 
     /// Takes the agent's aim at the goal out, if it is there.
-    pub fn lose(&mut self, goal: Cell, agent: Agent)
+    pub(crate) fn lose(&mut self, goal: Cell, agent: Agent)
         ensures { Loses self.old self.new (aim goal agent) }
     {
         self.aims.remove(&Aim { goal, agent });
     }
 
     /// Whether some agent aims at the goal.
-    pub fn has_goal(&self, goal: Cell) -> bool
+    pub(crate) fn has_goal(&self, goal: Cell) -> bool
         ensures { IsTrue result ↔ IsAimedAt self.now goal }
     {
         let _aims = &self.aims;

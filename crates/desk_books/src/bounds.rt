@@ -21,7 +21,7 @@ fn distance_to(fields: &Fields, from: Cell, goal: Cell) -> Option<u32>
 }
 
 /// The lower bound of the row's agent, in steps: the distance from where its path begins to its goal.
-pub fn bound(fields: &Fields, row: &Row) -> Option<u32>
+pub(crate) fn bound(fields: &Fields, row: &Row) -> Option<u32>
     requires { HasGoal fields.now.fields row.now.goal }
     ensures { (grid : Chart) → StandFor grid fields.now.fields → All (Holds grid.size) row.now.plan → IsBound grid row.now result }
 {

@@ -15,7 +15,7 @@ use std::marker::Model;
 
 /// The goals that agents aim at, each with the field of its distances.
 #[derive(Drop)]
-pub struct Goals {
+pub(crate) struct Goals {
     aims: Aims,
     fields: Fields,
 }
@@ -32,7 +32,7 @@ impl Model for Goals {
 
 impl Goals {
     /// No goals.
-    pub fn new(alloc: Global) -> Goals
+    pub(crate) fn new(alloc: Global) -> Goals
         ensures aims { result.aims ≡ [] }
         ensures fields { result.fields ≡ [] }
     {
@@ -43,14 +43,14 @@ impl Goals {
     }
 
     /// The fields of the goals.
-    pub fn fields(&self) -> &Fields
+    pub(crate) fn fields(&self) -> &Fields
         ensures { result.now.fields ≡ self.now.fields }
     {
         &self.fields
     }
 
     /// The agent aims at the goal: where no agent did so yet, its field on the grid is made.
-    pub fn add(self, agent: Agent, goal: Cell, grid: &Grid) -> Result<Goals, OutOfMemory>
+    pub(crate) fn add(self, agent: Agent, goal: Cell, grid: &Grid) -> Result<Goals, OutOfMemory>
         requires inside { Holds grid.now.size goal }
         requires stand { StandFor grid.now self.fields }
         ensures aims { IfOk result (λ goals. Gains self.aims goals.aims (aim goal agent)) }
@@ -64,7 +64,7 @@ impl Goals {
     }
 
     /// The agent aims at the goal no longer: where no other agent does so, its field goes.
-    pub fn lose(&mut self, agent: Agent, goal: Cell)
+    pub(crate) fn lose(&mut self, agent: Agent, goal: Cell)
         ensures aims { Loses self.old.aims self.new.aims (aim goal agent) }
         ensures stand { (grid : Chart) → StandFor grid self.old.fields → StandFor grid self.new.fields }
         ensures held { HoldAimed self.new.aims self.new.fields }
@@ -77,7 +77,7 @@ impl Goals {
 
     /// Repairs each field for another grid of the same size, whose state differs at most at the
     /// cells.
-    pub fn repair(&mut self, grid: &Grid, cells: &[Cell])
+    pub(crate) fn repair(&mut self, grid: &Grid, cells: &[Cell])
         requires same_size { All (λ field. grid.now.size ≡ field.grid.size) self.old.fields }
         requires covered { All (λ field. Covers cells.now field.grid grid.now) self.old.fields }
         ensures aims { self.new.aims ≡ self.old.aims }

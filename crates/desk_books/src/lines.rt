@@ -91,7 +91,7 @@ impl Lines {
 }
 
 /// What is said of the agent with that row, as if no visit of it were blocked.
-pub fn line(agent: Agent, row: &Row, fields: &Fields) -> AgentLine
+pub(crate) fn line(agent: Agent, row: &Row, fields: &Fields) -> AgentLine
     requires { HasGoal fields.now.fields row.now.goal }
     ensures line { (grid : Chart) → StandFor grid fields.now.fields → IsOpenLine grid (agent, row.now) result }
     ensures agent { result.agent ≡ agent }

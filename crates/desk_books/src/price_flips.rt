@@ -13,7 +13,7 @@ use std::alloc::Global;
 
 /// The ledger for another grid of the same size, whose state differs at most at the cells. The fleet
 /// is that of the ledger's rows.
-pub fn flip_all(
+pub(crate) fn flip_all(
     alloc: Global,
     costs: CostLedger,
     cells: &[Cell],

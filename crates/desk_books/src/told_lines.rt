@@ -26,7 +26,7 @@ fn told(line: AgentLine, unblocked: bool) -> AgentLine
 }
 
 /// The lines that a report has, where the visits are the blocked ones.
-pub fn told_lines(
+pub(crate) fn told_lines(
     alloc: Global,
     lines: &[AgentLine],
     visits: &[Visit],

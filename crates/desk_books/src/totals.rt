@@ -13,7 +13,7 @@ fn wide(number: u32) -> u64
 }
 
 /// The sum of the bounds in steps, if each line has one.
-pub fn sum_of_bounds(lines: &[AgentLine]) -> Option<u64>
+pub(crate) fn sum_of_bounds(lines: &[AgentLine]) -> Option<u64>
     requires { length lines.now ≤ MOST_AGENT + 1 }
     ensures { IsSumOf (map (λ line. line.bound) lines.now) result }
 {
@@ -28,7 +28,7 @@ pub fn sum_of_bounds(lines: &[AgentLine]) -> Option<u64>
 }
 
 /// The sum of the gaps in steps, if each line has one.
-pub fn sum_of_gaps(lines: &[AgentLine]) -> Option<u64>
+pub(crate) fn sum_of_gaps(lines: &[AgentLine]) -> Option<u64>
     requires { length lines.now ≤ MOST_AGENT + 1 }
     ensures { IsSumOf (map (λ line. line.gap) lines.now) result }
 {

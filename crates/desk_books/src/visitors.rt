@@ -10,7 +10,7 @@ use where_index::Passing;
 
 /// The first place, from that one on, whose visit is of the agent or of one after it; the end of
 /// the list, if there is none.
-pub fn first_from(visits: &[Visit], from: usize, agent: Agent) -> usize
+pub(crate) fn first_from(visits: &[Visit], from: usize, agent: Agent) -> usize
     requires { from ≤ length visits.now }
     ensures from { from ≤ result }
     ensures within { result ≤ length visits.now }
@@ -26,14 +26,18 @@ pub fn first_from(visits: &[Visit], from: usize, agent: Agent) -> usize
 }
 
 /// Whether the list has a visit at that place, and it is of that agent.
-pub fn is_of(visits: &[Visit], place: usize, agent: Agent) -> bool
+pub(crate) fn is_of(visits: &[Visit], place: usize, agent: Agent) -> bool
     ensures { IsTrue result ↔ ((visit : Visit) × (slice_get visits.now place ≡ Some visit) × (visit.agent ≡ agent)) }
 {
     place < visits.len() && visits[place].agent == agent
 }
 
 /// The visits to the cell of those who pass through it.
-pub fn visits_to(alloc: Global, cell: Cell, passings: &[Passing]) -> Result<Vec<Visit>, OutOfMemory>
+pub(crate) fn visits_to(
+    alloc: Global,
+    cell: Cell,
+    passings: &[Passing],
+) -> Result<Vec<Visit>, OutOfMemory>
     ensures { IfOk result (λ visits. visits.items ≡ map (visit_to cell) passings.now) }
 {
     let mut visits = Vec::new(alloc);

@@ -21,7 +21,7 @@ use std::io::{BufWriter, Read, Write};
 ///
 /// The session's fault, with the system's reason where there is one; or want of memory, and nothing
 /// was heard.
-pub fn sit_between<C: Counter, I: Read + Drop, O: Write + Drop>(
+pub(crate) fn sit_between<C: Counter, I: Read + Drop, O: Write + Drop>(
     alloc: Global,
     counter: &mut C,
     input: I,

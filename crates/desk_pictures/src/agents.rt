@@ -15,7 +15,7 @@ const COLOURS: u32 = 5;
 const PATTERNS: u32 = 4;
 
 /// Puts the beginning of an agent's group: its colour, its pattern and its number.
-pub fn put_group<W: Sink>(sink: &mut W, agent: Agent) -> Written
+pub(crate) fn put_group<W: Sink>(sink: &mut W, agent: Agent) -> Written
     ensures ok { OnOk result (Grows (W.held sink.old) (W.held sink.new)) }
     ensures broken { W.broken sink.new ≡ (W.broken sink.old || is_err result) }
 {

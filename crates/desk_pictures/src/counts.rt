@@ -59,7 +59,7 @@ const ROWS: &[(u64, &[u8], &[u8], Option<Kind>)] = &[
 ];
 
 /// Puts a row for each kind of what a report has.
-pub fn put_rows<W: Sink>(sink: &mut W, report: &Report) -> Written
+pub(crate) fn put_rows<W: Sink>(sink: &mut W, report: &Report) -> Written
     ensures ok { OnOk result (Grows (W.held sink.old) (W.held sink.new)) }
     ensures broken { W.broken sink.new ≡ (W.broken sink.old || is_err result) }
 {
@@ -78,7 +78,7 @@ const TOTALS: &[u8] = b"\
 ";
 
 /// Puts the totals.
-pub fn put_totals<W: Sink>(sink: &mut W, report: &Report) -> Written
+pub(crate) fn put_totals<W: Sink>(sink: &mut W, report: &Report) -> Written
     ensures ok { OnOk result (Grows (W.held sink.old) (W.held sink.new)) }
     ensures broken { W.broken sink.new ≡ (W.broken sink.old || is_err result) }
 {

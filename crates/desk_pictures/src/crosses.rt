@@ -50,7 +50,7 @@ fn put_each_cross<W: Sink>(sink: &mut W, frame: &Frame, visits: &[Visit]) -> Wri
 }
 
 /// Puts the group of the visits' marks, in the report's order.
-pub fn put_crosses<W: Sink>(sink: &mut W, frame: &Frame, visits: &[Visit]) -> Written
+pub(crate) fn put_crosses<W: Sink>(sink: &mut W, frame: &Frame, visits: &[Visit]) -> Written
     ensures ok { OnOk result (Appends (W.held sink.old) (W.held sink.new) (crosses_text frame.now.at visits.now)) }
     ensures broken { W.broken sink.new ≡ (W.broken sink.old || is_err result) }
 {

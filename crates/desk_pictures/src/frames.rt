@@ -44,7 +44,7 @@ impl Frame {
 }
 
 /// The class of what is lit, or none.
-pub fn class_text(lit: bool) -> &'static [u8]
+pub(crate) fn class_text(lit: bool) -> &'static [u8]
     ensures { result.now ≡ class_text lit }
 {
     if lit { b" class='lit'" } else { b"" }

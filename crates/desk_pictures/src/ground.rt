@@ -95,7 +95,7 @@ fn put_net<W: Sink>(sink: &mut W, grid: &Grid) -> Written
 }
 
 /// Puts the floor, and over it the closed cells.
-pub fn put_ground<W: Sink>(sink: &mut W, grid: &Grid) -> Written
+pub(crate) fn put_ground<W: Sink>(sink: &mut W, grid: &Grid) -> Written
     ensures ok { OnOk result (Grows (W.held sink.old) (W.held sink.new)) }
     ensures broken { W.broken sink.new ≡ (W.broken sink.old || is_err result) }
 {

@@ -118,7 +118,7 @@ fn put_scene<'a, W: Sink>(
 }
 
 /// Puts the title of the whole picture.
-pub fn put_title<W: Sink>(sink: &mut W, scene: &Scene) -> Written
+pub(crate) fn put_title<W: Sink>(sink: &mut W, scene: &Scene) -> Written
     ensures ok { OnOk result (Grows (W.held sink.old) (W.held sink.new)) }
     ensures broken { W.broken sink.new ≡ (W.broken sink.old || is_err result) }
 {
@@ -126,7 +126,7 @@ pub fn put_title<W: Sink>(sink: &mut W, scene: &Scene) -> Written
 }
 
 /// Puts the end of the map's part, the key, and the picture's end.
-pub fn put_legend<W: Sink>(
+pub(crate) fn put_legend<W: Sink>(
     sink: &mut W,
     sheet: Sheet,
     scene: &Scene,

@@ -122,7 +122,12 @@ fn put_marks<W: Sink>(sink: &mut W, frame: &Frame, scene: &Scene, entries: &[Con
 
 /// Puts a mark for each visit and each entry of the report.
 #[tactic(auto, using(crate::proofs::Growth::texts))]
-pub fn put_findings<W: Sink>(sink: &mut W, scene: &Scene, report: &Report, frame: &Frame) -> Written
+pub(crate) fn put_findings<W: Sink>(
+    sink: &mut W,
+    scene: &Scene,
+    report: &Report,
+    frame: &Frame,
+) -> Written
     ensures ok { OnOk result (Appends (W.held sink.old) (W.held sink.new) (findings_text frame.now.at scene.now report.now)) }
     ensures broken { W.broken sink.new ≡ (W.broken sink.old || is_err result) }
 {

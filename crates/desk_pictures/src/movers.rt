@@ -80,7 +80,7 @@ fn put_shown<W: Sink>(sink: &mut W, frame: &Frame, mode: Mode, agent: Agent, row
 }
 
 /// Puts the agents that the frame shows.
-pub fn put_movers<W: Sink>(sink: &mut W, frame: &Frame, plans: &Plans, mode: Mode) -> Written
+pub(crate) fn put_movers<W: Sink>(sink: &mut W, frame: &Frame, plans: &Plans, mode: Mode) -> Written
     ensures ok { OnOk result (Grows (W.held sink.old) (W.held sink.new)) }
     ensures broken { W.broken sink.new ≡ (W.broken sink.old || is_err result) }
 {

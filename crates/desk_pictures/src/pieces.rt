@@ -10,11 +10,11 @@ ghost use Rattle.desk_pictures.specs.Pieces.{piece_text, half_text, thousandths_
 use desk_report::{Sink, WriteFailed, put_all, put_given, put_number};
 
 /// What it comes to when something is put into a sink.
-pub type Written = Result<(), WriteFailed>;
+pub(crate) type Written = Result<(), WriteFailed>;
 
 /// A piece of the text. No piece has a quote, a bracket or an ampersand but those of a text.
 #[derive(Clone, Copy)]
-pub enum Piece<'a> {
+pub(crate) enum Piece<'a> {
     /// These letters, as they are.
     Text(&'a [u8]),
     /// A number in decimal digits.
@@ -32,7 +32,7 @@ pub enum Piece<'a> {
 }
 
 /// Puts the piece.
-pub fn put_piece<W: Sink>(sink: &mut W, piece: &Piece) -> Written
+pub(crate) fn put_piece<W: Sink>(sink: &mut W, piece: &Piece) -> Written
     ensures ok { OnOk result (Appends (W.held sink.old) (W.held sink.new) (piece_text piece.now)) }
     ensures broken { W.broken sink.new ≡ (W.broken sink.old || is_err result) }
 {
@@ -49,7 +49,7 @@ pub fn put_piece<W: Sink>(sink: &mut W, piece: &Piece) -> Written
 
 /// Puts the pieces, one behind the other.
 #[tactic(auto, using(crate::proofs::Growth::texts))]
-pub fn put_pieces<W: Sink>(sink: &mut W, pieces: &[Piece]) -> Written
+pub(crate) fn put_pieces<W: Sink>(sink: &mut W, pieces: &[Piece]) -> Written
     ensures ok { OnOk result (Appends (W.held sink.old) (W.held sink.new) (flat_map piece_text pieces.now)) }
     ensures broken { W.broken sink.new ≡ (W.broken sink.old || is_err result) }
 {
@@ -60,7 +60,7 @@ pub fn put_pieces<W: Sink>(sink: &mut W, pieces: &[Piece]) -> Written
 }
 
 /// Puts the pieces, one behind the other.
-pub fn put_some<W: Sink>(sink: &mut W, pieces: &[Piece]) -> Written
+pub(crate) fn put_some<W: Sink>(sink: &mut W, pieces: &[Piece]) -> Written
     ensures ok { OnOk result (Grows (W.held sink.old) (W.held sink.new)) }
     ensures broken { W.broken sink.new ≡ (W.broken sink.old || is_err result) }
 {
@@ -68,7 +68,7 @@ pub fn put_some<W: Sink>(sink: &mut W, pieces: &[Piece]) -> Written
 }
 
 /// Puts the letters.
-pub fn put_letters<W: Sink>(sink: &mut W, letters: &[u8]) -> Written
+pub(crate) fn put_letters<W: Sink>(sink: &mut W, letters: &[u8]) -> Written
     ensures ok { OnOk result (Grows (W.held sink.old) (W.held sink.new)) }
     ensures broken { W.broken sink.new ≡ (W.broken sink.old || is_err result) }
 {
@@ -84,7 +84,7 @@ fn parted(text: &[u8]) -> (&[u8], &[u8]) {
 }
 
 /// Puts the text, with a piece in place of each tilde.
-pub fn put_filled<W: Sink>(sink: &mut W, text: &[u8], pieces: &[Piece]) -> Written
+pub(crate) fn put_filled<W: Sink>(sink: &mut W, text: &[u8], pieces: &[Piece]) -> Written
     ensures ok { OnOk result (Grows (W.held sink.old) (W.held sink.new)) }
     ensures broken { W.broken sink.new ≡ (W.broken sink.old || is_err result) }
 {

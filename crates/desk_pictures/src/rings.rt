@@ -79,7 +79,12 @@ fn put_ring<W: Sink>(sink: &mut W, frame: &Frame, scene: &Scene, entry: &Conflic
 }
 
 /// Puts a line for each cycle, through the cells that its agents leave.
-pub fn put_rings<W: Sink>(sink: &mut W, scene: &Scene, report: &Report, frame: &Frame) -> Written
+pub(crate) fn put_rings<W: Sink>(
+    sink: &mut W,
+    scene: &Scene,
+    report: &Report,
+    frame: &Frame,
+) -> Written
     ensures ok { OnOk result (Grows (W.held sink.old) (W.held sink.new)) }
     ensures broken { W.broken sink.new ≡ (W.broken sink.old || is_err result) }
 {

@@ -127,7 +127,7 @@ fn put_shown<W: Sink>(sink: &mut W, frame: &Frame, agent: Agent, row: &Row) -> W
 }
 
 /// Puts the paths of the agents that the frame shows.
-pub fn put_routes<W: Sink>(sink: &mut W, frame: &Frame, plans: &Plans) -> Written
+pub(crate) fn put_routes<W: Sink>(sink: &mut W, frame: &Frame, plans: &Plans) -> Written
     ensures ok { OnOk result (Grows (W.held sink.old) (W.held sink.new)) }
     ensures broken { W.broken sink.new ≡ (W.broken sink.old || is_err result) }
 {

@@ -52,7 +52,7 @@ fn put_ruler<W: Sink>(sink: &mut W, drawn: u32, cells: u32, text: &[u8]) -> Writ
 }
 
 /// Puts the numbers of columns above the map and of rows at its left, as many as there is room for.
-pub fn put_rulers<W: Sink>(sink: &mut W, sheet: Sheet, size: Size) -> Written
+pub(crate) fn put_rulers<W: Sink>(sink: &mut W, sheet: Sheet, size: Size) -> Written
     ensures ok { OnOk result (Grows (W.held sink.old) (W.held sink.new)) }
     ensures broken { W.broken sink.new ≡ (W.broken sink.old || is_err result) }
 {

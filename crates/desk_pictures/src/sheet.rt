@@ -13,13 +13,13 @@ const MAP_SIDE: u32 = 960;
 // The room beside the map, for the key.
 const KEY_ROOM: u32 = 480;
 /// The room above the map and at its left, for the numbers of columns and rows.
-pub const EDGE: u32 = 36;
+pub(crate) const EDGE: u32 = 36;
 // The height of the key.
 const KEY_HEIGHT: u32 = 640;
 
 /// The sizes of a picture: of the map in the units of the sheet, and of signs in cells.
 #[derive(Clone, Copy)]
-pub struct Sheet {
+pub(crate) struct Sheet {
     /// How wide the map is drawn.
     pub across: u32,
     /// How high the map is drawn.
@@ -30,7 +30,7 @@ pub struct Sheet {
 
 impl Sheet {
     /// The sheet for a map of that size.
-    pub fn new(size: Size) -> Sheet {
+    pub(crate) fn new(size: Size) -> Sheet {
         let (width, height) = (size.width(), size.height());
         let side = width.max(height).max(1);
         Sheet {
@@ -41,12 +41,12 @@ impl Sheet {
     }
 
     /// So many hundredths of a sign's size.
-    pub fn part<'a>(self, hundredths: u32) -> Piece<'a> {
+    pub(crate) fn part<'a>(self, hundredths: u32) -> Piece<'a> {
         Piece::Thousandths(u64::from(self.scale) * u64::from(hundredths) / 100)
     }
 
     /// Puts the picture's first tag.
-    pub fn put_first<W: Sink>(self, sink: &mut W) -> Written
+    pub(crate) fn put_first<W: Sink>(self, sink: &mut W) -> Written
         ensures ok { OnOk result (Grows (W.held sink.old) (W.held sink.new)) }
         ensures broken { W.broken sink.new ≡ (W.broken sink.old || is_err result) }
     {
@@ -60,7 +60,7 @@ impl Sheet {
     }
 
     /// Puts the tag of the map's part, in which a cell's middle is at its column and row.
-    pub fn put_map<W: Sink>(self, sink: &mut W, size: Size) -> Written
+    pub(crate) fn put_map<W: Sink>(self, sink: &mut W, size: Size) -> Written
         ensures ok { OnOk result (Grows (W.held sink.old) (W.held sink.new)) }
         ensures broken { W.broken sink.new ≡ (W.broken sink.old || is_err result) }
     {

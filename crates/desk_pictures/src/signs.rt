@@ -40,7 +40,7 @@ const SIZED: &[(&[u8], &[u8])] = &[
 ];
 
 /// Puts the signs that the key shows, and those of the map, in its size; a visit's is a pattern that fills its mark.
-pub fn put_signs<W: Sink>(sink: &mut W, sheet: Sheet) -> Written
+pub(crate) fn put_signs<W: Sink>(sink: &mut W, sheet: Sheet) -> Written
     ensures ok { OnOk result (Grows (W.held sink.old) (W.held sink.new)) }
     ensures broken { W.broken sink.new ≡ (W.broken sink.old || is_err result) }
 {

@@ -9,13 +9,13 @@ use plan_table::{Mode, Plans};
 
 /// A point of the picture, in halves of a cell: a cell's middle has twice its column and row.
 #[derive(Clone, Copy)]
-pub struct Spot {
+pub(crate) struct Spot {
     pub across: u32,
     pub down: u32,
 }
 
 /// The middle of the two cells.
-pub fn middle(first: Cell, second: Cell) -> Spot
+pub(crate) fn middle(first: Cell, second: Cell) -> Spot
     ensures { result ≡ between first second }
 {
     Spot {
@@ -26,7 +26,7 @@ pub fn middle(first: Cell, second: Cell) -> Spot
 
 /// Where the entry's mark stands: at its cell, between its two cells, and of a ring between the
 /// first agent's cell and the one across.
-pub fn spot_of(plans: &Plans, mode: Mode, entry: &Conflict) -> Spot
+pub(crate) fn spot_of(plans: &Plans, mode: Mode, entry: &Conflict) -> Spot
     ensures { result ≡ spot_of (tracks_of mode plans.now.rows) entry.now }
 {
     match entry {
@@ -52,7 +52,13 @@ fn spot_across(plans: &Plans, mode: Mode, time: Step, ring: &[Agent]) -> Spot
 }
 
 /// Where the ring's agent at that index is at the time.
-pub fn cell_in(plans: &Plans, mode: Mode, time: Step, ring: &[Agent], index: usize) -> Option<Cell>
+pub(crate) fn cell_in(
+    plans: &Plans,
+    mode: Mode,
+    time: Step,
+    ring: &[Agent],
+    index: usize,
+) -> Option<Cell>
     ensures { result ≡ cell_in (tracks_of mode plans.now.rows) time ring.now index }
 {
     match ring.get(index) {
@@ -62,7 +68,7 @@ pub fn cell_in(plans: &Plans, mode: Mode, time: Step, ring: &[Agent], index: usi
 }
 
 /// The name of the entry's sign. Signs of two cells lie along them.
-pub fn symbol_of(entry: &Conflict) -> &'static [u8]
+pub(crate) fn symbol_of(entry: &Conflict) -> &'static [u8]
     ensures { result.now ≡ symbol_of entry.now }
 {
     match entry {

@@ -96,7 +96,7 @@ fn numbering(many: bool) -> &'static [u8] {
 
 /// Puts the styles, and the signs that the marks use. Where there are many agents, their numbers
 /// are told by their titles alone.
-pub fn put_styles<W: Sink>(sink: &mut W, sheet: Sheet, many: bool) -> Written
+pub(crate) fn put_styles<W: Sink>(sink: &mut W, sheet: Sheet, many: bool) -> Written
     ensures ok { OnOk result (Grows (W.held sink.old) (W.held sink.new)) }
     ensures broken { W.broken sink.new ≡ (W.broken sink.old || is_err result) }
 {

@@ -45,7 +45,7 @@ fn sign_of(start: u32, place: u32) -> &'static [u8] {
 }
 
 /// Puts the text, and how far the place is from the start.
-pub fn put_offset<W: Sink>(sink: &mut W, text: &[u8], start: u32, place: u32) -> Written
+pub(crate) fn put_offset<W: Sink>(sink: &mut W, text: &[u8], start: u32, place: u32) -> Written
     ensures ok { OnOk result (Grows (W.held sink.old) (W.held sink.new)) }
     ensures broken { W.broken sink.new ≡ (W.broken sink.old || is_err result) }
 {
@@ -139,7 +139,7 @@ fn put_key_times<W: Sink>(sink: &mut W, cells: &[Cell], last: u32, all: bool) ->
 }
 
 /// Puts the motion along the plan, from its start on; none where the agent rests at once.
-pub fn put_motion<W: Sink>(sink: &mut W, plan: &Plan) -> Written
+pub(crate) fn put_motion<W: Sink>(sink: &mut W, plan: &Plan) -> Written
     ensures ok { OnOk result (Grows (W.held sink.old) (W.held sink.new)) }
     ensures broken { W.broken sink.new ≡ (W.broken sink.old || is_err result) }
 {

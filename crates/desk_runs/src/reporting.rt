@@ -26,7 +26,11 @@ fn put_same<W: Sink>(writer: &mut W, same: bool) -> Result<(), WriteFailed>
 ///
 /// The writer failed.
 #[tactic(auto, using(desk_report::proofs::Fronts::fronts))]
-pub fn put_drill<W: Sink>(writer: &mut W, reading: &Reading, same: bool) -> Result<(), WriteFailed>
+pub(crate) fn put_drill<W: Sink>(
+    writer: &mut W,
+    reading: &Reading,
+    same: bool,
+) -> Result<(), WriteFailed>
     ensures ok { OnOk result (Appends (W.held writer.old) (W.held writer.new) (drill_text reading.now same)) }
     ensures err { OnErr result (AppendsFront (W.held writer.old) (W.held writer.new) (drill_text reading.now same)) }
     ensures broken { W.broken writer.new ≡ (W.broken writer.old || is_err result) }

@@ -20,7 +20,7 @@ type Ended = (Pass, Result<u32, ServeFault>);
 
 // The script that a thread is to serve, and the pass that it is given.
 #[derive(Drop)]
-pub struct Script<'a> {
+pub(crate) struct Script<'a> {
     pub desk: &'a SharedDesk,
     pub text: &'a [u8],
     pub before: Snapshot<Pass>,
@@ -130,7 +130,7 @@ fn serve_all<'s, E: 's, R: Threads + Wait + Sync, H: Hearing + Sync>(
 /// # Errors
 ///
 /// The fault of the first script that has one, or the start of a thread was refused.
-pub fn serve_scripts<R: Threads + Wait + Sync, H: Hearing + Sync>(
+pub(crate) fn serve_scripts<R: Threads + Wait + Sync, H: Hearing + Sync>(
     rt: &R,
     alloc: Global,
     desk: &SharedDesk,

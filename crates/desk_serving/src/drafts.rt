@@ -8,7 +8,7 @@ use std::marker::Model;
 
 /// A commit that is being gathered.
 #[derive(Drop)]
-pub struct Gathered {
+pub(crate) struct Gathered {
     pub(crate) base: u64,
     pub(crate) watch: List<Thing>,
     pub(crate) edits: List<Edit>,

@@ -2,7 +2,7 @@ use desk_commits::{AskFault, Reading, Refusal};
 
 /// What is wrong with a line.
 #[derive(Clone, Copy, PartialEq, Eq)]
-pub enum BadLine {
+pub(crate) enum BadLine {
     /// Its first word is not known.
     Word,
     /// It has too few or too many words, or a word that does not fit.
@@ -15,7 +15,7 @@ pub enum BadLine {
 
 /// What a line is answered.
 #[derive(Drop)]
-pub enum Reply {
+pub(crate) enum Reply {
     Silent,
     Bad { line: u32, why: BadLine },
     /// The line found no memory, and had no effect.

@@ -11,7 +11,7 @@ use std::marker::PhantomData;
 use std::snapshot::Snapshot;
 
 /// Where a pass stands within a call. No value of it is made.
-pub enum Stage {
+pub(crate) enum Stage {
     /// The first pass, before the desk lies in its place.
     Making,
     Idle,
@@ -22,7 +22,7 @@ pub enum Stage {
 }
 
 /// What the table knows of a pass. No value of it is made.
-pub struct Known {
+pub(crate) struct Known {
     /// False once the pass was joined into another.
     pub live: bool,
     pub stage: Stage,
@@ -43,14 +43,14 @@ pub struct Known {
 
 /// What the table is told when it is made.
 #[derive(Drop)]
-pub struct About {
+pub(crate) struct About {
     pub start: Snapshot<Desk>,
     pub planners: u32,
     pub unused: [bool; 256],
 }
 
 /// The rule of the table.
-pub struct Turns;
+pub(crate) struct Turns;
 
 impl TableRule<Option<Desk>, Known, About> for Turns {
     ghost use Rattle.desk_shared.specs.Turns.{Ruled, first_known};
@@ -60,8 +60,8 @@ impl TableRule<Option<Desk>, Known, About> for Turns {
     ghost first = { λ about. first_known about.start.value about.planners about.unused };
 }
 
-pub type Top = Table<Option<Desk>, Known, About, Turns, Global>;
+pub(crate) type Top = Table<Option<Desk>, Known, About, Turns, Global>;
 
-pub type Rows = Shared<Option<Desk>, Known, About, Turns>;
+pub(crate) type Rows = Shared<Option<Desk>, Known, About, Turns>;
 
-pub type Place = Seat<Option<Desk>, Known>;
+pub(crate) type Place = Seat<Option<Desk>, Known>;

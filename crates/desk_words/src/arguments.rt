@@ -5,7 +5,7 @@ use std::alloc::{AllocError, Global};
 
 /// What stands behind an option.
 #[derive(Clone, Copy)]
-pub enum Value {
+pub(crate) enum Value {
     /// Nothing: it is a flag.
     Nothing,
     /// A text, which help calls by that name.
@@ -22,7 +22,7 @@ pub enum Value {
 
 /// An option, or texts that no option names.
 #[derive(Clone, Copy)]
-pub struct Argument {
+pub(crate) struct Argument {
     pub name: &'static str,
     /// The letter that names it too, if it is a flag.
     pub short: Option<char>,
@@ -81,7 +81,7 @@ fn listed<'a>(alloc: Global, argument: Argument, name: &'static str) -> Arg<'a> 
 }
 
 /// An argument as the parser takes it.
-pub fn parsed<'a>(alloc: Global, argument: Argument) -> Result<Arg<'a>, AllocError> {
+pub(crate) fn parsed<'a>(alloc: Global, argument: Argument) -> Result<Arg<'a>, AllocError> {
     match argument.value {
         Value::Nothing => Ok(flag(alloc, argument)),
         Value::Text(name) => valued(alloc, argument, name, ValueParser::string(), 1),

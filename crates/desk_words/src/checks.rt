@@ -48,7 +48,7 @@ fn kinds_of(matches: &ArgMatches<'static>) -> Kinds {
 }
 
 /// What a check is asked for.
-pub fn check_words(matches: &ArgMatches<'static>) -> CheckWords {
+pub(crate) fn check_words(matches: &ArgMatches<'static>) -> CheckWords {
     CheckWords {
         map: matches.get_str("map").unwrap_or(""),
         scen: matches.get_str("scen"),

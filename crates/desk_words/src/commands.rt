@@ -118,7 +118,7 @@ fn command_of<'a>(alloc: Global, word: &Word) -> Result<Command<'a>, AllocError>
 }
 
 /// The program's words, as their parser takes them.
-pub fn command<'a>(alloc: Global) -> Result<Command<'a>, AllocError> {
+pub(crate) fn command<'a>(alloc: Global) -> Result<Command<'a>, AllocError> {
     let mut words = Vec::new(alloc);
     for word in &WORDS {
         words.push(command_of(alloc, word)?)?;

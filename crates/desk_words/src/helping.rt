@@ -9,11 +9,11 @@ mapf_desk: type a map first: type octile, height H, width W, map, and H rows of 
 open and @ for closed; then a session line at a time, as: agent 0 0,0 2,0. --help tells more, and
 the end of input (Ctrl-D) ends the session.";
 
-pub const ABOUT: &str =
+pub(crate) const ABOUT: &str =
     "A live plan desk for multi-agent path finding: it takes planners' edits of one \
 map's agents and paths, and reports conflicts, costs and bounds that are always current.";
 
-pub const PROGRAM_HELP: &str = "\
+pub(crate) const PROGRAM_HELP: &str = "\
 serve answers a planner's lines, one by one; audit makes a report from scratch, in threads; drill
 runs planners' scripts at once over one shared desk, and audits what they leave; host shares a desk
 among planners that are programs of their own; check gives a verdict on the paths that a solver
@@ -32,7 +32,7 @@ All lines, files and faults: docs/FORMATS.md, byte for byte; the rules: docs/RUL
 Example:
   printf 'type octile\\nheight 1\\nwidth 3\\nmap\\n...\\nagent 0 0,0 2,0\\nreport\\n' | mapf_desk";
 
-pub const SERVE_HELP: &str = "\
+pub(crate) const SERVE_HELP: &str = "\
 Each line of standard input is answered on standard output by one line, but for blank lines and
 remarks (#), which have no answer, and report, whose answer ends with the line end. A cell is X,Y.
 
@@ -51,7 +51,7 @@ Statuses: 0 the input has ended; 2 a fault, told on standard error.
 Example:
   mapf_desk serve --map demo/warehouse.map --scen demo/warehouse.scen --agents 10 --save plan";
 
-pub const AUDIT_HELP: &str = "\
+pub(crate) const AUDIT_HELP: &str = "\
 The report is made from scratch: nothing that a desk keeps is used. Each worker is a thread of its
 own and tells its share of the agents.
 
@@ -60,7 +60,7 @@ Statuses: 0 done; 2 a fault, told on standard error.
 Example:
   mapf_desk audit --map demo/warehouse.map --scen demo/warehouse.scen --agents 10 --workers 4";
 
-pub const DRILL_HELP: &str = "\
+pub(crate) const DRILL_HELP: &str = "\
 Each script is a session, as serve takes it, and is served as a planner of its own: the first is
 planner 1. The scripts run at once and their answers aren't kept. At the end the version and the
 report are printed, and audit same where a report made from scratch is the same, or audit differs.
@@ -72,7 +72,7 @@ Statuses: 0 audit same; 1 audit differs; 2 a fault, told on standard error.
 Example:
   mapf_desk drill --map demo/corridor.map demo/east.script demo/west.script";
 
-pub const HOST_HELP: &str = "\
+pub(crate) const HOST_HELP: &str = "\
 Each planner is a program of its own, in any language. It writes lines to NAME.in, as serve takes
 them, and reads their answers from NAME.out: two pipes that were made by mkfifo, or any files. The
 first is planner 1. Standard input and output are the operator's session, planner 0. An answer goes
@@ -87,7 +87,7 @@ Example:
   mkfifo east.in east.out west.in west.out
   mapf_desk host --map demo/corridor.map east west";
 
-pub const CHECK_HELP: &str = "\
+pub(crate) const CHECK_HELP: &str = "\
 A solver's paths are read in one of three forms, told by the first line that isn't blank:
   time      solution=, and lines 0:(X,Y),(X,Y),           as LaCAM and PIBT print them
   agent     lines Agent 0: (ROW,COLUMN)->(ROW,COLUMN)->   as CBS, EECBS, PBS and MAPF-LNS2 do
@@ -103,7 +103,7 @@ Statuses: 0 solves yes; 1 solves no; 2 a fault, told on standard error: there is
 Example:
   mapf_desk check --map demo/corridor.map --scen demo/corridor.scen --paths demo/corridor.paths";
 
-pub const DRAW_HELP: &str = "\
+pub(crate) const DRAW_HELP: &str = "\
 The picture is one SVG on standard output, of the scene that audit makes of a journal, or check of a
 solver's paths. Each conflict and each visit to a closed cell that the report lists is marked where
 it is, and the mark's title is the report's line. Without --at the agents move, 0.4 seconds a step,
@@ -116,5 +116,5 @@ Example:
   mapf_desk draw --map demo/corridor.map --paths demo/corridor.paths > corridor.svg";
 
 /// What is said of a range of agents that is none.
-pub const RANGE_MISTAKE: &str =
+pub(crate) const RANGE_MISTAKE: &str =
     "invalid value for '--agents-shown <A-B>': two numbers of agents, the lesser first, as 0-9";

@@ -18,32 +18,32 @@ const FLAG: Argument = Argument {
 };
 
 /// The map of a desk; without one it stands first on standard input.
-pub const MAP_OR_INPUT: Argument = Argument {
+pub(crate) const MAP_OR_INPUT: Argument = Argument {
     name: "map",
     help: "The map, a MovingAI .map file; without it the map stands first on standard input",
     ..FILE
 };
 
 /// The map of a word that needs its file.
-pub const MAP: Argument = Argument {
+pub(crate) const MAP: Argument = Argument {
     name: "map",
     is_needed: true,
     help: "The map, a MovingAI .map file",
     ..FILE
 };
 
-pub const SCEN: Argument = Argument {
+pub(crate) const SCEN: Argument = Argument {
     name: "scen",
     help: "A MovingAI .scen file, whose first tasks are the agents",
     ..FILE
 };
 
-pub const SCEN_OF_PATHS: Argument = Argument {
+pub(crate) const SCEN_OF_PATHS: Argument = Argument {
     help: "A MovingAI .scen file, whose first tasks are the agents' starts and goals",
     ..SCEN
 };
 
-pub const AGENTS: Argument = Argument {
+pub(crate) const AGENTS: Argument = Argument {
     name: "agents",
     value: Value::Number("K", 0, 8192),
     usual: &["0"],
@@ -52,18 +52,18 @@ pub const AGENTS: Argument = Argument {
 };
 
 /// Without a number the scenario gives as many agents as there are paths.
-pub const AGENTS_OF_PATHS: Argument = Argument {
+pub(crate) const AGENTS_OF_PATHS: Argument = Argument {
     usual: &[],
     help: "How many agents the scenario gives, from 0 to 8192; as many as there are paths where it isn't given",
     ..AGENTS
 };
 
-pub const AGENTS_OF_A_PICTURE: Argument = Argument {
+pub(crate) const AGENTS_OF_A_PICTURE: Argument = Argument {
     help: "How many agents the scenario gives, from 0 to 8192; where it isn't given as many as there are paths, else 0",
     ..AGENTS_OF_PATHS
 };
 
-pub const MODE: Argument = Argument {
+pub(crate) const MODE: Argument = Argument {
     name: "mode",
     value: Value::OneOf("M", &["stay", "disappear"]),
     usual: &["stay"],
@@ -71,7 +71,7 @@ pub const MODE: Argument = Argument {
     ..FILE
 };
 
-pub const LIMIT: Argument = Argument {
+pub(crate) const LIMIT: Argument = Argument {
     name: "limit",
     value: Value::Number("N", 1, 1_000_000),
     usual: &["100000"],
@@ -79,75 +79,75 @@ pub const LIMIT: Argument = Argument {
     ..FILE
 };
 
-pub const JOURNAL: Argument = Argument {
+pub(crate) const JOURNAL: Argument = Argument {
     name: "journal",
     help: "A journal, whose entries are committed first",
     ..FILE
 };
 
-pub const JOURNAL_OF_AN_AUDIT: Argument = Argument {
+pub(crate) const JOURNAL_OF_AN_AUDIT: Argument = Argument {
     help: "A journal, whose entries are committed before the audit",
     ..JOURNAL
 };
 
-pub const JOURNAL_OF_A_PICTURE: Argument = Argument {
+pub(crate) const JOURNAL_OF_A_PICTURE: Argument = Argument {
     excluded: &["paths"],
     help: "A journal, whose entries are committed before the picture",
     ..JOURNAL
 };
 
-pub const SAVE: Argument = Argument {
+pub(crate) const SAVE: Argument = Argument {
     name: "save",
     help: "Where the journal is saved at the end of the session",
     ..FILE
 };
 
-pub const PATHS: Argument = Argument {
+pub(crate) const PATHS: Argument = Argument {
     name: "paths",
     help: "The paths, as a solver wrote them",
     ..FILE
 };
 
-pub const NEEDED_PATHS: Argument = Argument {
+pub(crate) const NEEDED_PATHS: Argument = Argument {
     is_needed: true,
     ..PATHS
 };
 
-pub const AT: Argument = Argument {
+pub(crate) const AT: Argument = Argument {
     name: "at",
     value: Value::Number("T", 0, u32::MAX),
     help: "The time of a still picture, in steps; without it the agents move",
     ..FILE
 };
 
-pub const SHOWN: Argument = Argument {
+pub(crate) const SHOWN: Argument = Argument {
     name: "agents-shown",
     value: Value::Text("A-B"),
     help: "The agents that are drawn, as 0-9; all where it isn't given",
     ..FILE
 };
 
-pub const FORM: Argument = Argument {
+pub(crate) const FORM: Argument = Argument {
     name: "form",
     value: Value::OneOf("FORM", &["time", "agent", "session"]),
     help: "How the paths are written; told by their first line where it isn't given",
     ..FILE
 };
 
-pub const SOLVES: Argument = Argument {
+pub(crate) const SOLVES: Argument = Argument {
     name: "solves",
     value: Value::SomeOf("KIND", &["vertex", "edge", "follow", "swap", "cycle"]),
     help: "The kinds of conflicts that count; vertex and swap where none is named",
     ..FILE
 };
 
-pub const QUIET: Argument = Argument {
+pub(crate) const QUIET: Argument = Argument {
     name: "quiet",
     help: "Print how many conflicts of each kind there are, and no line for each",
     ..FLAG
 };
 
-pub const WORKERS: Argument = Argument {
+pub(crate) const WORKERS: Argument = Argument {
     name: "workers",
     value: Value::Number("N", 1, 64),
     usual: &["4"],
@@ -155,7 +155,7 @@ pub const WORKERS: Argument = Argument {
     ..FILE
 };
 
-pub const SCRIPTS: Argument = Argument {
+pub(crate) const SCRIPTS: Argument = Argument {
     name: "script",
     value: Value::Listed("SCRIPT"),
     is_needed: true,
@@ -163,14 +163,14 @@ pub const SCRIPTS: Argument = Argument {
     ..FILE
 };
 
-pub const WAIT: Argument = Argument {
+pub(crate) const WAIT: Argument = Argument {
     name: "wait",
     value: Value::Number("S", 0, 86_400),
     help: "How many seconds a planner may take to come, from 0 to 86400; for ever where it isn't given",
     ..FILE
 };
 
-pub const NAMES: Argument = Argument {
+pub(crate) const NAMES: Argument = Argument {
     name: "name",
     value: Value::Listed("NAME"),
     is_needed: true,
@@ -178,14 +178,14 @@ pub const NAMES: Argument = Argument {
     ..FILE
 };
 
-pub const VERBOSE: Argument = Argument {
+pub(crate) const VERBOSE: Argument = Argument {
     name: "verbose",
     short: Some('v'),
     help: "Say more of a fault, in a second line on standard error",
     ..FLAG
 };
 
-pub const VERBOSE_DRILL: Argument = Argument {
+pub(crate) const VERBOSE_DRILL: Argument = Argument {
     help: "Say more of a fault, and how the lines of each script were answered, on standard error",
     ..VERBOSE
 };

@@ -13,7 +13,7 @@ fn agent_of(digits: &str) -> Option<Agent> {
 }
 
 /// The two agents of a text `A-B`, if it is one, and the first isn't greater than the second.
-pub fn range_of(text: &str) -> Option<(Agent, Agent)> {
+pub(crate) fn range_of(text: &str) -> Option<(Agent, Agent)> {
     let (least, greatest) = text.split_once('-')?;
     let (least, greatest) = (agent_of(least)?, agent_of(greatest)?);
     if least <= greatest {
@@ -24,7 +24,7 @@ pub fn range_of(text: &str) -> Option<(Agent, Agent)> {
 }
 
 /// Whether agents to be drawn are named, and aren't a range.
-pub fn names_no_range(matches: &ArgMatches<'static>) -> bool {
+pub(crate) fn names_no_range(matches: &ArgMatches<'static>) -> bool {
     match matches.subcommand() {
         Some(("draw", inner)) => match inner.get_str("agents-shown") {
             Some(text) => range_of(text).is_none(),
@@ -35,7 +35,7 @@ pub fn names_no_range(matches: &ArgMatches<'static>) -> bool {
 }
 
 /// The mistake of agents to be drawn that are no range.
-pub fn refused_range(alloc: Global) -> Asked {
+pub(crate) fn refused_range(alloc: Global) -> Asked {
     let Ok(mut command) = command(alloc) else {
         return Asked::NoMemory;
     };

@@ -9,7 +9,7 @@ use std::io::{Error, Result as Done};
 use std::rt::Files;
 
 /// The fault of a session that ended so.
-pub fn fault_of(ended: Result<u32, ServeFault>) -> Option<RunFault> {
+pub(crate) fn fault_of(ended: Result<u32, ServeFault>) -> Option<RunFault> {
     match ended {
         Ok(_) => None,
         Err(fault) => Some(RunFault::from(fault)),
@@ -17,7 +17,7 @@ pub fn fault_of(ended: Result<u32, ServeFault>) -> Option<RunFault> {
 }
 
 /// The session's fault, where it has one.
-pub fn outcome_of(fault: Option<RunFault>) -> Result<(), Fault> {
+pub(crate) fn outcome_of(fault: Option<RunFault>) -> Result<(), Fault> {
     match fault {
         None => Ok(()),
         Some(fault) => Err(Fault::Run(fault)),
@@ -26,7 +26,7 @@ pub fn outcome_of(fault: Option<RunFault>) -> Result<(), Fault> {
 
 /// A session's fault, by how its last answers went out and why its input could not be read; what
 /// more is known of it is noted.
-pub fn note_end(
+pub(crate) fn note_end(
     alloc: Global,
     fault: Option<RunFault>,
     last: (Done<()>, Option<Error>),
@@ -62,7 +62,7 @@ fn with_reason(
 /// # Errors
 ///
 /// The session's fault, or that of the save: where both have one, that of the session is told here.
-pub fn end_desk<R: Files + AllocGlobal + Eprint>(
+pub(crate) fn end_desk<R: Files + AllocGlobal + Eprint>(
     rt: &R,
     desk: Desk,
     fault: Option<RunFault>,

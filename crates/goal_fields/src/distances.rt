@@ -19,7 +19,7 @@ use std::alloc::Global;
 /// The distances to one goal on a map that stands elsewhere, and two counts of the cells that were taken
 /// for them: in the last repair, and in all.
 #[derive(Drop)]
-pub struct Distances {
+pub(crate) struct Distances {
     pub goal: Cell,
     pub g: Vec<u32>,
     pub taken: u64,
@@ -28,7 +28,7 @@ pub struct Distances {
 
 impl Distances {
     // The distances on the grid.
-    pub fn new(alloc: Global, grid: &Grid, goal: Cell) -> Result<Distances, OutOfMemory>
+    pub(crate) fn new(alloc: Global, grid: &Grid, goal: Cell) -> Result<Distances, OutOfMemory>
         requires { Holds grid.now.size goal }
         ensures at_rest { IfOk result (AreAtRest grid.now) }
         ensures goal { IfOk result (λ made. made.goal ≡ goal) }
@@ -44,7 +44,7 @@ impl Distances {
 
     // Mends the distances for the map of the room that is lent, which differs at most at the changed
     // cells, and tells how many cells were taken.
-    pub fn repair_in(&mut self, room: &mut Lifelong, changed: &[Cell]) -> u64
+    pub(crate) fn repair_in(&mut self, room: &mut Lifelong, changed: &[Cell]) -> u64
         requires room { IsRoomOn room.old.grid room.old }
         requires at_rest { (old : Chart) × (old.size ≡ room.old.grid.size) × Covers changed.now old room.old.grid × AreAtRest old self.old }
         ensures repaired { (old : Chart) → old.size ≡ room.old.grid.size → AreAtRest old self.old →
@@ -63,7 +63,7 @@ impl Distances {
 }
 
 // The distances on the grid, by breadth-first search, with a copy of the map.
-pub fn found(alloc: Global, grid: &Grid, goal: Cell) -> Result<(Grid, Vec<u32>), OutOfMemory>
+pub(crate) fn found(alloc: Global, grid: &Grid, goal: Cell) -> Result<(Grid, Vec<u32>), OutOfMemory>
     requires { Holds grid.now.size goal }
     ensures map { IfOk result (λ found. found.0 ≡ grid.now) }
     ensures at_rest { IfOk result (λ found. IsAtRest grid.now goal found.1.items) }
@@ -75,7 +75,7 @@ pub fn found(alloc: Global, grid: &Grid, goal: Cell) -> Result<(Grid, Vec<u32>),
 }
 
 // The distance of the cell by these numbers, one for each cell of the map.
-pub fn distance_by(map: &Grid, g: &[u32], cell: Cell) -> Option<u32>
+pub(crate) fn distance_by(map: &Grid, g: &[u32], cell: Cell) -> Option<u32>
     requires { length g.now ≡ area map.now.size }
     ensures inside { (goal : Point) → IsAtRest map.now goal g.now → Holds map.now.size cell → IsDistance map.now cell goal result }
     ensures outside { (Holds map.now.size cell → ⊥) → result ≡ None }

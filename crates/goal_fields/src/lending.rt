@@ -7,7 +7,7 @@ use grid_cells::{Cell, Grid, OutOfMemory};
 use std::alloc::Global;
 
 // The room, which is made for the grid where there is none.
-pub fn made(
+pub(crate) fn made(
     alloc: Global,
     room: Option<Lifelong>,
     grid: &Grid,
@@ -24,7 +24,7 @@ pub fn made(
 }
 
 // Lets the room go where no field is left.
-pub fn let_go(room: &mut Option<Lifelong>, fields: &[Distances])
+pub(crate) fn let_go(room: &mut Option<Lifelong>, fields: &[Distances])
     ensures none { length fields.now ≡ 0 → room.new ≡ None }
     ensures some { 0 < length fields.now → room.new ≡ room.old }
 {
@@ -34,7 +34,7 @@ pub fn let_go(room: &mut Option<Lifelong>, fields: &[Distances])
 }
 
 // Puts the room back.
-pub fn give_back(place: &mut Option<Lifelong>, room: Lifelong)
+pub(crate) fn give_back(place: &mut Option<Lifelong>, room: Lifelong)
     ensures { place.new ≡ Some room }
 {
     *place = Some(room);

@@ -21,7 +21,7 @@ use std::mem;
 // Distances to one goal that are mended by Lifelong Planning A* (Koenig, Likhachev, Furcy 2004), in
 // room that is made before.
 #[derive(Drop)]
-pub struct Lifelong {
+pub(crate) struct Lifelong {
     pub grid: Grid,
     pub goal: Cell,
     pub g: Vec<u32>,
@@ -85,7 +85,7 @@ impl Lifelong {
 
 impl Lifelong {
     // Room for repairs on the map, with no distances yet.
-    pub fn new(alloc: Global, map: Grid, goal: Cell) -> Result<Lifelong, OutOfMemory>
+    pub(crate) fn new(alloc: Global, map: Grid, goal: Cell) -> Result<Lifelong, OutOfMemory>
         requires wide { 0 < map.size.width }
         requires whole { IsWhole map }
         ensures on { IfOk result (IsRoomOn map) }
@@ -102,7 +102,7 @@ impl Lifelong {
 
     // Mends the distances, which are those on a map that differs at most at the changed cells, and
     // tells how many cells were taken.
-    pub fn mend(&mut self, changed: &[Cell]) -> u64
+    pub(crate) fn mend(&mut self, changed: &[Cell]) -> u64
         requires roomy { IsRoomy self.old }
         requires empty { IsEmpty self.old.queue }
         requires consistent { (old : Chart) × (old.size ≡ self.old.grid.size) × Covers changed.now old self.old.grid × IsConsistent old self.old }
@@ -121,7 +121,7 @@ impl Lifelong {
 
     // Mends these distances to the goal, which are those on a map of the same size that differs at
     // most at the changed cells, and tells how many cells were taken.
-    pub fn mend_for(&mut self, goal: Cell, g: &mut Vec<u32>, changed: &[Cell]) -> u64
+    pub(crate) fn mend_for(&mut self, goal: Cell, g: &mut Vec<u32>, changed: &[Cell]) -> u64
         requires idle { IsIdle self.old }
         requires whole { IsWhole self.old.grid }
         requires at_rest { (old : Chart) × (old.size ≡ self.old.grid.size) × Covers changed.now old self.old.grid

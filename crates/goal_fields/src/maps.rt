@@ -22,7 +22,7 @@ fn copy_cell(map: &mut Grid, grid: &Grid, size: Size, cell: Cell)
 }
 
 // Makes the map the other one of the same size, from which it differs at most at the changed cells.
-pub fn adopt(map: &mut Grid, grid: &Grid, changed: &[Cell])
+pub(crate) fn adopt(map: &mut Grid, grid: &Grid, changed: &[Cell])
     requires wide { 0 < map.old.size.width }
     requires whole { IsWhole map.old }
     requires same_size { grid.now.size ≡ map.old.size }

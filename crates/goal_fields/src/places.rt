@@ -6,10 +6,10 @@ ghost use Rattle.cell_queue.specs.Queue.{area};
 use grid_cells::{Cell, Grid};
 
 // The number that is none: of a cell that no walk has come to.
-pub const FAR: u32 = u32::MAX;
+pub(crate) const FAR: u32 = u32::MAX;
 
 // Where the cell stands in a list of all cells of the grid, row by row.
-pub fn place_of(grid: &Grid, cell: Cell) -> usize
+pub(crate) fn place_of(grid: &Grid, cell: Cell) -> usize
     requires { Holds grid.now.size cell }
     ensures is { result ≡ flag_index grid.now.size cell }
     ensures bound { result < area grid.now.size }
@@ -18,7 +18,7 @@ pub fn place_of(grid: &Grid, cell: Cell) -> usize
 }
 
 // The cells above, left, right and below, each if the grid has it.
-pub fn around(grid: &Grid, cell: Cell) -> [Option<Cell>; 4]
+pub(crate) fn around(grid: &Grid, cell: Cell) -> [Option<Cell>; 4]
     ensures { result ≡ neighbours_of grid.now.size cell }
 {
     grid.size().neighbours(cell)

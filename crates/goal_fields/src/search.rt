@@ -11,7 +11,7 @@ use std::alloc::Global;
 // A breadth-first search from the goal: the cells that it has come to stand in `queue` up to `tail`,
 // and those up to `head` are done.
 #[derive(Drop)]
-pub struct Search {
+pub(crate) struct Search {
     pub grid: Grid,
     pub goal: Cell,
     pub marks: Vec<u32>,
@@ -22,7 +22,7 @@ pub struct Search {
 
 impl Search {
     // A search with room for each cell, in which nothing is found yet.
-    pub fn new(alloc: Global, grid: &Grid, goal: Cell) -> Result<Search, OutOfMemory>
+    pub(crate) fn new(alloc: Global, grid: &Grid, goal: Cell) -> Result<Search, OutOfMemory>
         requires { Holds grid.now.size goal }
         ensures room { IfOk result HasRoom }
         ensures blank { IfOk result IsBlank }
@@ -151,7 +151,7 @@ impl Search {
     }
 
     // Finds all distances to the goal.
-    pub fn run(&mut self)
+    pub(crate) fn run(&mut self)
         requires room { HasRoom self.old }
         requires blank { IsBlank self.old }
         ensures same_map { KeepsMap self.old self.new }

@@ -47,7 +47,7 @@ impl Lifelong {
     }
 
     // Puts the cell into the queue or takes it out, as its rhs wants it.
-    pub fn update(&mut self, cell: Option<Cell>)
+    pub(crate) fn update(&mut self, cell: Option<Cell>)
         requires roomy { IsRoomy self.old }
         requires held { ForSome cell (Holds self.old.grid.size) }
         ensures roomy { IsRoomy self.new }
@@ -98,7 +98,7 @@ impl Lifelong {
 
     // Updates those neighbours of the cell whose rhs may be other ones, as its g was this and is that
     // now.
-    pub fn follow_all(&mut self, from: Cell, was: u32, now: u32)
+    pub(crate) fn follow_all(&mut self, from: Cell, was: u32, now: u32)
         requires roomy { IsRoomy self.old }
         requires held { Holds self.old.grid.size from }
         ensures roomy { IsRoomy self.new }
@@ -114,7 +114,7 @@ impl Lifelong {
 
     // Updates what hangs on the cell, whose g was this before it was written: its neighbours, and the
     // cell itself where its g rose.
-    pub fn ripple(&mut self, from: Cell, was: u32)
+    pub(crate) fn ripple(&mut self, from: Cell, was: u32)
         requires roomy { IsRoomy self.old }
         requires held { Holds self.old.grid.size from }
         ensures roomy { IsRoomy self.new }

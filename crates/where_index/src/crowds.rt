@@ -11,14 +11,14 @@ use std::marker::Model;
 
 /// A cell at a time.
 #[derive(Clone, Copy, PartialEq, Eq, Hash)]
-pub struct Place {
+pub(crate) struct Place {
     pub cell: Cell,
     pub time: u32,
 }
 
 /// The moves out of each cell in each step in which more than one agent moves out of it.
 #[derive(Drop)]
-pub struct Crowds {
+pub(crate) struct Crowds {
     alloc: Global,
     lists: HashMap<Place, MoveList>,
 }
@@ -35,7 +35,7 @@ impl Model for Crowds {
 
 impl Crowds {
     /// No moves.
-    pub fn new(alloc: Global) -> Crowds
+    pub(crate) fn new(alloc: Global) -> Crowds
         ensures { result ≡ [] }
     {
         Crowds {
@@ -45,7 +45,7 @@ impl Crowds {
     }
 
     /// The moves out of the cell in the step that begins at the time, by agent, where they are kept.
-    pub fn at(&self, cell: Cell, time: u32) -> Option<&[Move]>
+    pub(crate) fn at(&self, cell: Cell, time: u32) -> Option<&[Move]>
         ensures some { IfSome result (λ moves. (crowd_at self.now cell time ≡ Some moves.now) × AreByAgent moves.now) }
         ensures none { IfNone result (crowd_at self.now cell time ≡ None) }
     {
@@ -57,7 +57,7 @@ impl Crowds {
 
     /// Adds the move, in the place of the agent's move out of that cell in that step, to those that
     /// are kept; where none are, to the one that is told beside it, if any.
-    pub fn join(
+    pub(crate) fn join(
         &mut self,
         cell: Cell,
         time: u32,
@@ -70,7 +70,7 @@ impl Crowds {
     }
 
     /// Takes the agent's move out of that cell in that step out of those that are kept.
-    pub fn leave(&mut self, cell: Cell, time: u32, agent: Agent)
+    pub(crate) fn leave(&mut self, cell: Cell, time: u32, agent: Agent)
         ensures { ChangesAt self.old self.new cell time (IsLeft agent) }
     {
         if lose_in(&mut self.lists, cell, time, agent) {

@@ -6,7 +6,7 @@ use plan_table::Track;
 
 /// Where and when a path ends, and whether its agent leaves then.
 #[derive(Clone, Copy, PartialEq, Eq)]
-pub struct End {
+pub(crate) struct End {
     pub last: u32,
     pub cell: Cell,
     pub leaves: bool,
@@ -14,7 +14,7 @@ pub struct End {
 
 impl End {
     /// The end of the track.
-    pub fn of(track: &Track<'_>) -> End
+    pub(crate) fn of(track: &Track<'_>) -> End
         ensures { IsEndOfRoute result (route_of track.now) }
     {
         let last = track.plan.last();

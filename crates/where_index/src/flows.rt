@@ -9,7 +9,7 @@ use std::alloc::Global;
 
 /// How many agents move each way in each step.
 #[derive(Drop)]
-pub struct Flows {
+pub(crate) struct Flows {
     pub up: Tally,
     pub left: Tally,
     pub right: Tally,
@@ -18,7 +18,7 @@ pub struct Flows {
 
 impl Flows {
     /// Nobody moves.
-    pub fn new(alloc: Global) -> Flows
+    pub(crate) fn new(alloc: Global) -> Flows
         ensures { HasFlows result (λ _ _. None) }
     {
         Flows {
@@ -30,7 +30,7 @@ impl Flows {
     }
 
     /// How many agents move that way in the step.
-    pub fn at(&self, way: Way, time: u32) -> u32
+    pub(crate) fn at(&self, way: Way, time: u32) -> u32
         ensures { result ≡ slice_index (flow self.now way) time }
     {
         match way {
@@ -42,7 +42,7 @@ impl Flows {
     }
 
     /// Adds the agent's move in that step, where it has none.
-    pub fn add(&mut self, agent: Agent, time: u32, hop: &Hop) -> Result<(), OutOfMemory>
+    pub(crate) fn add(&mut self, agent: Agent, time: u32, hop: &Hop) -> Result<(), OutOfMemory>
         ensures { OnOk result (ChangesFlows self.old self.new agent time None (Some hop.now)) }
     {
         add_to(&mut self.up, Way::Up, agent, time, hop)?;
@@ -52,7 +52,7 @@ impl Flows {
     }
 
     /// Takes the agent's move in that step out.
-    pub fn lose(&mut self, agent: Agent, time: u32, hop: &Hop)
+    pub(crate) fn lose(&mut self, agent: Agent, time: u32, hop: &Hop)
         ensures { ChangesFlows self.old self.new agent time (Some hop.now) None }
     {
         lose_from(&mut self.up, Way::Up, agent, time, hop);

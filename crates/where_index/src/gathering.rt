@@ -13,7 +13,7 @@ use std::collections::BTreeSet;
 use std::collections::btree_set::Range;
 
 /// The agents of the spots in either list up to a time, ascending.
-pub fn agents_of(
+pub(crate) fn agents_of(
     alloc: Global,
     stands: Range<'_, Spot>,
     tails: Range<'_, Spot>,
@@ -28,7 +28,7 @@ pub fn agents_of(
 }
 
 /// Whom the spots in either list show at which times, by time, then agent.
-pub fn passings_of(
+pub(crate) fn passings_of(
     alloc: Global,
     stands: Range<'_, Spot>,
     tails: Range<'_, Spot>,

@@ -10,7 +10,7 @@ use grid_cells::{Agent, OutOfMemory};
 
 /// Puts the new trail's stands and moves in the place of the old one's, and counts those that only
 /// one of the two has.
-pub fn change_legs(
+pub(crate) fn change_legs(
     traffic: &mut Traffic,
     agent: Agent,
     old: &Trail<'_>,

@@ -16,7 +16,7 @@ pub struct Move {
 
 /// The moves out of one cell in one step, by agent.
 #[derive(Drop)]
-pub struct MoveList {
+pub(crate) struct MoveList {
     moves: SmallVec<Move, 2>,
 }
 
@@ -34,7 +34,7 @@ impl Model for MoveList {
 
 impl MoveList {
     /// No moves.
-    pub fn new(alloc: Global) -> MoveList
+    pub(crate) fn new(alloc: Global) -> MoveList
         ensures { result ≡ [] }
     {
         MoveList {
@@ -43,7 +43,7 @@ impl MoveList {
     }
 
     /// The moves, by agent.
-    pub fn items(&self) -> &[Move]
+    pub(crate) fn items(&self) -> &[Move]
         ensures is { result.now ≡ self.now }
         ensures by_agent { AreByAgent self.now }
     {
@@ -65,7 +65,7 @@ impl MoveList {
     }
 
     /// Puts in the move, in the place of the agent's, if it has one.
-    pub fn put(&mut self, added: Move) -> Result<(), OutOfMemory>
+    pub(crate) fn put(&mut self, added: Move) -> Result<(), OutOfMemory>
         ensures { OnOk result (PutsMove self.old self.new added) }
     {
         self.lose(added.agent);
@@ -73,7 +73,7 @@ impl MoveList {
     }
 
     /// Takes the agent's move out, if it has one.
-    pub fn lose(&mut self, agent: Agent)
+    pub(crate) fn lose(&mut self, agent: Agent)
         ensures { LosesMover self.old self.new agent }
     {
         if let Ok(at) = place_of(self.moves.as_slice(), agent) {

@@ -11,7 +11,7 @@ use grid_cells::{Agent, OutOfMemory};
 
 /// Puts the agent's records (Stand, Tail and Move) by the new trail in the place of those by the old
 /// one, from one time to another, and counts those that only one of the two has.
-pub fn change_records(
+pub(crate) fn change_records(
     traffic: &mut Traffic,
     agent: Agent,
     old: &Trail<'_>,

@@ -21,7 +21,7 @@ pub struct Spot {
 
 /// The spots of one cell, in their order.
 #[derive(Drop)]
-pub struct SpotSet {
+pub(crate) struct SpotSet {
     spots: BTreeSet<Spot>,
 }
 
@@ -36,7 +36,7 @@ impl Model for SpotSet {
 
 impl SpotSet {
     /// No spots.
-    pub fn new(alloc: Global) -> SpotSet
+    pub(crate) fn new(alloc: Global) -> SpotSet
         ensures { result ≡ [] }
     {
         SpotSet {
@@ -45,7 +45,7 @@ impl SpotSet {
     }
 
     /// Adds the spot.
-    pub fn add(&mut self, spot: Spot) -> Result<(), OutOfMemory>
+    pub(crate) fn add(&mut self, spot: Spot) -> Result<(), OutOfMemory>
         ensures gains { OnOk result (Gains self.old self.new spot) }
         ensures refused { OnErr result (self.new ≡ self.old) }
     {
@@ -54,7 +54,7 @@ impl SpotSet {
     }
 
     /// Takes the spot out, if it is there, and answers whether none is left.
-    pub fn lose(&mut self, spot: &Spot) -> bool
+    pub(crate) fn lose(&mut self, spot: &Spot) -> bool
         ensures loses { Loses self.old self.new spot.now }
         ensures empty { OnTrue result (self.new ≡ []) }
     {
@@ -63,7 +63,7 @@ impl SpotSet {
     }
 
     /// Whether the agent is there at the time.
-    pub fn has(&self, time: u32, agent: Agent) -> bool
+    pub(crate) fn has(&self, time: u32, agent: Agent) -> bool
         ensures { IsTrue result ↔ HasAt self.now time agent }
     {
         let low = spot_of(time, agent, least_cell());
@@ -74,7 +74,7 @@ impl SpotSet {
     }
 
     /// The spots from that time on, in order.
-    pub fn from(&self, time: u32) -> Range<'_, Spot>
+    pub(crate) fn from(&self, time: u32) -> Range<'_, Spot>
         ensures all { AreFrom self.now time result }
         ensures rising { AreRising result }
     {

@@ -14,7 +14,7 @@ use std::marker::Model;
 
 /// The spots of each cell. What is asked of a cell costs what follows the number of spots there.
 #[derive(Drop)]
-pub struct Spots {
+pub(crate) struct Spots {
     alloc: Global,
     none: SpotSet,
     sets: HashMap<Cell, SpotSet>,
@@ -33,7 +33,7 @@ impl Model for Spots {
 
 impl Spots {
     /// No spots.
-    pub fn new(alloc: Global) -> Spots
+    pub(crate) fn new(alloc: Global) -> Spots
         ensures { result ≡ [] }
     {
         Spots {
@@ -48,7 +48,7 @@ impl Spots {
     /// # Errors
     ///
     /// Want of memory.
-    pub fn add(&mut self, cell: Cell, spot: Spot) -> Result<(), OutOfMemory>
+    pub(crate) fn add(&mut self, cell: Cell, spot: Spot) -> Result<(), OutOfMemory>
         ensures { OnOk result (GainsAt self.old self.new cell spot) }
     {
         let step = spot.step;
@@ -58,7 +58,7 @@ impl Spots {
     }
 
     /// Takes the spot out of those at the cell, if it is there.
-    pub fn lose(&mut self, cell: Cell, spot: &Spot)
+    pub(crate) fn lose(&mut self, cell: Cell, spot: &Spot)
         ensures { LosesAt self.old self.new cell spot.now }
     {
         if lose_in(&mut self.sets, cell, spot) {
@@ -67,21 +67,21 @@ impl Spots {
     }
 
     /// Whether the agent is at the cell at the time.
-    pub fn has(&self, cell: Cell, time: u32, agent: Agent) -> bool
+    pub(crate) fn has(&self, cell: Cell, time: u32, agent: Agent) -> bool
         ensures { IsTrue result ↔ HasAt (spots_at self.now cell) time agent }
     {
         set_at(&self.sets, &self.none, cell).has(time, agent)
     }
 
     /// The spots are of agents that have a number.
-    pub fn are_within(&self)
+    pub(crate) fn are_within(&self)
         ensures { AreWithin self.now }
     {
         let _sets = &self.sets;
     }
 
     /// The spots at the cell from one time on, by time, then agent.
-    pub fn from(&self, cell: Cell, time: u32) -> Range<'_, Spot>
+    pub(crate) fn from(&self, cell: Cell, time: u32) -> Range<'_, Spot>
         ensures all { AreFrom (spots_at self.now cell) time result }
         ensures rising { AreRising result }
     {
@@ -89,7 +89,7 @@ impl Spots {
     }
 
     /// A step out of the cell at the time, if any agent moves out of it.
-    pub fn mover(&self, cell: Cell, time: u32) -> Option<&Move>
+    pub(crate) fn mover(&self, cell: Cell, time: u32) -> Option<&Move>
         ensures some { IfSome result (λ step. IsMover (spots_at self.now cell) cell time step.now) }
         ensures none { IfNone result ((step : Move) → IsMover (spots_at self.now cell) cell time step → ⊥) }
     {

@@ -11,7 +11,7 @@ use grid_cells::{Agent, Cell, OutOfMemory};
 
 /// Puts the new trail's tail in the place of the old one's, and counts those that only one of the
 /// two has. There is at most one in each trail, at its end.
-pub fn change_tails(
+pub(crate) fn change_tails(
     tails: &mut Spots,
     agent: Agent,
     old: &Trail<'_>,
@@ -56,7 +56,7 @@ fn replace_rest(
 }
 
 /// How many of the two are given, where they differ.
-pub fn count_of(old: &Option<Cell>, new: &Option<Cell>) -> u32
+pub(crate) fn count_of(old: &Option<Cell>, new: &Option<Cell>) -> u32
     ensures is { result ≡ changed old.now new.now }
     ensures few { result ≤ 2 }
     ensures none { result ≡ 0 → old.now ≡ new.now }

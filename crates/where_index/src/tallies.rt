@@ -6,7 +6,7 @@ use std::marker::Model;
 
 /// A number for each time.
 #[derive(Drop)]
-pub struct Tally {
+pub(crate) struct Tally {
     numbers: Vec<u32>,
 }
 
@@ -20,7 +20,7 @@ impl Model for Tally {
 
 impl Tally {
     /// The number 0 for each time.
-    pub fn new(alloc: Global) -> Tally
+    pub(crate) fn new(alloc: Global) -> Tally
         ensures { result ≡ [] }
     {
         Tally {
@@ -29,7 +29,7 @@ impl Tally {
     }
 
     /// The time's number.
-    pub fn at(&self, time: u32) -> u32
+    pub(crate) fn at(&self, time: u32) -> u32
         ensures { result ≡ slice_index self.now time }
     {
         match self.numbers.get(time as usize) {
@@ -39,7 +39,7 @@ impl Tally {
     }
 
     /// Adds one to the time's number, which is held at the greatest u32.
-    pub fn add(&mut self, time: u32) -> Result<(), OutOfMemory>
+    pub(crate) fn add(&mut self, time: u32) -> Result<(), OutOfMemory>
         ensures here { OnOk result (slice_index self.new time ≡ min (slice_index self.old time + 1) u32.MAX) }
         ensures others { OnOk result ((t : ℕ) → t ≢ time → slice_index self.new t ≡ slice_index self.old t) }
     {
@@ -50,7 +50,7 @@ impl Tally {
     }
 
     /// Takes one from the time's number, which is held at 0.
-    pub fn lose(&mut self, time: u32)
+    pub(crate) fn lose(&mut self, time: u32)
         ensures here { slice_index self.new time ≡ slice_index self.old time - 1 }
         ensures others { (t : ℕ) → t ≢ time → slice_index self.new t ≡ slice_index self.old t }
     {

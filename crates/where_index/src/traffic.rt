@@ -19,7 +19,7 @@ use std::slice;
 /// Where agents are at each time and one step later, and from when on they rest: by cell, the moves of
 /// crowds once more as lists, and how many go each way.
 #[derive(Drop)]
-pub struct Traffic {
+pub(crate) struct Traffic {
     pub stands: Spots,
     pub tails: Spots,
     pub crowds: Crowds,
@@ -28,7 +28,7 @@ pub struct Traffic {
 
 impl Traffic {
     /// Nobody is anywhere.
-    pub fn new(alloc: Global) -> Traffic
+    pub(crate) fn new(alloc: Global) -> Traffic
         ensures legs { HasTraffic result (λ _ _. None) }
         ensures tails { result.tails ≡ [] }
     {
@@ -41,7 +41,7 @@ impl Traffic {
     }
 
     /// The moves out of the cell in the step that begins at the time, by agent.
-    pub fn movers(&self, cell: Cell, time: u32) -> &[Move]
+    pub(crate) fn movers(&self, cell: Cell, time: u32) -> &[Move]
         ensures all { (f : ℕ → ℕ → Option Hop) → HasTraffic self.now f → (m : Move) → Contains result.now m ↔ Moves f cell time m }
         ensures by_agent { AreByAgent result.now }
     {
@@ -65,7 +65,7 @@ impl Traffic {
     }
 
     /// Adds where the agent goes in that step, where nothing is known of it.
-    pub fn add(&mut self, agent: Agent, time: u32, leg: Hop) -> Result<(), OutOfMemory>
+    pub(crate) fn add(&mut self, agent: Agent, time: u32, leg: Hop) -> Result<(), OutOfMemory>
         ensures set { OnOk result (ChangesLeg self.old self.new agent time None (Some leg)) }
         ensures tails { self.new.tails ≡ self.old.tails }
     {
@@ -78,7 +78,7 @@ impl Traffic {
     }
 
     /// Takes out where the agent goes in that step.
-    pub fn lose(&mut self, agent: Agent, time: u32, leg: Hop)
+    pub(crate) fn lose(&mut self, agent: Agent, time: u32, leg: Hop)
         ensures set { ChangesLeg self.old self.new agent time (Some leg) None }
         ensures tails { self.new.tails ≡ self.old.tails }
     {

@@ -16,7 +16,7 @@ pub struct Hop {
 
 /// The cells of a path, or none, and whether the agent leaves after the last one.
 #[derive(Drop)]
-pub struct Trail<'a> {
+pub(crate) struct Trail<'a> {
     cells: &'a [Cell],
     leaves: bool,
 }
@@ -35,7 +35,7 @@ impl<'a> Model for Trail<'a> {
 
 impl<'a> Trail<'a> {
     /// No path.
-    pub fn none() -> Trail<'a>
+    pub(crate) fn none() -> Trail<'a>
         ensures { result ≡ nothing }
     {
         Trail {
@@ -45,7 +45,7 @@ impl<'a> Trail<'a> {
     }
 
     /// The track's path.
-    pub fn of(track: &Track<'a>) -> Trail<'a>
+    pub(crate) fn of(track: &Track<'a>) -> Trail<'a>
         ensures is { result ≡ route_of track.now }
         ensures path { IsPath track.now.plan.now }
     {
@@ -56,14 +56,14 @@ impl<'a> Trail<'a> {
     }
 
     /// The time of its last cell, and 0 where it has none.
-    pub fn last(&self) -> u32
+    pub(crate) fn last(&self) -> u32
         ensures { result ≡ last_index self.now.path }
     {
         self.cells.len().saturating_sub(1) as u32
     }
 
     /// The cell where its agent stands at the time, before it comes to rest.
-    pub fn stand(&self, time: u32) -> Option<Cell>
+    pub(crate) fn stand(&self, time: u32) -> Option<Cell>
         ensures { result ≡ stand_at self.now time }
     {
         let (index, many) = (time as usize, self.cells.len());
@@ -75,7 +75,7 @@ impl<'a> Trail<'a> {
     }
 
     /// The cell where its agent comes to rest at the time.
-    pub fn tail(&self, time: u32) -> Option<Cell>
+    pub(crate) fn tail(&self, time: u32) -> Option<Cell>
         ensures { result ≡ tail_at self.now time }
     {
         let index = time as usize;
@@ -87,7 +87,7 @@ impl<'a> Trail<'a> {
     }
 
     /// Its move in the step.
-    pub fn hop(&self, time: u32) -> Option<Hop>
+    pub(crate) fn hop(&self, time: u32) -> Option<Hop>
         ensures { result ≡ hop_at self.now.path time }
     {
         let index = time as usize;
@@ -99,7 +99,7 @@ impl<'a> Trail<'a> {
     }
 
     /// Where its agent stands at the time, before it comes to rest, and where it is one step later.
-    pub fn leg(&self, time: u32) -> Option<Hop>
+    pub(crate) fn leg(&self, time: u32) -> Option<Hop>
         ensures { result ≡ leg_at self.now time }
     {
         leg_from(self.stand(time), self.hop(time))

@@ -6,7 +6,7 @@ use super::Heap;
 
 impl Heap {
     // Exchanges what stands at two places.
-    pub fn swap(&mut self, i: usize, j: usize)
+    pub(crate) fn swap(&mut self, i: usize, j: usize)
         requires synced { IsSyncedHeap self.old }
         requires first { i < self.old.len }
         requires second { j < self.old.len }
@@ -25,7 +25,7 @@ impl Heap {
     }
 
     // Moves a key that may be too small up to where it belongs.
-    pub fn rise(&mut self, at: usize)
+    pub(crate) fn rise(&mut self, at: usize)
         requires synced { IsSyncedHeap self.old }
         requires at { at < self.old.len }
         requires loose { IsLooseUp self.old.keys.items self.old.len at }
@@ -82,7 +82,7 @@ impl Heap {
     }
 
     // Moves the key at a place to where it belongs.
-    pub fn settle(&mut self, at: usize)
+    pub(crate) fn settle(&mut self, at: usize)
         requires synced { IsSyncedHeap self.old }
         requires at { at < self.old.len }
         requires loose { IsLoose self.old.keys.items self.old.len at }

@@ -23,7 +23,11 @@ fn put_ring<W: Sink>(sink: &mut W, ring: &[Agent]) -> Result<(), WriteFailed>
 
 // The line of a cycle: its time, and the agents in their order.
 #[tactic(auto, using(crate::proofs::Fronts::fronts))]
-pub fn put_cycle<W: Sink>(sink: &mut W, time: Step, ring: &[Agent]) -> Result<(), WriteFailed>
+pub(crate) fn put_cycle<W: Sink>(
+    sink: &mut W,
+    time: Step,
+    ring: &[Agent],
+) -> Result<(), WriteFailed>
     ensures ok { OnOk result (Appends (W.held sink.old) (W.held sink.new) (line_text (codes "cycle" ∷ decimal time ∷ map decimal ring.now))) }
     ensures err { OnErr result (AppendsFront (W.held sink.old) (W.held sink.new) (line_text (codes "cycle" ∷ decimal time ∷ map decimal ring.now))) }
     ensures broken { W.broken sink.new ≡ (W.broken sink.old || is_err result) }

@@ -9,7 +9,7 @@ use crate::text::totals::put_count;
 use grid_cells::List;
 
 /// What a report lists, each in a line of its own.
-pub trait Listed {
+pub(crate) trait Listed {
     /// The line.
     ghost line: { Self → List ℕ };
 
@@ -33,7 +33,7 @@ fn put_each<W: Sink, L: Listed>(sink: &mut W, list: &[L]) -> Result<(), WriteFai
 
 /// Puts how many there are, after that word, and their lines.
 #[tactic(auto, using(crate::proofs::Fronts::fronts))]
-pub fn put_list<W: Sink, L: Listed>(
+pub(crate) fn put_list<W: Sink, L: Listed>(
     sink: &mut W,
     name: &[u8],
     list: &List<L>,

@@ -14,7 +14,7 @@ use std::thread::Threads;
 /// # Errors
 ///
 /// Want of memory, or the start of a thread was refused.
-pub fn compare<R: Threads + Wait>(
+pub(crate) fn compare<R: Threads + Wait>(
     rt: &R,
     alloc: Global,
     desk: &mut Desk,

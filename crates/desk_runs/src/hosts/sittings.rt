@@ -12,11 +12,11 @@ use std::sync::atomic::{AtomicU32, Ordering};
 use std::thread::{Promise, PromisedHandle, Scope, Threads};
 
 /// What comes of a planner's session: the pass, and how the session ended.
-pub type Ended = (Pass, Outcome);
+pub(crate) type Ended = (Pass, Outcome);
 
 /// The seat that a thread is to serve, and the pass that it is given.
 #[derive(Drop)]
-pub struct Seat<'a, S: Seats> {
+pub(crate) struct Seat<'a, S: Seats> {
     pub desk: &'a SharedDesk,
     pub seats: &'a S,
     pub number: u32,
@@ -28,13 +28,13 @@ impl<'a, S: Seats> Promise<Ended> for Seat<'a, S> {
 }
 
 /// A planner's session under way, or what stands for it where its thread did not start.
-pub type Sitting<'a, S> = Result<PromisedHandle<Ended, Seat<'a, S>>, Ended>;
+pub(crate) type Sitting<'a, S> = Result<PromisedHandle<Ended, Seat<'a, S>>, Ended>;
 
 /// No planner's number.
-pub const NOBODY: u32 = u32::MAX;
+pub(crate) const NOBODY: u32 = u32::MAX;
 
 /// Serves the planner of that number at its seat, unless its thread did not start.
-pub fn sit<R: Wait, S: Seats>(
+pub(crate) fn sit<R: Wait, S: Seats>(
     rt: &R,
     alloc: Global,
     desk: &SharedDesk,
@@ -56,7 +56,7 @@ pub fn sit<R: Wait, S: Seats>(
 
 /// Begins the planner's session in a thread of its own. Where that does not start, the closure comes
 /// back and is called here, with word that the planner isn't seated: so its pass isn't lost.
-pub fn begin<'s, E: 's, R: Wait + Sync, S: Seats>(
+pub(crate) fn begin<'s, E: 's, R: Wait + Sync, S: Seats>(
     rt: &'s R,
     alloc: Global,
     scope: &'s Scope<'s, E>,

@@ -5,14 +5,14 @@ use scene_edits::{Edit, Thing};
 
 /// The version of a journal's text. Version 1 is of mode Stay.
 #[derive(Clone, Copy, PartialEq, Eq)]
-pub enum Heading {
+pub(crate) enum Heading {
     First,
     Second(Mode),
 }
 
 /// The numbers of the first line of an entry, the last two being how many watches and edits it has.
 #[derive(Clone, Copy, PartialEq, Eq)]
-pub struct Head {
+pub(crate) struct Head {
     pub planner: Planner,
     pub base: u64,
     pub watches: usize,
@@ -21,7 +21,7 @@ pub struct Head {
 
 /// An entry, as far as it is read.
 #[derive(Drop)]
-pub struct Begun {
+pub(crate) struct Begun {
     pub head: Head,
     pub watch: List<Thing>,
     pub edits: List<Edit>,
@@ -29,7 +29,7 @@ pub struct Begun {
 
 /// Where a reader of a journal is.
 #[derive(Drop)]
-pub enum Place {
+pub(crate) enum Place {
     /// Nothing is read.
     Start,
     /// Behind `journal 2`.
