@@ -116,13 +116,14 @@ def crates_below(program):
 
 
 def longest_first(crates):
-    """The crates, those first that have the most lines of code in the longest chain of crates that wait for them."""
+    """The crates, those first that have the most lines of code in the longest chain of crates that wait for them, half of their own counted
+    twice: a long proof that begins late is one that others wait for."""
     behind = dict.fromkeys(crates, 0)
     for crate in reversed(crates):
         behind[crate] += crate.lines
         for it in crate.uses:
             behind[it] = max(behind[it], behind[crate])
-    return sorted(crates, key=lambda it: -behind[it])
+    return sorted(crates, key=lambda it: -behind[it] - it.lines / 2)
 
 
 class Proof:
