@@ -1,26 +1,16 @@
--- What a set gathers from spots, and the ascending list of it.
+-- What is gathered from spots, and the ascending list of it.
 use Rattle.std.proofs.Common.{◌≡◌, ◌⊎◌, inl, inr, ℕ, List, [], ◌∷◌, get_or, Contains, sym, ap, ◌∙◌, subst, arith}
-use Rattle.std.proofs.lemmas.Bool.Decides.{nat_tests}
 use mathlib.Core.Logic.{◌↔◌}
 use Rattle.std.specs.List.{AllPairs}
 use Rattle.std.specs.List.Sorted.{IsStrictlySortedBy}
 use Rattle.std.specs.Ordering.{nat_cmp, ordering_then}
-use Rattle.std.specs.Cmp.{IsTotalOrder}
-use Rattle.std.proofs.lemmas.Cmp.{nat_cmp_total, on_total, then_total}
 use Rattle.std.proofs.lemmas.Map.Keys.{Less-from_sorted}
-use Rattle.std.proofs.lemmas.Map.Lookups.{CmpEqualImpliesEq}
 use Rattle.plan_table.specs.Order.{ComesBefore}
 use Rattle.where_index.specs.declared.spot_sets.Spot.{Spot}
 use Rattle.where_index.specs.declared.passings.Passing.{Passing}
 use Rattle.where_index.specs.Shown.{passing_cmp}
 use Rattle.plan_table.proofs.Order.{Contains-nil, Contains-cons_head, Contains-cons_tail, Contains-cons_cases}
 use Rattle.where_index.proofs.SpotOrder.{then_end}
-
-pub passing_total : IsTotalOrder passing_cmp
-passing_total = then_total (on_total (λ (p : Passing). p.time) nat_cmp_total) (on_total (λ (p : Passing). p.agent) nat_cmp_total)
-
-pub passing_exact : CmpEqualImpliesEq passing_cmp
-passing_exact a b e = grind (arith, nat_tests)
 
 -- ---- what is gathered from spots, by what each shows, and what those that are left show
 module _ {K : Type 0} (R : Spot → K → Type 0) where
@@ -55,7 +45,7 @@ module _ {K : Type 0} (R : Spot → K → Type 0) where
   pub gathers_all : (old now : List K) (spots left : List Spot) → ((x : K) → Show left x → ⊥) → Gathers old spots left now → (x : K) → Contains now x ↔ (Contains old x ⊎ Show spots x)
   gathers_all old now spots left none inv x = grind (arith, inv x, none x)
 
-  -- two lists of spots gathered into an empty set
+  -- two lists of spots gathered into an empty list
   pub gathers_two : (none one two : List K) (stands tails : List Spot) → none ≡ []
       → ((x : K) → Contains one x ↔ (Contains none x ⊎ Show stands x)) → ((x : K) → Contains two x ↔ (Contains one x ⊎ Show tails x))
       → (x : K) → Contains two x ↔ (Show stands x ⊎ Show tails x)

@@ -1,5 +1,5 @@
 -- Whom spots show, and when: words for the program's own steps (this project's choice).
-use Rattle.std.specs.Prelude.{◌≡◌, ◌⊎◌, ℕ, ◌≤◌, List, [], ◌∷◌, Contains}
+use Rattle.std.specs.Prelude.{◌≡◌, ◌⊎◌, ℕ, ◌≤◌, Bool, IsTrue, List, [], ◌∷◌, Contains}
 use Rattle.std.specs.Ordering.{nat_cmp, ordering_then}
 use Rattle.std.specs.declared.cmp.Ordering.{Ordering}
 use Rattle.plan_table.specs.Order.{ListsAll}
@@ -28,6 +28,10 @@ IsPassing s passing = passing_of s ≡ passing
 -- one of the spots is the agent's at that time
 abbrev pub HasPassing : List Spot → Passing → Type 0
 HasPassing spots passing = (s : Spot) × Contains spots s × IsPassing s passing
+
+-- what the comparison calls equal is the same
+abbrev pub EqualsAreSame : {X : Type 0} → (X → X → Bool) → Type 0
+EqualsAreSame eq = (a b : _) → IsTrue (eq a b) → a ≡ b
 
 -- passings compare by time, then agent
 abbrev pub passing_cmp : Passing → Passing → Ordering

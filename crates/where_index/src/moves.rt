@@ -2,13 +2,12 @@ ghost use Rattle.std.specs.Prelude.{◌≡◌, [], OnOk, IfOk, IfErr};
 ghost use Rattle.where_index.specs.Moves.{AreByAgent, HasNone, GainsMove, PutsMove, LosesMover, IsAt, IsGapFor};
 
 use grid_cells::{Agent, Cell, OutOfMemory};
-use smallvec::SmallVec;
 use std::alloc::Global;
 use std::marker::Model;
 
 /// A step of an agent, and the cell that it goes to. A step that stays in its cell is a wait, and no
 /// move.
-#[derive(Clone, Copy, Debug, Default, PartialEq, Eq, PartialOrd, Ord)]
+#[derive(Clone, Copy, Debug, PartialEq, Eq, PartialOrd, Ord)]
 pub struct Move {
     pub agent: Agent,
     pub to: Cell,
@@ -17,7 +16,7 @@ pub struct Move {
 /// The moves out of one cell in one step, by agent.
 #[derive(Drop)]
 pub(crate) struct MoveList {
-    moves: SmallVec<Move, 2>,
+    moves: Vec<Move>,
 }
 
 impl Model for MoveList {
@@ -38,7 +37,7 @@ impl MoveList {
         ensures { result ≡ [] }
     {
         MoveList {
-            moves: SmallVec::new(alloc),
+            moves: Vec::new(alloc),
         }
     }
 

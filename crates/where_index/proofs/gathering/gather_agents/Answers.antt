@@ -1,11 +1,9 @@
 use Rattle.std.proofs.Common.{◌≤◌, List, Contains, sym, subst, arith}
-use Rattle.std.proofs.lemmas.Cmp.{nat_cmp_total}
-use Rattle.std.proofs.lemmas.Map.Lookups.{exact_unsigned}
 use Rattle.plan_table.proofs.Order.{AllPairs-tail}
 use Rattle.where_index.specs.declared.spot_sets.Spot.{Spot}
 use Rattle.where_index.specs.Shown.{IsBy}
 use Rattle.where_index.specs.Spots.{AreRising}
-use Rattle.plan_table.proofs.Sets.{set_gains}
+use Rattle.plan_table.proofs.Sets.{push_iff}
 use Rattle.where_index.proofs.SpotOrder.{first_least}
 use Rattle.where_index.proofs.Gathered.{gathers_none, gathers_more, gathers_all, none_left}
 use Rattle.where_index.proofs.gathering.gather_agents.Goals as goal
@@ -13,7 +11,7 @@ use Rattle.where_index.proofs.gathering.gather_agents.Goals as goal
 pub loop-spot-init : goal.loop-spot-init
 loop-spot-init c =
     let all = c.into_iter-spot-iterator.ensures.into_iter_gives in
-    record { rising = subst AreRising (sym all); gathers = gathers_none (IsBy c.args.time) c.args.found.now.keys c.args.spots _ all }
+    record { rising = subst AreRising (sym all); gathers = gathers_none (IsBy c.args.time) c.args.found.now.items c.args.spots _ all }
 
 pub loop-spot-preserved : goal.loop-spot-preserved
 loop-spot-preserved c =
@@ -21,7 +19,7 @@ loop-spot-preserved c =
     record {
       rising = λ rising. AllPairs-tail (λ (a b : Spot). a.time ≤ b.time) s c.next.new.self (subst AreRising c.in-Some.ensures.steps (c.loop-spot.invariant.rising rising));
       gathers = gathers_more (IsBy c.args.time) _ _ _ c.args.spots _ _ s s.step.agent c.in-Some.ensures.steps (λ x. ((λ h. h.0), (λ h. (h, omega arith)))) c.loop-spot.invariant.gathers
-          (set_gains nat_cmp_total exact_unsigned _ _ _ c.in_ok-insert.ensures.updates);
+          (λ a. rw c.in_ok-push.ensures.ok (push_iff c.loop-spot.found.items s.step.agent a));
     }
 
 pub returns-then-spot-time : goal.returns-then-spot-time

@@ -3,4 +3,4 @@ use Rattle.where_index.proofs.Gathered.{Gathers}
 use Rattle.where_index.proofs.gathering.gather_passings.Given as goal
 
 abbrev pub invariant-loop-spot : goal.invariant-loop-spot
-invariant-loop-spot l = Gathers IsPassing l.fn.found.keys l.fn.spots l.spot-iterator l.found.keys
+invariant-loop-spot l = Gathers IsPassing l.fn.found.items l.fn.spots l.spot-iterator l.found.items
