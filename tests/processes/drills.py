@@ -10,7 +10,7 @@ CORRIDORS = b"type octile\nheight 3\nwidth 7\nmap\n.......\n.@@.@@.\n.......\n"
 BACK_AT_THREE = "blocked 0\nsum 24\nmakespan 3\nbounds 0\ngap 24\nend\naudit same\n"  # each waits a step beside its start, which is its goal
 
 
-def too_many_scripts():
+def scripts_are_counted_before_the_map_is_read():
     """Scripts that are one too many are refused before what stands in the map is looked at."""
     for count, text in ((256, "too many scripts"), (255, "map: not octile")):
         is_fault(["drill", "--map", "none_at_all", *["none_at_all"] * count], text)
@@ -147,7 +147,7 @@ def ten_thousand_readings():
 
 
 def tests():
-    named = (too_many_scripts, eight_planners_fifty_times, threads_that_commit_and_read, scripts_run_at_once, first_of_two_faulty_scripts,
-             ten_thousand_readings, time_of_a_large_audit)
+    named = (scripts_are_counted_before_the_map_is_read, eight_planners_fifty_times, threads_that_commit_and_read, scripts_run_at_once,
+             first_of_two_faulty_scripts, ten_thousand_readings, time_of_a_large_audit)
     for test in named:
         yield test.__name__, test
