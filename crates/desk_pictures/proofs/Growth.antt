@@ -5,6 +5,7 @@ use Rattle.std.specs.Prelude.{Option, Result, OnOk}
 use Rattle.std.specs.Io.KnownBytes.{Appends}
 use Rattle.std.proofs.KnownBytes.{Appends-trans, Appends-nil}
 use Rattle.std.proofs.lemmas.Result.{on_ok_weaker}
+use Rattle.desk_report.proofs.Fronts.{ok-after}
 use Rattle.desk_pictures.specs.Growth.{Grows, GrowsAround}
 
 -- what is appended is some text
@@ -24,10 +25,6 @@ ok-grows r a b text h = on_ok_weaker r (grows-of a b text) h
 pub ok-grows-more : {T E : Type 0} (r : Result T E) (a b c : Option (List ℕ)) → Grows a b → OnOk r (Grows b c) → OnOk r (Grows a c)
 ok-grows-more r a b c g h = on_ok_weaker r (grows-more a b c g) h
 
--- a text, and then the last call's text
-pub ok-text-after : {T E : Type 0} (r : Result T E) (a b c : Option (List ℕ)) (done text : List ℕ) → Appends a b done → OnOk r (Appends b c text) → OnOk r (Appends a c (done ++ text))
-ok-text-after r a b c done text d h = on_ok_weaker r (Appends-trans a b c done text d) h
-
 -- some text, that text, and again some text
 pub grows-around : (a b c d : Option (List ℕ)) (text : List ℕ) → Grows a b → Appends b c text → Grows c d → GrowsAround a d text
 grows-around a b c d text g h k = record {
@@ -45,6 +42,6 @@ sound-on a b c h k = k ∙ or-false b ∙ h
 
 pub ruleset growths = (grows-of, grows-none, grows-more, ok-grows, ok-grows-more)
 
-pub ruleset texts = (ok-text-after, Appends-trans, append_assoc)
+pub ruleset texts = (ok-after, Appends-trans, append_assoc)
 
 pub ruleset around = (ok-grows-around, grows-around)
