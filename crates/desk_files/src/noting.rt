@@ -1,7 +1,7 @@
 //! A writer whose failures are told with the system's reason.
 use std::io::{Error, ErrorKind, Result, Write};
 
-/// A writer that notes the reason for its last failure. To be interrupted is none.
+/// A writer that notes the reason for its first failure. To be interrupted is none.
 #[derive(Drop)]
 pub struct Noting<W: Write + Drop> {
     writer: W,
@@ -14,10 +14,30 @@ impl<W: Write + Drop> Noting<W> {
         Noting { writer, why: None }
     }
 
-    /// The writer, and why it failed last, where it did.
+    /// The writer, and why it failed first, where it did.
     pub fn into_parts(self) -> (W, Option<Error>) {
         let Noting { writer, why } = self;
         (writer, why)
+    }
+
+    /// Sends what the writer holds.
+    ///
+    /// # Errors
+    ///
+    /// What was written has not all gone out, for that reason: also where an earlier write failed.
+    pub fn send(&mut self) -> Result<()> {
+        self.flush()?;
+        match self.why {
+            Some(why) => Err(why),
+            None => Ok(()),
+        }
+    }
+
+    // Keeps the reason for a failure, if it is the first.
+    fn note(&mut self, why: Error) {
+        if self.why.is_none() && why.kind() != ErrorKind::Interrupted {
+            self.why = Some(why);
+        }
     }
 }
 
@@ -26,15 +46,19 @@ impl<W: Write + Drop> Write for Noting<W> {
         match self.writer.write(bytes) {
             Ok(count) => Ok(count),
             Err(why) => {
-                if why.kind() != ErrorKind::Interrupted {
-                    self.why = Some(why);
-                }
+                self.note(why);
                 Err(why)
             }
         }
     }
 
     fn flush(&mut self) -> Result<()> {
-        self.writer.flush()
+        match self.writer.flush() {
+            Ok(()) => Ok(()),
+            Err(why) => {
+                self.note(why);
+                Err(why)
+            }
+        }
     }
 }

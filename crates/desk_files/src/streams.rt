@@ -1,7 +1,8 @@
 //! Standard input and output, joined: what was answered goes out before the program waits for more.
-//! The system's reason for the first failure of each is kept.
+//! The system's reason for a failure of each is kept.
 ghost use Rattle.std.specs.Prelude.{None, ⊤};
 
+use crate::noting::Noting;
 use desk_report::{ReadFailed, Source};
 use grid_cells::OutOfMemory;
 use std::alloc::Global;
@@ -14,16 +15,14 @@ const BUFFER: usize = 8192;
 /// Answers on their way out, in a buffer.
 #[derive(Drop)]
 pub struct Outlet<W: Write + Drop> {
-    writer: BufWriter<W>,
-    unsent: Option<Error>,
+    writer: Noting<BufWriter<W>>,
     unread: Option<Error>,
 }
 
 impl<W: Write + Drop> Outlet<W> {
     pub fn new(writer: BufWriter<W>) -> Outlet<W> {
         Outlet {
-            writer,
-            unsent: None,
+            writer: Noting::new(writer),
             unread: None,
         }
     }
@@ -34,26 +33,12 @@ impl<W: Write + Drop> Outlet<W> {
     ///
     /// What was answered has not all gone out, for that reason.
     pub fn send(&mut self) -> Result<()> {
-        if let Err(why) = self.writer.flush() {
-            self.note(why);
-            return Err(why);
-        }
-        match self.unsent {
-            Some(why) => Err(why),
-            None => Ok(()),
-        }
+        self.writer.send()
     }
 
     /// Why the input could not be read, where it could not.
     pub fn unread(&self) -> Option<Error> {
         self.unread
-    }
-
-    // Keeps the reason for a write that failed, if it is the first.
-    fn note(&mut self, why: Error) {
-        if self.unsent.is_none() && why.kind() != ErrorKind::Interrupted {
-            self.unsent = Some(why);
-        }
     }
 }
 
@@ -72,13 +57,7 @@ impl<'a, W: Write + Drop> Answers<'a, W> {
 impl<W: Write + Drop> Write for Answers<'_, W> {
     fn write(&mut self, bytes: &[u8]) -> Result<usize> {
         match self.outlet.try_borrow_mut() {
-            Ok(mut outlet) => match outlet.writer.write(bytes) {
-                Ok(count) => Ok(count),
-                Err(why) => {
-                    outlet.note(why);
-                    Err(why)
-                }
-            },
+            Ok(mut outlet) => outlet.writer.write(bytes),
             Err(_) => Err(ErrorKind::Other.into()),
         }
     }
