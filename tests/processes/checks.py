@@ -31,10 +31,10 @@ THREE = ("agents 3\nagent 0 settle 2 goal yes bound 2 gap 0\nagent 1 settle 0 go
          "conflicts 0\nblocked 0\nsum none\nmakespan none\nbounds 5\ngap none\nend\n")
 
 
-def quiet(agents, conflicts, kinds, blocked, totals):
+def quiet(agents, finished, conflicts, kinds, blocked, totals):
     names = ("vertex", "edge", "follow", "swap", "cycle")
     counts = "".join(f"{name} {count}\n" for name, count in zip(names, kinds))
-    return f"agents {agents}\nconflicts {conflicts}\n{counts}blocked {blocked}\n" + "sum {}\nmakespan {}\nbounds {}\ngap {}\nend\n".format(*totals)
+    return f"agents {agents}\nfinished {finished}\nconflicts {conflicts}\n{counts}blocked {blocked}\n" + "sum {}\nmakespan {}\nbounds {}\ngap {}\nend\n".format(*totals)
 
 
 # Name, further words, the paths, the report, and whether they solve the problem.
@@ -43,17 +43,17 @@ WORKED = [
     ("swap_that_does_not_count", "--map field --solves vertex edge cycle", SWAP, SWAPPED, "yes"),
     ("swap_that_counts_alone", "--map field --solves swap", SWAP, SWAPPED, "no"),
     ("followers_that_count", "--map field --solves follow", SWAP, SWAPPED, "no"),
-    ("swap_counted", "--map field --quiet", SWAP, quiet(2, 3, (0, 0, 2, 1, 0), 0, (2, 1, 2, 0)), "no"),
+    ("swap_counted", "--map field --quiet", SWAP, quiet(2, 2, 3, (0, 0, 2, 1, 0), 0, (2, 1, 2, 0)), "no"),
     ("together_by_agent", "--map field", TOGETHER, CROSSED, "no"),
     ("closed_cells_always_count", "--map field --solves cycle", TOGETHER, CROSSED, "no"),
-    ("together_counted", "--map field --quiet", TOGETHER, quiet(3, 3, (2, 1, 0, 0, 0), 1, (5, 2, 7, "none")), "no"),
+    ("together_counted", "--map field --quiet", TOGETHER, quiet(3, 3, 3, (2, 1, 0, 0, 0), 1, (5, 2, 7, "none")), "no"),
     ("ring_by_session", "--map field", RING, TURNED, "yes"),
     ("ring_that_counts", "--map field --solves cycle", RING, TURNED, "no"),
     ("ring_that_counts_among_others", "--map field --solves vertex cycle vertex edge", RING, TURNED, "no"),
-    ("ring_counted", "--map field --quiet", RING, quiet(4, 5, (0, 0, 4, 0, 1), 0, (4, 1, 4, 0)), "yes"),
+    ("ring_counted", "--map field --quiet", RING, quiet(4, 4, 5, (0, 0, 4, 0, 1), 0, (4, 1, 4, 0)), "yes"),
     ("parked_by_session", "--map m", COMES, STAYED, "no"),
     ("parked_that_does_not_count", "--map m --mode stay --solves swap", COMES, STAYED, "yes"),
-    ("parked_counts_as_vertex", "--map m --quiet --solves vertex", COMES, quiet(2, 2, (1, 0, 1, 0, 0), 0, (1, 1, 1, 0)), "no"),
+    ("parked_counts_as_vertex", "--map m --quiet --solves vertex", COMES, quiet(2, 2, 2, (1, 0, 1, 0, 0), 0, (1, 1, 1, 0)), "no"),
     ("left_before_it_comes", "--map m --mode disappear", COMES, LEFT, "yes"),
     ("ends_are_start_and_goal", "--map m", b"solution=\n0:(0,0)\n1:(1,0)\n2:(2,0)", ARRIVED, "yes"),
     ("tasks_of_a_scenario", "--map m --scen s", b"path 0 0,0 1,0 2,0", ARRIVED, "yes"),
@@ -63,6 +63,8 @@ WORKED = [
     ("as_many_tasks_as_paths", "--map field --scen tasks", b"path 0 0,0 1,0 2,0", ARRIVED, "yes"),
     ("an_agent_without_a_path", "--map field --scen tasks --agents 2", b"path 0 0,0 1,0 2,0", TWO, "yes"),
     ("an_agent_without_a_path_and_elsewhere", "--map field --scen tasks --agents 3", b"path 0 0,0 1,0 2,0", THREE, "no"),
+    ("finished_counted", "--map field --scen tasks --agents 3 --quiet", b"path 0 0,0 1,0 2,0",
+     quiet(3, 2, 0, (0, 0, 0, 0, 0), 0, ("none", "none", 5, "none")), "no"),
     ("waits_at_the_end", "--map m --scen s", b"Agent 0: (0,0)->(0,1)->(0,2)->(0,2)->(0,2)->", ARRIVED, "yes"),
     ("named_form", "--map m --form time", b"Agent count=1\nsolution=\n0:(0,0),\n1:(1,0),\n2:(2,0),\n", ARRIVED, "yes"),
     ("named_form_by_agent", "--map m --form agent", b"Agent 0: (0,0)->(0,1)->(0,2)", ARRIVED, "yes"),
@@ -72,7 +74,7 @@ WORKED = [
     ("more_is_told_of_faults_alone", "--map field -v", RING, TURNED, "yes"),
 ]
 
-# Words, the paths, the fault's text, and its line, where it has one.
+# Words, the paths, the fault's text, and its line or its cells, where it has one or some.
 FAULTS = [
     ("--map m", b"", "no paths", None),
     ("--map m", b" \n\t\r\n", "no paths", None),
@@ -98,11 +100,14 @@ FAULTS = [
     ("--map m --form session", b"Agent 0: (0,0)->\n", "bad path in line 1", "Agent 0: (0,0)->"),
     ("--map m", b"Agent count=1\nsolution=\n0:(0,0),\n", "bad agent in line 1", "Agent count=1"),
     ("--map map_size", b"path 0 x\n", "bad path in line 1", "path 0 x"),
-    ("--map m --scen s", b"path 0 0,0 2,0\n", "agent 0 at time 1: not-a-step", None),
-    ("--map m --scen s", b"path 0 0,0 0,0 1,0 1,1 2,0\n", "agent 0 at time 3: out-of-map", None),
-    ("--map m --scen s", b"path 0 1,0 2,0\n", "agent 0 at time 0: not-from-start", None),
-    ("--map field --scen tasks", b"solution=\n0:(0,0),(0,2),\n1:(1,0),(0,1),\n2:(2,0),(2,1),\n", "agent 1 at time 2: not-a-step", None),
-    ("--map m", b"starts=(1,0)\nsolution=\n0:(0,0),\n", "agent 0 at time 0: not-from-start", None),
+    ("--map m --scen s", b"path 0 0,0 2,0\n", "agent 0 at time 1: not-a-step", "from 0,0 to 2,0"),
+    ("--map field", b"Agent 0: (0,0)->(1,0)->\nAgent 1: (0,1)->(0,2)->(2,3)->\n", "agent 1 at time 2: not-a-step", "from 2,0 to 3,2"),
+    ("--map field --form time", b"Agent count=1\nsolution=\n0:(0,1),\n1:(3,1),\n", "agent 0 at time 1: not-a-step", "from 0,1 to 3,1"),
+    ("--map m --scen s", b"path 0 0,0 0,0 1,0 1,1 2,0\n", "agent 0 at time 3: out-of-map", "1,1"),
+    ("--map m --scen s", b"path 0 1,0 2,0\n", "agent 0 at time 0: not-from-start", "starts at 0,0 and its path at 1,0"),
+    ("--map field --scen tasks", b"Agent 0: (0,0)\nAgent 1: (0,2)\n", "agent 1 at time 0: not-from-start", "starts at 0,2 and its path at 2,0"),
+    ("--map field --scen tasks", b"solution=\n0:(0,0),(0,2),\n1:(1,0),(0,1),\n2:(2,0),(2,1),\n", "agent 1 at time 2: not-a-step", "from 0,1 to 2,1"),
+    ("--map m", b"starts=(1,0)\nsolution=\n0:(0,0),\n", "agent 0 at time 0: not-from-start", "starts at 1,0 and its path at 0,0"),
     ("--map m", b"path 0 0,0\npath 1 0,0 0,1\n", "agent 1: out-of-map", None),
     ("--map m", b"goals=(3,0)\nsolution=\n0:(0,0),\n", "agent 0: out-of-map", None),
     ("--map m --scen s --agents 1", b"path 0 0,0\npath 1 0,0\n", "agent 1 at time 0: unknown-agent", None),
@@ -133,13 +138,13 @@ def is_checked(words, paths, report, solved):
 
 
 def are_faults():
-    """Each fault of paths is told in one line, and with --verbose its line in a second one; nothing is printed."""
-    for words, paths, text, line in FAULTS:
+    """Each fault of paths is told in one line, and with --verbose its line, or its cells, in a second one; nothing is printed."""
+    for words, paths, text, told in FAULTS:
         put("faulty", paths)
         all_words = ["check", *words.split(), "--paths", "faulty"]
         is_fault(all_words, f"paths: {text}")
-        more = "" if line is None else f"\n  line {text.split()[-1]}: {line}"
-        is_fault([*all_words, "-v"], f"paths: {text}{more}")
+        line = f"line {text.split()[-1]}: " if " in line " in text else ""
+        is_fault([*all_words, "-v"], f"paths: {text}" if told is None else f"paths: {text}\n  {line}{told}")
     remove("faulty")
 
 

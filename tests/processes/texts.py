@@ -35,7 +35,7 @@ FILES = {
     "scen_version": b"version 2\n",
     "scen_fields": b"version 1\n0 m 3 1 0 0 2 0\n",
     "scen_number": b"version 1\n0 m 3 1 0 -1 2 0 2\n",
-    "scen_size": b"version 1\n0 m 4 1 0 0 2 0 2\n",
+    "scen_size": b"version 1\n0\tm\t4\t1\t0\t0\t2\t0\t2\n",
     "scen_outside": b"version 1\n0 m 3 1 3 0 2 0 2\n",
     "journal_line": JOURNAL.replace(b"entry 0 0", b"entry 00 0"),
     "journal_mode": JOURNAL.replace(b"stay", b"disappear"),

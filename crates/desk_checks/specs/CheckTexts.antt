@@ -6,8 +6,13 @@ use Rattle.desk_report.specs.LineText.{line_text, answer_text}
 use Rattle.desk_report.specs.ReportText.{count_line, report_text, totals_text}
 use Rattle.mapf_rules.specs.Kinds.{is_named}
 use Rattle.mapf_rules.specs.declared.kinds.Kinds.{Kinds}
+use Rattle.desk_report.specs.declared.reports.AgentLine.{AgentLine}
 use Rattle.desk_report.specs.declared.reports.Report.{Report}
 use Rattle.desk_serving.specs.Replies.{version_line}
+
+-- how many of the agents are finished
+abbrev pub count_finished : List AgentLine → ℕ
+count_finished lines = count_by (λ line. line.finished) lines
 
 -- how many of the entries are of a kind that is asked about
 abbrev pub count_named : Kinds → List Conflict → ℕ
@@ -28,10 +33,11 @@ kinds_text entries =
     ++ kind_line (codes "swap") (record no_kinds { swap = true }) entries
     ++ kind_line (codes "cycle") (record no_kinds { cycle = true }) entries
 
--- a report without its lists: how long they are, and the totals
+-- a report without its lists: how long they are, how many agents are finished, and the totals
 abbrev pub quiet_text : Report → List ℕ
 quiet_text report =
     count_line (codes "agents") (length report.lines)
+    ++ count_line (codes "finished") (count_finished report.lines)
     ++ count_line (codes "conflicts") (length report.conflicts)
     ++ kinds_text report.conflicts
     ++ count_line (codes "blocked") (length report.visits)

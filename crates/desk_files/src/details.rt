@@ -1,8 +1,9 @@
 //! What more is known of a run's fault, by the texts that it is about.
+use crate::faulty_paths::cells_of;
 use bench_reader::{MapFault, ScenFault};
 use desk_checks::{CheckFault, Problem, RunFault, fault_word};
 use desk_commits::{Refusal, ReplayFault};
-use desk_lines::solver_paths::PathsFault;
+use desk_lines::solver_paths::{Form, PathsFault};
 use desk_serving::JournalFault;
 use plan_table::Mode;
 use scene_edits::{EditFault, Thing};
@@ -16,7 +17,10 @@ const MOST_SHOWN: usize = 400;
 pub struct Texts<'t> {
     pub map: Option<&'t [u8]>,
     pub scen: Option<&'t [u8]>,
+    /// A journal, or a solver's paths.
     pub journal: Option<&'t [u8]>,
+    /// How the paths are written; without it, their first line tells it.
+    pub form: Option<Form>,
 }
 
 /// The problem of the texts, for so many agents in that mode.
@@ -31,7 +35,8 @@ pub fn problem_of(texts: Texts<'_>, agents: Option<u32>, mode: Mode) -> Problem<
 
 /// A fault of a run of which more may be known, by the texts that it is about.
 pub trait Detailed {
-    /// What more is known: the line that the fault names, or the entry that was refused and why.
+    /// What more is known: the line that the fault names, the entry that was refused and why, or the
+    /// cells of a path.
     fn more(&self, alloc: Global, texts: Texts<'_>) -> Option<String>;
 }
 
@@ -53,11 +58,11 @@ impl Detailed for RunFault {
 }
 
 impl Detailed for CheckFault {
-    // In place of a journal there are a solver's paths.
     fn more(&self, alloc: Global, texts: Texts<'_>) -> Option<String> {
         match self {
             CheckFault::Run(fault) => fault.more(alloc, texts),
             CheckFault::Paths(why) => line_of(alloc, texts.journal, paths_line(*why)),
+            CheckFault::Path { agent, time, why } => cells_of(alloc, texts, *agent, *time, *why),
             _ => None,
         }
     }
@@ -138,15 +143,16 @@ fn entry_of(alloc: Global, text: Option<&[u8]>, number: usize, why: Refusal) -> 
     Some(shown)
 }
 
-// One more byte of what is shown: bytes that aren't letters of ASCII are told as a question mark.
+// One more byte of what is shown: a tab is told as a blank, and bytes that aren't letters of ASCII as
+// a question mark.
 fn put_shown(shown: &mut String, byte: u8) -> Result<(), AllocError> {
     if shown.len() >= MOST_SHOWN {
         return Ok(());
     }
-    if (32..127).contains(&byte) {
-        shown.push(char::from(byte))
-    } else {
-        shown.push('?')
+    match byte {
+        b'\t' => shown.push(' '),
+        32..127 => shown.push(char::from(byte)),
+        _ => shown.push('?'),
     }
 }
 

@@ -4,6 +4,7 @@
 
 mod details;
 mod doors;
+mod faulty_paths;
 mod files;
 mod finishing;
 mod looking;

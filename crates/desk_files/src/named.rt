@@ -21,6 +21,7 @@ impl Named {
             map: self.map.as_deref(),
             scen: self.scen.as_deref(),
             journal: self.journal.as_deref(),
+            form: None,
         }
     }
 }

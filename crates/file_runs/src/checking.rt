@@ -31,7 +31,11 @@ pub fn check_files<R: Files + AllocGlobal + Print + Eprint + Threads + Wait>(
         Err(fault) => return Err(ProgramFault::Desk(fault)),
     };
     tell_stage(rt, stages, "checking the paths");
-    let checked = check_texts(rt, named.texts(), words, more);
+    let texts = Texts {
+        form: words.form,
+        ..named.texts()
+    };
+    let checked = check_texts(rt, texts, words, more);
     drop(named);
     match checked {
         Ok(solved) => Ok(solved),
@@ -56,7 +60,7 @@ fn check_texts<R: AllocGlobal + Print + Threads + Wait>(
         alloc,
         problem_of(texts, words.agents, words.mode),
         texts.journal.unwrap_or(b""),
-        words.form,
+        texts.form,
         words.kinds,
         words.quiet,
         words.workers.clamp(1, 64),

@@ -2,9 +2,9 @@
 ghost use Rattle.std.specs.Prelude.{◌≡◌, ◌||◌, is_err, OnOk};
 ghost use Rattle.std.specs.Io.KnownBytes.{Appends};
 ghost use Rattle.desk_report.specs.ReportText.{count_line};
-ghost use Rattle.desk_checks.specs.CheckTexts.{count_named, kind_line, kinds_text, quiet_text};
+ghost use Rattle.desk_checks.specs.CheckTexts.{count_finished, count_named, kind_line, kinds_text, quiet_text};
 
-use desk_report::{Kinds, Report, Sink, WriteFailed, put_count, put_totals};
+use desk_report::{AgentLine, Kinds, Report, Sink, WriteFailed, put_count, put_totals};
 use mapf_rules::Conflict;
 
 // No kind.
@@ -15,6 +15,13 @@ const NONE: Kinds = Kinds {
     swap: false,
     cycle: false,
 };
+
+// How many of the agents are finished.
+fn count_finished(lines: &[AgentLine]) -> usize
+    ensures { result ≡ count_finished lines.now }
+{
+    lines.iter().filter(|line| line.finished).count()
+}
 
 // How many of the entries are of a named kind.
 fn count_named(kinds: Kinds, entries: &[Conflict]) -> usize
@@ -77,7 +84,7 @@ fn put_kinds<W: Sink>(sink: &mut W, entries: &[Conflict]) -> Result<(), WriteFai
 }
 
 /// Writes the report without the agents' lines, the entries and the visits: how many there are of
-/// each, and the totals.
+/// each, how many agents are finished, and the totals.
 ///
 /// # Errors
 /// The sink failed, or took no byte.
@@ -87,7 +94,9 @@ pub(crate) fn put_quiet<W: Sink>(sink: &mut W, report: &Report) -> Result<(), Wr
     ensures broken { W.broken sink.new ≡ (W.broken sink.old || is_err result) }
 {
     let entries = report.conflicts.items();
-    put_count(sink, b"agents", report.lines.items().len())?;
+    let lines = report.lines.items();
+    put_count(sink, b"agents", lines.len())?;
+    put_count(sink, b"finished", count_finished(lines))?;
     put_count(sink, b"conflicts", entries.len())?;
     put_kinds(sink, entries)?;
     put_count(sink, b"blocked", report.visits.items().len())?;

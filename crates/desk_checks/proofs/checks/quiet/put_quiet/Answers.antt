@@ -4,6 +4,7 @@ use Rattle.desk_checks.proofs.checks.quiet.put_quiet.Goals as goal
 
 pub returns-clause-ok : goal.returns-clause-ok
 returns-clause-ok g c =
-    let two = Appends-trans _ _ _ _ _ c.in_ok-put_count.ensures.ok c.in_ok-put_count-2.ensures.ok in
-    let four = Appends-trans _ _ _ _ _ (Appends-trans _ _ _ _ _ two c.in_ok-put_kinds.ensures.ok) c.in_ok-put_count-3.ensures.ok in
-    rw (c.items.ensures, c.items-entries.ensures, c.items-2.ensures) at (ok-after _ _ _ _ _ _ four c.put_totals.ensures.ok)
+    let agents = Appends-trans _ _ _ _ _ c.in_ok-put_count.ensures.ok (rw c.count_finished.ensures at c.in_ok-put_count-2.ensures.ok) in
+    let entries = Appends-trans _ _ _ _ _ (Appends-trans _ _ _ _ _ agents c.in_ok-put_count-3.ensures.ok) c.in_ok-put_kinds.ensures.ok in
+    let all = Appends-trans _ _ _ _ _ entries c.in_ok-put_count-4.ensures.ok in
+    rw (c.items-lines.ensures, c.items-entries.ensures, c.items.ensures) at (ok-after _ _ _ _ _ _ all c.put_totals.ensures.ok)
