@@ -175,6 +175,20 @@ def never_comes():
         want("the end", (status, said), (2, b"audit same\n"))
 
 
+def told_who_is_awaited():
+    """Behind the operator's end it is told who hasn't come yet, where that is wanted, and nothing of who has."""
+    for flag, stages in ([], []), (["-v"], ["east: 1 lines", "operator: 1 lines", "west: hasn't come yet"]):
+        with Hosted(["east", "west"], "--wait", "2", *flag) as hosted:
+            east = Seat("east")
+            east.ask(b"version", b"version 0")
+            hosted.operator.ask(b"version\n", b"version 0\n")
+            hosted.operator.process.stdin.close()
+            east.close()
+            status, said, complained = hosted.end()
+            want("what is told", sorted(complained.decode().splitlines()), [f"mapf_desk: {it}" for it in (*stages, "west: never came")])
+            want("the end", (status, said), (2, b"audit same\n"))
+
+
 def no_files():
     """A planner whose input isn't there, or whose output can't be written."""
     put("east.in", b"close 0,0\n")
@@ -271,6 +285,7 @@ def words_of_host():
 
 
 def tests():
-    named = (one_is_stale, the_operator_goes_first, broken_off_within_a_line, answers_unheard, never_comes, no_files, plain_files)
+    named = (one_is_stale, the_operator_goes_first, broken_off_within_a_line, answers_unheard, never_comes, told_who_is_awaited, no_files,
+             plain_files)
     for test in (*named, last_line_of_the_operator, sixteen_planners, words_of_host):
         yield test.__name__, test

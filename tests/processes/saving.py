@@ -59,6 +59,20 @@ def not_saved_where_no_session_begins():
     remove("kept")
 
 
+def not_saved_over_another_file():
+    """A file that is no journal stays, and no session begins; an empty one makes room for what is saved, and so does each version of a journal."""
+    for text in (MAP, b"journal", b"journals 2\nmode stay\nend 0\n"):
+        put("kept", text)
+        is_fault(["serve", "--map", "m", "--save", "kept"], "can't write kept", ADD)
+        is_fault(["serve", "--map", "m", "--save", "kept", "-v"], "can't write kept\n  not a journal", ADD)
+        is_fault(["host", "--map", "m", "--save", "kept", "nobody"], "can't write kept", ADD)
+        want("the file", bytes_of("kept"), text)
+    for text in (b"", b"journal 1\nend 0\n", JOURNAL):
+        put("kept", text)
+        save("--map m", ADD, "version 1\n", "kept")
+    remove("kept")
+
+
 def broken_session_is_saved():
     """Where the input or the output fails, what was committed before is saved."""
     words = ["serve", "--map", "m", "--save", "desk"]
@@ -148,7 +162,7 @@ def saved_into_a_folder():
 
 
 def tests():
-    for test in (saved, saved_in_another_mode, saved_from_a_map_on_standard_input, not_saved_where_no_session_begins, broken_session_is_saved,
-                 saved_after_a_fault, not_saved_on_a_full_disk, not_saved_where_the_file_became_a_folder, not_saved_where_the_folder_went,
-                 saved_in_place_of_a_link, saved_into_a_folder):
+    for test in (saved, saved_in_another_mode, saved_from_a_map_on_standard_input, not_saved_where_no_session_begins, not_saved_over_another_file,
+                 broken_session_is_saved, saved_after_a_fault, not_saved_on_a_full_disk, not_saved_where_the_file_became_a_folder,
+                 not_saved_where_the_folder_went, saved_in_place_of_a_link, saved_into_a_folder):
         yield test.__name__, test

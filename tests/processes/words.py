@@ -1,8 +1,8 @@
-"""The words themselves: mistakes, help, the version, and what is told where a map is to be typed."""
+"""The words themselves: mistakes, help, the version, and what is told where a map or a session is to be typed."""
 import os
 import pty
 
-from .running import PATIENCE, TOP, is_fault, run, start, want
+from .running import PATIENCE, TOP, is_fault, put, remove, run, start, want
 from .texts import MAP
 
 # Words that the program doesn't have: status 2, a text on standard error, nothing on standard output.
@@ -62,14 +62,28 @@ def on_a_terminal(words, given):
     return process.returncode, said, complained
 
 
+def is_prompted(words, given, answers, prompt):
+    """At a terminal the program says what is to be typed, once, and does all else as elsewhere."""
+    status, said, complained = on_a_terminal(words, given)
+    want("the status and standard output", (status, said), (0, answers))
+    want("whether it says what is to be typed", complained.startswith(prompt), True)
+    want("how often it says so", complained.count(b"mapf_desk: type"), 1)
+
+
 def bare_on_a_terminal():
-    """With no words and a terminal the program says what it waits for; elsewhere, or with a map, it says nothing."""
     for words in ([], ["serve"]):
-        status, said, complained = on_a_terminal(words, MAP + b"version\n")
-        want("standard output", said, b"version 0\n")
-        want("whether it says what it waits for", complained.startswith(b"mapf_desk: type a map first"), True)
-        want("the status", status, 0)
-    want("what it does with a map", on_a_terminal(["serve", "--map", "m"], b"version\n"), (0, b"version 0\n", b""))
+        is_prompted(words, MAP + b"version\nversion\n", b"version 0\n" * 2, b"mapf_desk: type a map first")
+
+
+def session_on_a_terminal():
+    is_prompted(["serve", "--map", "m"], b"version\nversion\n", b"version 0\n" * 2, b"mapf_desk: type a session line")
+    want("what is told of a faulty map", on_a_terminal(["serve", "--map", "map_octile"], b""), (2, b"", b"mapf_desk: map: not octile\n"))
+
+
+def operator_on_a_terminal():
+    put("east.in", b"")
+    is_prompted(["host", "--map", "m", "east"], b"version\nversion\n", b"version 0\nversion 0\naudit same\n", b"mapf_desk: type a session line")
+    remove("east.in", "east.out")
 
 
 def tests():
@@ -77,5 +91,5 @@ def tests():
         yield f"words: {words}", lambda words=words: are_refused_words(words.split())
     for words in ("--help", "serve --help", "audit --help", "drill --help", "check --help", "help serve"):
         yield words, lambda words=words: is_help(words.split())
-    for test in (word_that_is_no_text, version, bare_on_a_terminal):
+    for test in (word_that_is_no_text, version, bare_on_a_terminal, session_on_a_terminal, operator_on_a_terminal):
         yield test.__name__, test

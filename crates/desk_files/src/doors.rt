@@ -44,6 +44,11 @@ impl Doors {
         *self.stage.lock(rt)
     }
 
+    /// Whether the planner may still come.
+    pub fn is_awaited<R: Wait>(&self, rt: &R) -> bool {
+        matches!(self.stage(rt), Stage::Input | Stage::Output)
+    }
+
     /// Goes on from one stage to another, where it stands at that one; says whether it did.
     pub fn go<R: Wait>(&self, rt: &R, from: Stage, to: Stage) -> bool {
         let mut stage = self.stage.lock(rt);

@@ -3,11 +3,14 @@ use crate::telling::More;
 use desk_checks::Fault;
 use std::alloc::Global;
 use std::fs;
-use std::io::{Error, ErrorKind, Result as Done};
+use std::io::{Error, ErrorKind, Read, Result as Done};
 use std::rt::Files;
 
-/// Looks whether a desk's journal can be saved in the file: its folder is there, and the file is no
-/// folder and no device.
+// How each journal begins.
+const HEAD: &[u8; 8] = b"journal ";
+
+/// Looks whether a desk's journal can be saved in the file: its folder is there, and the file isn't, or
+/// is a journal, or empty.
 ///
 /// # Errors
 ///
@@ -53,7 +56,21 @@ fn is_ready<R: Files>(rt: &R, file: &str) -> Done<()> {
         if !there.is_file() {
             return Err(Error::new(ErrorKind::InvalidInput, "not a file"));
         }
+        if there.len() > 0 {
+            begins_a_journal(rt, file)?;
+        }
     }
     let _folder = fs::open(rt, folder_of(file))?;
+    Ok(())
+}
+
+// Looks whether the file begins as a journal does: another one may be a map, named by mistake.
+fn begins_a_journal<R: Files>(rt: &R, file: &str) -> Done<()> {
+    let mut first = [0u8; HEAD.len()];
+    let mut opened = fs::open(rt, file)?;
+    let read = opened.read_exact(&mut first);
+    if read.is_err() || first != *HEAD {
+        return Err(Error::new(ErrorKind::InvalidInput, "not a journal"));
+    }
     Ok(())
 }

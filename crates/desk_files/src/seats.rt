@@ -3,29 +3,25 @@ ghost use Rattle.std.specs.Prelude.{None};
 ghost use Rattle.desk_checks.specs.Seats.{Sits};
 
 use crate::doors::{Doors, Stage};
+use crate::prompting::Prompting;
 use crate::sittings::sit_between;
 use desk_checks::{Outcome, SeatFault, Seats};
 use desk_commits::Counter;
 use desk_serving::ServeFault;
+use desk_words::SESSION_PROMPT;
 use std::alloc::{AllocError, Global};
 use std::fs::OpenOptions;
+use std::io;
+use std::io::IsTerminal;
 use std::sync::Wait;
-use std::time::Duration;
-use std::{io, thread};
-
-/// How many times in a second it is looked whether a planner has come.
-const LOOKS: u32 = 100;
-
-/// How many times it is looked whether a thread has gone on that waits no longer.
-const LAST_LOOKS: u32 = 1_000;
 
 /// The seats of the operator, 0, and of the planners from 1 on.
 #[derive(Drop)]
 pub struct Pipes<'a> {
-    host: &'a HostRuntime,
-    doors: Vec<Doors>,
+    pub(crate) host: &'a HostRuntime,
+    pub(crate) doors: Vec<Doors>,
     // Whether it is told who has come and gone.
-    stages: bool,
+    pub(crate) stages: bool,
 }
 
 impl<'a> Pipes<'a> {
@@ -56,9 +52,11 @@ impl<'a> Pipes<'a> {
         ensures { Sits C.counting None counter.old counter.new result }
     {
         // (lent, since standard input has its buffer in itself)
-        let mut input = self.host.reader();
+        let mut reader = self.host.reader();
+        let typed = self.host.stdin().is_terminal();
+        let input = Prompting::new(self.host, &mut reader, typed, SESSION_PROMPT);
         let output = io::writer(self.host);
-        let ended = sit_between(alloc, counter, &mut input, output, false);
+        let ended = sit_between(alloc, counter, input, output, false);
         self.tell("operator", &ended);
         ended
     }
@@ -113,55 +111,6 @@ impl<'a> Pipes<'a> {
             }
         }
     }
-
-    /// Waits so many seconds until each planner has come, and for those that haven't no longer.
-    pub fn wait<R: Wait>(&self, rt: &R, seconds: u32) {
-        for _ in 0..seconds {
-            for _ in 0..LOOKS {
-                if self.have_come(rt) {
-                    return;
-                }
-                self.pause();
-            }
-        }
-        for doors in &self.doors {
-            self.dismiss(rt, doors);
-        }
-    }
-
-    fn have_come<R: Wait>(&self, rt: &R) -> bool {
-        for doors in &self.doors {
-            if doors.stage(rt) != Stage::Past {
-                return false;
-            }
-        }
-        true
-    }
-
-    fn pause(&self) {
-        let _slept = thread::sleep(self.host, Duration::from_millis(10));
-    }
-
-    // Lets a thread that waits for a planner go on: a pipe that is opened for reading and writing
-    // opens at once, and its other end with it.
-    fn dismiss<R: Wait>(&self, rt: &R, doors: &Doors) {
-        let file = if doors.go(rt, Stage::Input, Stage::Missed) {
-            doors.inward.as_str()
-        } else if doors.go(rt, Stage::Output, Stage::Missed) {
-            doors.outward.as_str()
-        } else {
-            return;
-        };
-        let mut both = OpenOptions::new();
-        both.read(true).write(true);
-        let _held = both.open(self.host, file);
-        for _ in 0..LAST_LOOKS {
-            if doors.stage(rt) == Stage::Past {
-                return;
-            }
-            self.pause();
-        }
-    }
 }
 
 impl<'a> Seats for Pipes<'a> {
@@ -175,7 +124,9 @@ impl<'a> Seats for Pipes<'a> {
         counter: &mut C,
     ) -> Outcome {
         let Some(place) = number.checked_sub(1) else {
-            return self.operate(alloc, counter);
+            let ended = self.operate(alloc, counter);
+            self.tell_awaited(rt);
+            return ended;
         };
         let Some(doors) = self.doors.get(place as usize) else {
             return Err(SeatFault::NoThread);

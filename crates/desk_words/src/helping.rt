@@ -3,10 +3,15 @@
 /// The program's name and version, and the checker's logic that it is proved with.
 pub const VERSION: &str = "mapf_desk 1.0.0\nproved with rattle-kit-13b logic dac8208d650f15bf";
 
-/// What is said on a terminal where a map is to be typed.
-pub const WAITS: &str = "\
+/// What is told where a map is to be typed, and a session after it.
+pub(crate) const MAP_PROMPT: &str = "\
 mapf_desk: type a map first: type octile, height H, width W, map, and H rows of W letters, . for
 open and @ for closed; then a session line at a time, as: agent 0 0,0 2,0. --help tells more, and
+the end of input (Ctrl-D) ends the session.";
+
+/// What is told where a session is to be typed.
+pub const SESSION_PROMPT: &str = "\
+mapf_desk: type a session line at a time, as: agent 0 0,0 2,0, or: report. --help tells more, and
 the end of input (Ctrl-D) ends the session.";
 
 pub(crate) const ABOUT: &str =
@@ -43,8 +48,9 @@ An edit is committed at once:
 Several edits in one commit, all or none: begin, edits and watch lines, then commit or cancel.
 Questions: version; report; distance A X,Y; solves KIND.. of vertex, edge, follow, swap, cycle.
 
-With --save F the journal is in F when the session is over: Ctrl-D ends it, Ctrl-C kills it and saves
-nothing. With --journal F the next one goes on from there; both may name one file.
+With --save F the journal is in F when the session is over, in place of one that was there: Ctrl-D
+ends it, Ctrl-C kills it and saves nothing. With --journal F the next session goes on from there; both
+may name one file.
 
 Statuses: 0 the input has ended; 2 a fault, told on standard error.
 
@@ -78,8 +84,9 @@ them, and reads their answers from NAME.out: two pipes that were made by mkfifo,
 first is planner 1. Standard input and output are the operator's session, planner 0. An answer goes
 out before more is read. A planner that breaks off, also within a line, harms nobody else.
 
-When all inputs have ended the journal is saved, with --save F, and audit same is printed where a
-report made from scratch is that of the desk, or audit differs.
+A planner that doesn't come is waited for, with --wait S no longer than S seconds. When all inputs have
+ended the journal is saved, with --save F, and audit same is printed where a report made from scratch
+is that of the desk, or audit differs.
 
 Statuses: 0 audit same; 1 audit differs; 2 a fault, told on standard error with the planner's NAME.
 

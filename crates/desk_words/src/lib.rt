@@ -10,7 +10,7 @@ mod ranges;
 mod reading;
 mod words;
 
-pub use helping::{VERSION, WAITS};
+pub use helping::{SESSION_PROMPT, VERSION};
 pub use reading::read_words;
 pub use words::{
     Asked, AuditWords, CheckWords, DrawWords, DrillWords, HostWords, ServeWords, Words,

@@ -98,7 +98,7 @@ pub(crate) const JOURNAL_OF_A_PICTURE: Argument = Argument {
 
 pub(crate) const SAVE: Argument = Argument {
     name: "save",
-    help: "Where the journal is saved at the end of the session",
+    help: "Where the journal is saved at the end of the session, in place of one that is there",
     ..FILE
 };
 

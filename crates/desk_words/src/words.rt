@@ -1,3 +1,4 @@
+use crate::helping::{MAP_PROMPT, SESSION_PROMPT};
 use clap::Error;
 use desk_lines::solver_paths::Form;
 use grid_cells::Agent;
@@ -18,16 +19,6 @@ pub enum Words {
     Draw(DrawWords),
 }
 
-impl Words {
-    /// Whether a map is to come on standard input.
-    pub fn waits_for_a_map(&self) -> bool {
-        match self {
-            Words::Serve(serve) => serve.map.is_none(),
-            _ => false,
-        }
-    }
-}
-
 /// The words of `serve`.
 #[derive(Drop)]
 pub struct ServeWords {
@@ -43,6 +34,16 @@ pub struct ServeWords {
     pub journal: Option<&'static str>,
     /// The file that the journal is saved in.
     pub save: Option<&'static str>,
+}
+
+impl ServeWords {
+    /// What is told a person who is to type the session, and the map before it where none is named.
+    pub fn prompt(&self) -> &'static str {
+        match self.map {
+            None => MAP_PROMPT,
+            Some(_) => SESSION_PROMPT,
+        }
+    }
 }
 
 /// The words of `audit`.

@@ -2,7 +2,7 @@
 use crate::closing::{end_desk, fault_of, note_end, outcome_of};
 use desk_checks::{Fault, RunFault};
 use desk_core::{Desk, Limit, MOST_ENTRIES};
-use desk_files::{Answers, Lines, More, Outlet, Texts, read_named, send_last};
+use desk_files::{Answers, Lines, More, Outlet, Prompting, Texts, read_named, send_last};
 use desk_report::Spout;
 use desk_serving::ServeFault;
 use desk_words::ServeWords;
@@ -15,7 +15,7 @@ use text_runs::serve_desk;
 
 /// Serves a session from standard input to standard output, as the words ask for, and saves the
 /// desk's journal where they ask for it. What was answered before a fault has gone out, and is
-/// saved.
+/// saved. Who types it is told what to type.
 ///
 /// # Errors
 ///
@@ -24,6 +24,7 @@ use text_runs::serve_desk;
 pub fn serve_streams<R: Files + AllocGlobal + Print + Eprint + Input>(
     rt: &R,
     words: &ServeWords,
+    typed: bool,
     more: &mut More,
     verbose: bool,
 ) -> Result<(), Fault> {
@@ -32,8 +33,9 @@ pub fn serve_streams<R: Files + AllocGlobal + Print + Eprint + Input>(
         Err(fault) => return Err(fault),
     };
     // (lent, since standard input has its buffer in itself)
-    let (mut input, output) = (rt.reader(), io::writer(rt));
-    let ended = serve_between(rt, named.texts(), words, &mut input, output, more, verbose);
+    let (mut reader, output) = (rt.reader(), io::writer(rt));
+    let input = Prompting::new(rt, &mut reader, typed, words.prompt());
+    let ended = serve_between(rt, named.texts(), words, input, output, more, verbose);
     drop(named);
     ended
 }

@@ -1,5 +1,5 @@
 //! The word `host`.
-use crate::DIFFERS;
+use crate::{DIFFERS, print_line};
 use desk_core::Desk;
 use desk_files::{FAULT, More, Pipes};
 use desk_runs::{Fault, HostEnd, HostFault, RunFault, host_planners};
@@ -58,12 +58,9 @@ fn end_hosted<R: Files + AllocGlobal + Print>(
         return Err(out_of_memory());
     };
     let line = if same { "audit same" } else { "audit differs" };
-    match println!(rt; "{line}") {
+    match print_line(rt, line, more) {
         Ok(()) => Ok(status_of(end, same)),
-        Err(why) => {
-            more.reason(rt.alloc(), &why);
-            Err(ProgramFault::Desk(Fault::Run(RunFault::WriteFailed)))
-        }
+        Err(fault) => Err(fault),
     }
 }
 

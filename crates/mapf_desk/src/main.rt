@@ -7,7 +7,7 @@ mod hosting;
 
 use desk_files::{FAULT, More, tell, tell_more, tell_served};
 use desk_runs::{Fault, RunFault};
-use desk_words::{Asked, VERSION, WAITS, Words, read_words};
+use desk_words::{Asked, VERSION, Words, read_words};
 use drilling::drill_files;
 use file_runs::{ProgramFault, audit_files, check_files, draw_files, serve_streams};
 use hosting::host_files;
@@ -34,11 +34,16 @@ fn obey<R: Files + AllocGlobal + Print + Eprint + Input + Threads + Wait + Sync>
     stages: bool,
 ) -> Result<ExitCode, ProgramFault> {
     match words {
-        Words::Version => tell_version(rt, more),
-        Words::Serve(serve) => match serve_streams(rt, serve, more, verbose) {
+        Words::Version => match print_line(rt, VERSION, more) {
             Ok(()) => Ok(ExitCode::SUCCESS),
-            Err(fault) => Err(ProgramFault::Desk(fault)),
+            Err(fault) => Err(fault),
         },
+        Words::Serve(serve) => {
+            match serve_streams(rt, serve, runtime.stdin().is_terminal(), more, verbose) {
+                Ok(()) => Ok(ExitCode::SUCCESS),
+                Err(fault) => Err(ProgramFault::Desk(fault)),
+            }
+        }
         Words::Audit(audit) => match audit_files(rt, audit, stages, more) {
             Ok(()) => Ok(ExitCode::SUCCESS),
             Err(fault) => Err(ProgramFault::Desk(fault)),
@@ -61,10 +66,14 @@ fn obey<R: Files + AllocGlobal + Print + Eprint + Input + Threads + Wait + Sync>
     }
 }
 
-// Prints the program's name and what it is proved with.
-fn tell_version<R: AllocGlobal + Print>(rt: &R, more: &mut More) -> Result<ExitCode, ProgramFault> {
-    match println!(rt; "{VERSION}") {
-        Ok(()) => Ok(ExitCode::SUCCESS),
+// Prints a line; where it isn't taken, the reason for that is noted.
+fn print_line<R: AllocGlobal + Print>(
+    rt: &R,
+    line: &str,
+    more: &mut More,
+) -> Result<(), ProgramFault> {
+    match println!(rt; "{line}") {
+        Ok(()) => Ok(()),
         Err(why) => {
             more.reason(rt.alloc(), &why);
             Err(ProgramFault::Desk(Fault::Run(RunFault::WriteFailed)))
@@ -106,9 +115,6 @@ fn main(rt: HostRuntime) -> ExitCode {
         Asked::Refused(error) => return tell_words(&rt, error),
         Asked::NoMemory => return tell(&rt, RunFault::OutOfMemory),
     };
-    if words.waits_for_a_map() && rt.stdin().is_terminal() {
-        let _told = eprintln!(rt; "{WAITS}");
-    }
     let mut more = More::none();
     let status = match obey(
         &rt,

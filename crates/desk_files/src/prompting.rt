@@ -1,0 +1,35 @@
+//! A reader that tells a person what is to be typed.
+use std::io::{Read, Result};
+
+/// A reader that is lent, and what is told on standard error before it is first read, if anything.
+#[derive(Drop)]
+pub struct Prompting<'a, R: Eprint, I: Read> {
+    rt: &'a R,
+    reader: &'a mut I,
+    prompt: Option<&'static str>,
+}
+
+impl<'a, R: Eprint, I: Read> Prompting<'a, R, I> {
+    /// The reader, which hasn't been read yet, with that prompt where a person is to type.
+    pub fn new(
+        rt: &'a R,
+        reader: &'a mut I,
+        typed: bool,
+        prompt: &'static str,
+    ) -> Prompting<'a, R, I> {
+        Prompting {
+            rt,
+            reader,
+            prompt: if typed { Some(prompt) } else { None },
+        }
+    }
+}
+
+impl<R: Eprint, I: Read> Read for Prompting<'_, R, I> {
+    fn read(&mut self, bytes: &mut [u8]) -> Result<usize> {
+        if let Some(prompt) = self.prompt.take() {
+            let _told = eprintln!(self.rt; "{prompt}");
+        }
+        self.reader.read(bytes)
+    }
+}
