@@ -74,7 +74,8 @@ BODIES = [
     ("reason_of_a_full_buffer_dropped", "finishing.rt", "Some(why) => ‹more.reason(alloc, &why)›", "()", "reasons_of_a_full_device"),
     ("reason_of_a_last_line_dropped", "hosting.rt", "print_line(rt, line, more)",
      "{ let mut unsaid = More::none(); print_line(rt, line, &mut unsaid) }", "reasons_of_a_full_device"),
-    ("reason_of_a_version_dropped", "main.rt", "more.reason(rt.alloc(), &why)", "()", "reasons_of_a_full_device"),
+    ("reason_of_a_version_dropped", "main.rt", "print_line(rt, VERSION, more)",
+     "{ let mut unsaid = More::none(); print_line(rt, VERSION, &mut unsaid) }", "reasons_of_a_full_device"),
     ("line_of_another_text", "details.rt", "RunFault::Map(why) => line_of(alloc, ‹texts.map›", "texts.scen", "reason: serve --map map_octile"),
     # How a journal is saved
     ("saved_file_not_named", "saving.rt", "fs::rename(rt, beside, file)?", "()", "saved"),
