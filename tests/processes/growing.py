@@ -104,9 +104,11 @@ def fed_by_a_pipe(file="fed"):
     """The file is a pipe, so that a program that reads it last waits there; each growth is a mapping of its own."""
     remove(file)
     os.mkfifo(file)
-    with growths_apart():
-        yield
-    remove(file)
+    try:
+        with growths_apart():
+            yield
+    finally:
+        remove(file)
 
 
 def fed_to(process, file, text, pages, given=None):
