@@ -2,7 +2,7 @@
 """How many commits a second planner processes make on one desk, and how long a report is waited for meanwhile.
 
 host_load.py [PROGRAM [SECONDS]]   prints a line for 1, 4 and 16 planners, each on agents of its own of demo/warehouse.
-Not a part of the gate: docs/SPEED.md has what came out.
+Not a part of the gate: docs/EARLIER_SPEED.md has what came out.
 """
 import os
 import subprocess
