@@ -30,6 +30,12 @@ def stopped(*_):
     raise Wrong(f"not done after {LONGEST} seconds")
 
 
+def tell(line=""):
+    """Tells what is tried, in a line that changes, where somebody watches."""
+    if sys.stderr.isatty():
+        print(f"\r\033[K{line[:100]}", end="", file=sys.stderr, flush=True)
+
+
 def passes(name, test):
     """Whether the test passes; what it finds wrong is printed."""
     signal.alarm(LONGEST)
@@ -37,6 +43,7 @@ def passes(name, test):
         test()
         return True
     except (Wrong, OSError, subprocess.SubprocessError) as why:
+        tell()
         print(f"{name}: FAILED: {why}", flush=True)
         return False
     finally:
@@ -57,7 +64,11 @@ def main():
         os.chdir(folder)
         for name, text in FILES.items():
             put(name, text)
-        passed = sum(passes(name, test) for name, test in tests)
+        passed = 0
+        for number, (name, test) in enumerate(tests, 1):
+            tell(f"{number} of {len(tests)}: {name}")
+            passed += passes(name, test)
+        tell()
         os.chdir(TOP)
     print(f"{passed} passed, {len(tests) - passed} failed")
     return 0 if passed == len(tests) else 1
