@@ -1,18 +1,18 @@
 //! What the program says of itself.
 
 /// The program's name and version, and the checker's logic that it is proved with.
-pub const VERSION: &str = "mapf_desk 1.0.0\nproved with rattle-kit-13b logic dac8208d650f15bf";
+pub const VERSION: &str = "mapf_desk 1.0.0\nproved with rattle-kit-13f logic dac8208d650f15bf";
 
 /// What is told where a map is to be typed, and a session after it.
 pub(crate) const MAP_PROMPT: &str = "\
 mapf_desk: type a map first: type octile, height H, width W, map, and H rows of W letters, . for
-open and @ for closed; then a session line at a time, as: agent 0 0,0 2,0. --help tells more, and
-the end of input (Ctrl-D) ends the session.";
+open and @ for closed; then a session line at a time, as: agent 0 0,0 2,0. The end of input (Ctrl-D)
+ends the session; mapf_desk serve --help, typed in a shell, tells all lines.";
 
 /// What is told where a session is to be typed.
 pub const SESSION_PROMPT: &str = "\
-mapf_desk: type a session line at a time, as: agent 0 0,0 2,0, or: report. --help tells more, and
-the end of input (Ctrl-D) ends the session.";
+mapf_desk: type a session line at a time, as: agent 0 0,0 2,0, or: report. The end of input (Ctrl-D)
+ends the session; mapf_desk serve --help, typed in a shell, tells all lines.";
 
 pub(crate) const ABOUT: &str =
     "A live plan desk for multi-agent path finding: it takes planners' edits of one \
@@ -30,8 +30,8 @@ Three lines of a session, and what they are answered:
   path 0 0,0 1,0 2,0         version 2
   solves vertex swap         solves yes
 
-Statuses: 0 done; 1 the paths that were checked solve nothing, or an audit differs; 2 a
-fault, told on standard error in one line, or in two with --verbose where more is known of it.
+Statuses: 0 done; 1 the paths that were checked are no solution, or an audit differs; 2 a fault,
+told on standard error in one line, or in two with --verbose where more is known of it.
 All lines, files and faults: docs/FORMATS.md, byte for byte; the rules: docs/RULES.md.
 
 Example:
@@ -47,6 +47,8 @@ An edit is committed at once:
   goal A X,Y            another goal          open X,Y  close X,Y   a cell of the map
 Several edits in one commit, all or none: begin, edits and watch lines, then commit or cancel.
 Questions: version; report; distance A X,Y; solves KIND.. of vertex, edge, follow, swap, cycle.
+What solvers call an edge conflict, two agents that change places, is swap; edge is two agents that
+make the same move.
 
 With --save F the journal is in F when the session is over, in place of one that was there: Ctrl-D
 ends it, Ctrl-C kills it and saves nothing. With --journal F the next session goes on from there; both
@@ -103,7 +105,9 @@ Starts and goals are the scenario's first tasks; without a scenario they are wha
 says, and else the first and the last cells of the paths.
 
 Printed are the report, as audit prints it, and solves yes or solves no: yes where every agent comes
-to its goal, no path crosses a closed cell, and there is no conflict of the kinds that count.
+to its goal, no path crosses a closed cell, and there is no conflict of the kinds that count. What
+solvers call an edge conflict, two agents that change places, is swap; edge is two agents that make
+the same move.
 
 Statuses: 0 solves yes; 1 solves no; 2 a fault, told on standard error: there is no verdict.
 
