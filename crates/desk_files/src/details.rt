@@ -1,5 +1,5 @@
 //! What more is known of a run's fault, by the texts that it is about.
-use crate::faulty_paths::cells_of;
+use crate::faulty_paths::{cells_of, ends_of};
 use bench_reader::{MapFault, ScenFault};
 use desk_checks::{CheckFault, Problem, RunFault, fault_word};
 use desk_commits::{Refusal, ReplayFault};
@@ -62,6 +62,7 @@ impl Detailed for CheckFault {
         match self {
             CheckFault::Run(fault) => fault.more(alloc, texts),
             CheckFault::Paths(why) => line_of(alloc, texts.journal, paths_line(*why)),
+            CheckFault::Agent { agent, .. } => ends_of(alloc, texts, *agent),
             CheckFault::Path { agent, time, why } => cells_of(alloc, texts, *agent, *time, *why),
             _ => None,
         }
