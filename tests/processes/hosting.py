@@ -177,7 +177,7 @@ def never_comes():
 
 def told_who_is_awaited():
     """Behind the operator's end it is told who hasn't come yet, where that is wanted, and nothing of who has."""
-    for flag, stages in ([], []), (["-v"], ["east: 1 lines", "operator: 1 lines", "west: hasn't come yet"]):
+    for flag, stages in ([], []), (["-v"], ["east: 1 line", "east: has come", "operator: 1 line", "west: hasn't come yet"]):
         with Hosted(["east", "west"], "--wait", "2", *flag) as hosted:
             east = Seat("east")
             east.ask(b"version", b"version 0")

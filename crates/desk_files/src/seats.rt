@@ -20,7 +20,7 @@ use std::sync::Wait;
 pub struct Pipes<'a> {
     pub(crate) host: &'a HostRuntime,
     pub(crate) doors: Vec<Doors>,
-    // Whether it is told who has come and gone.
+    // Whether it is told who comes and goes.
     pub(crate) stages: bool,
 }
 
@@ -89,6 +89,9 @@ impl<'a> Pipes<'a> {
         if !doors.go(rt, Stage::Output, Stage::Past) {
             return Err(SeatFault::NeverCame);
         }
+        if self.stages {
+            let _told = eprintln!(self.host; "mapf_desk: {}: has come", doors.name);
+        }
         sit_between(alloc, counter, input, output, true)
     }
 
@@ -106,7 +109,8 @@ impl<'a> Pipes<'a> {
             }
             Ok(lines) => {
                 if self.stages {
-                    let _told = eprintln!(self.host; "mapf_desk: {name}: {lines} lines");
+                    let what = if *lines == 1 { "line" } else { "lines" };
+                    let _told = eprintln!(self.host; "mapf_desk: {name}: {lines} {what}");
                 }
             }
         }
