@@ -98,13 +98,14 @@ def through_windows(session, workers):
     with Hosted(["east"], *words, ground=session.scene[1]) as hosted:
         hosted.operator.send(session.text)
         hosted.operator.process.stdin.close()
-        want("the operator's end", hosted.operator.process.stderr.readline(), b"mapf_desk: operator: %d lines\n" % session.count)
+        count = b"1 line" if session.count == 1 else b"%d lines" % session.count
+        want("the operator's end", hosted.operator.process.stderr.readline(), b"mapf_desk: operator: %s\n" % count)
         [east] = hosted.seats()
         east.send(b"report\n")
         heard = [east.hear() or b"" for _ in range(session.report.count("\n"))]
         want("the report", b"\n".join([*heard, b""]).decode(), session.report)
         east.close()
-        hosted.ends(0, session.answers.encode() + b"audit same\n", b"mapf_desk: east: 1 lines\n")
+        hosted.ends(0, session.answers.encode() + b"audit same\n", b"mapf_desk: east: has come\nmapf_desk: east: 1 line\n")
     is_saved_again(session)
     lines, answers = session.going_on()
     put("west.in", lines)
