@@ -176,7 +176,7 @@ def never_comes():
 
 
 def told_who_is_awaited():
-    """Behind the operator's end it is told who hasn't come yet, where that is wanted, and nothing of who has."""
+    """Where that is wanted it is told who comes, whose session ends, and behind the operator's end who hasn't come yet."""
     for flag, stages in ([], []), (["-v"], ["east: 1 line", "east: has come", "operator: 1 line", "west: hasn't come yet"]):
         with Hosted(["east", "west"], "--wait", "2", *flag) as hosted:
             east = Seat("east")
