@@ -11,7 +11,7 @@ import tempfile
 import time
 
 TOP = os.path.dirname(os.path.dirname(os.path.abspath(__file__)))
-PROGRAM, RUNS, FILES, READERS = "mapf_desk", "file_runs", "desk_files", "desk_words"
+PROGRAM, RUNS, FILES, READERS = "mapf_desk", "file_runs", "desk_io", "desk_cli"
 WRONG, TOLD = "MAPF_DESK_WRONG", "MAPF_DESK_TOLD"
 BEGIN, END = "‹", "›"
 

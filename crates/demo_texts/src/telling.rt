@@ -1,12 +1,12 @@
 //! What words are read as, in a line. What is as it is where no word names it is left out.
 use clap::Error;
-use desk_lines::solver_paths::Form;
-use desk_report::Kinds;
-use desk_words::{
+use desk_cli::{
     Asked, AuditWords, CheckWords, DrawWords, DrillWords, HostWords, ServeWords, Words,
 };
+use desk_report::Kinds;
 use grid_cells::Agent;
 use plan_table::Mode;
+use session_lines::solver_paths::Form;
 use std::alloc::AllocError;
 
 /// What words are read as.

@@ -1,7 +1,7 @@
 //! Lists of words behind the program's name.
 use crate::telling::put_asked;
 use bstr::ByteSlice;
-use desk_words::read_words;
+use desk_cli::read_words;
 use std::alloc::{AllocError, Global};
 
 // The words of a line, behind the program's name. A pair of quotes stands for an empty word.

@@ -2,7 +2,7 @@
 use Rattle.std.specs.Prelude.{ℕ, ◌≤◌, Option, List, length}
 use Rattle.std.specs.Option.{ForSome}
 use Rattle.scene_edits.specs.Scene.{SceneState}
-use Rattle.desk_books.specs.Books.{BooksState, AreOf}
+use Rattle.live_report.specs.Books.{BooksState, AreOf}
 use Rattle.desk_commits.specs.Entries.{Entry}
 use Rattle.desk_commits.specs.Stamps.{AreOnMap, WhereTheyStand}
 use Rattle.desk_commits.specs.declared.stamps.Stamps.{Stamps}

@@ -6,8 +6,8 @@ ghost use Rattle.desk_commits.specs.Commits.{IsCurrent, Refuses, Committed};
 ghost use Rattle.desk_core.specs.Kept.{WhereBooksStand};
 
 use crate::desks::Desk;
-use desk_books::Books;
 use desk_commits::{Commit, Refusal, Stamps, first_stale, with_entry};
+use live_report::Books;
 use scene_edits::{Change, EditsFault, Scene};
 use std::mem::replace;
 

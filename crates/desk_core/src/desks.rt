@@ -1,13 +1,13 @@
 ghost use Rattle.std.specs.Prelude.{◌≡◌, ◌≤◌, length, IfOk};
 ghost use Rattle.desk_commits.specs.State.{opening, version_of};
 ghost use Rattle.desk_commits.specs.Questions.{Shows, Judges, Tells, Copies};
-ghost use Rattle.desk_books.specs.Books.{AreOf};
+ghost use Rattle.live_report.specs.Books.{AreOf};
 
 use crate::questions::{goal_asked, report, solves};
-use desk_books::{Books, BuildCount};
 use desk_commits::{AskFault, Commit, Limit, Reading, Snapshot, Stamps};
 use desk_report::Kinds;
 use grid_cells::{Agent, Cell, OutOfMemory};
+use live_report::{Books, BuildCount};
 use scene_edits::Scene;
 use std::alloc::Global;
 use std::fmt::{Debug, Error, Formatter, Write};

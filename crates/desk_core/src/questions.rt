@@ -1,15 +1,15 @@
 //! What is told of a scene, by the books that are kept of it.
 ghost use Rattle.std.specs.Prelude.{◌≡◌, IfOk, IfErr, Err};
 ghost use Rattle.desk_report.specs.Report.{IsReportOf};
-ghost use Rattle.desk_books.specs.Books.{AreOf};
+ghost use Rattle.live_report.specs.Books.{AreOf};
 ghost use Rattle.desk_commits.specs.Goals.{IsAsked};
 ghost use Rattle.desk_commits.specs.Questions.{ArePriced, Judges, Tells};
 ghost use Rattle.desk_commits.specs.State.{DeskState};
 
-use desk_books::Books;
 use desk_commits::AskFault;
 use desk_report::{Kinds, Report, settle_is_bound_and_gap};
 use grid_cells::{Agent, Cell, OutOfMemory};
+use live_report::Books;
 use scene_edits::Scene;
 
 // The report of the scene, from its books. Its law: where an agent is finished and has no blocked

@@ -5,14 +5,14 @@ use Rattle.grid_cells.specs.Grid.{Chart}
 use Rattle.plan_table.specs.declared.tracks.Mode.{Mode}
 use Rattle.bench_reader.specs.MapText.{IsMapText}
 use Rattle.desk_commits.specs.State.{DeskState}
-use Rattle.desk_serving.specs.Answer.{answering}
+use Rattle.session_protocol.specs.Answer.{answering}
 use Rattle.desk_commits.specs.Counting.{desk_counting}
-use Rattle.desk_serving.specs.Session.{Serves}
-use Rattle.desk_serving.specs.Start.{HearsMap, Started, desk_of}
-use Rattle.desk_serving.specs.declared.bounds.Bounds.{Bounds}
-use Rattle.desk_serving.specs.declared.bounds.ServeFault.{ServeFault}
-use Rattle.desk_serving.specs.declared.drafts.Session.{Session}
-use Rattle.desk_serving.specs.declared.drafts.Session.TheVariants.{Idle}
+use Rattle.session_protocol.specs.Session.{Serves}
+use Rattle.session_protocol.specs.Start.{HearsMap, Started, desk_of}
+use Rattle.session_protocol.specs.declared.bounds.Bounds.{Bounds}
+use Rattle.session_protocol.specs.declared.bounds.ServeFault.{ServeFault}
+use Rattle.session_protocol.specs.declared.drafts.Session.{Session}
+use Rattle.session_protocol.specs.declared.drafts.Session.TheVariants.{Idle}
 
 pub started : (left0 between left1 held0 held1 : Option (List ℕ)) (bounds : Bounds) (mode : Mode) (limit : ℕ) (result : Result ℕ ServeFault) (text : List ℕ) (grid : Chart) (last : Session) (desk opened : DeskState) (bytes : ℕ)
     → HearsMap left0 between bounds.bytes text → IsMapText text grid → opened ≡ desk_of grid mode limit → bytes ≡ bounds.bytes - length text

@@ -1,14 +1,14 @@
 //! Sessions over desks: a session behind the text of its map. Sessions over any counter and the text
-//! of journals are those of `desk_serving`, windows on a shared desk those of `desk_shared`, offered here
+//! of journals are those of `session_protocol`, windows on a shared desk those of `desk_shared`, offered here
 //! again.
 #![tactic(auto)]
 
 mod starting;
 
 pub use desk_commits::{Counter, Journal};
-pub use desk_serving::{
+pub use desk_shared::Window;
+pub use session_protocol::{
     Bounds, JournalFault, ServeFault, StartFault, hear_map, one_journal_answer, read_journal,
     serve, upgrade_journal, write_journal, written_reads_back,
 };
-pub use desk_shared::Window;
 pub use starting::serve_with_map;

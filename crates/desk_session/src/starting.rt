@@ -1,12 +1,12 @@
 ghost use Rattle.std.specs.Prelude.{◌≡◌, ◌+◌, ◌||◌};
-ghost use Rattle.desk_serving.specs.Start.{Starts, is_read_fault, is_write_fault};
-ghost use Rattle.desk_serving.specs.Reads.{ReadsUntil, TakesAtMost};
+ghost use Rattle.session_protocol.specs.Start.{Starts, is_read_fault, is_write_fault};
+ghost use Rattle.session_protocol.specs.Reads.{ReadsUntil, TakesAtMost};
 
 use bench_reader::read_map;
 use desk_core::{Desk, Limit, Scene};
 use desk_report::{Sink, Source};
-use desk_serving::{Bounds, StartFault, hear_map, serve};
 use plan_table::Mode;
+use session_protocol::{Bounds, StartFault, hear_map, serve};
 use std::alloc::Global;
 
 /// Reads a map, and serves the rest of the input as a session over the desk of that map, on which

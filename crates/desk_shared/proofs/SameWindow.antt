@@ -1,11 +1,11 @@
 -- A window stays on its desk, with its planner, through a whole session.
 use Rattle.std.proofs.Common.{◌≡◌, ℕ, List, Option, Result, refl, ◌∙◌}
-use Rattle.desk_serving.specs.Answer.{answering}
-use Rattle.desk_serving.specs.Session.{Serves}
-use Rattle.desk_serving.specs.declared.bounds.Bounds.{Bounds}
-use Rattle.desk_serving.specs.declared.bounds.ServeFault.{ServeFault}
-use Rattle.desk_serving.specs.declared.drafts.Session.{Session}
-use Rattle.desk_serving.proofs.Staying.{IsKept, serves}
+use Rattle.session_protocol.specs.Answer.{answering}
+use Rattle.session_protocol.specs.Session.{Serves}
+use Rattle.session_protocol.specs.declared.bounds.Bounds.{Bounds}
+use Rattle.session_protocol.specs.declared.bounds.ServeFault.{ServeFault}
+use Rattle.session_protocol.specs.declared.drafts.Session.{Session}
+use Rattle.session_protocol.proofs.Staying.{IsKept, serves}
 use Rattle.desk_shared.specs.Windows.{WindowState, window_counting}
 
 -- a window that is still on its desk, for its planner, of the same sharing

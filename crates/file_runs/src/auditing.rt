@@ -1,14 +1,14 @@
 //! The word `audit`.
-use desk_checks::{Fault, RunFault};
-use desk_files::{More, Noting, Texts, finish, read_files, tell_stage};
+use desk_cli::AuditWords;
+use desk_io::{More, Noting, Texts, finish, read_files, tell_stage};
 use desk_report::Spout;
-use desk_words::AuditWords;
+use single_runs::run_audit;
+use solver_check::{Fault, RunFault};
 use std::io;
 use std::io::BufWriter;
 use std::rt::Files;
 use std::sync::Wait;
 use std::thread::Threads;
-use text_runs::run_audit;
 
 /// Audits as the words ask for, onto standard output. Where it is wanted, its stages are told on
 /// standard error.

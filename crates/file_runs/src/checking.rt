@@ -1,9 +1,9 @@
 //! The word `check`.
 use crate::faults::ProgramFault;
-use desk_checks::{CheckFault, Fault, run_check};
-use desk_files::{More, Noting, Texts, finish, problem_of, read_files, tell_stage};
+use desk_cli::CheckWords;
+use desk_io::{More, Noting, Texts, finish, problem_of, read_files, tell_stage};
 use desk_report::Spout;
-use desk_words::CheckWords;
+use solver_check::{CheckFault, Fault, run_check};
 use std::io;
 use std::io::BufWriter;
 use std::rt::Files;

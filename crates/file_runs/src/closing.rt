@@ -1,9 +1,9 @@
 //! What is done at a session's end.
 use crate::saving::save_named;
-use desk_checks::{Fault, RunFault};
 use desk_core::Desk;
-use desk_files::{Detailed, More, Texts, tell_more};
-use desk_serving::ServeFault;
+use desk_io::{Detailed, More, Texts, tell_more};
+use session_protocol::ServeFault;
+use solver_check::{Fault, RunFault};
 use std::alloc::Global;
 use std::io::{Error, Result as Done};
 use std::rt::Files;

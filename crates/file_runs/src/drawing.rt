@@ -1,17 +1,17 @@
 //! The word `draw`.
 use crate::faults::ProgramFault;
-use desk_checks::{CheckFault, Fault};
-use desk_files::{More, Noting, Texts, finish, problem_of, read_files, tell_stage};
+use desk_cli::DrawWords;
+use desk_io::{More, Noting, Texts, finish, problem_of, read_files, tell_stage};
 use desk_pictures::Frame;
 use desk_report::Spout;
-use desk_words::DrawWords;
 use grid_cells::Step;
+use single_runs::{Courses, run_draw};
+use solver_check::{CheckFault, Fault};
 use std::io;
 use std::io::BufWriter;
 use std::rt::Files;
 use std::sync::Wait;
 use std::thread::Threads;
-use text_runs::{Courses, run_draw};
 
 /// How many threads make the report.
 const WORKERS: u32 = 4;

@@ -1,4 +1,4 @@
-use desk_checks::{CheckFault, Fault, HostFault};
+use solver_check::{CheckFault, Fault, HostFault};
 use std::fmt::{Display, Error, Formatter, Write};
 
 /// Why the program did not do what its words ask for.

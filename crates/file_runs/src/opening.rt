@@ -1,12 +1,12 @@
 //! The desk that planners are to share.
 use crate::faults::ProgramFault;
 use crate::serving::limit_of;
-use desk_checks::Fault;
+use desk_cli::HostWords;
 use desk_core::Desk;
-use desk_files::{Detailed, More, problem_of, read_named};
-use desk_words::HostWords;
+use desk_io::{Detailed, More, problem_of, read_named};
+use single_runs::open_desk;
+use solver_check::Fault;
 use std::rt::Files;
-use text_runs::open_desk;
 
 // The planner that is named twice, where one is.
 fn named_twice(names: &[&'static str]) -> Option<&'static str> {

@@ -1,14 +1,14 @@
 //! A file that is whole at any moment.
-use desk_checks::{Fault, RunFault};
 use desk_core::Desk;
-use desk_files::{More, Noting, folder_of, told};
+use desk_io::{More, Noting, folder_of, told};
 use desk_report::Spout;
+use single_runs::save_desk;
+use solver_check::{Fault, RunFault};
 use std::alloc::Global;
 use std::fs;
 use std::fs::OpenFile;
 use std::io::{BufWriter, ErrorKind, Result as Done, Write};
 use std::rt::Files;
-use text_runs::save_desk;
 
 /// Saves a desk's journal in the file, where one is named: in a new file beside it, which is synced
 /// and then takes its name. So the file is whole at any moment.

@@ -1,17 +1,17 @@
 //! The word `serve`.
 use crate::closing::{end_desk, fault_of, note_end, outcome_of};
-use desk_checks::{Fault, RunFault};
+use desk_cli::ServeWords;
 use desk_core::{Desk, Limit, MOST_ENTRIES};
-use desk_files::{Answers, Lines, More, Outlet, Prompting, Texts, read_named, send_last};
+use desk_io::{Answers, Lines, More, Outlet, Prompting, Texts, read_named, send_last};
 use desk_report::Spout;
-use desk_serving::ServeFault;
-use desk_words::ServeWords;
+use session_protocol::ServeFault;
+use single_runs::serve_desk;
+use solver_check::{Fault, RunFault};
 use std::alloc::Global;
 use std::cell::RefCell;
 use std::io;
 use std::io::{BufWriter, Read, Write};
 use std::rt::Files;
-use text_runs::serve_desk;
 
 /// Serves a session from standard input to standard output, as the words ask for, and saves the
 /// desk's journal where they ask for it. What was answered before a fault has gone out, and is

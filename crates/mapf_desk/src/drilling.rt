@@ -1,10 +1,10 @@
 //! The word `drill`.
-use desk_files::{
+use desk_cli::DrillWords;
+use desk_io::{
     More, Noting, Tallies, Texts, all_bytes, finish, problem_of, read_files, tell_stage,
 };
 use desk_report::Spout;
-use desk_runs::{Fault, RunFault, hear_drill};
-use desk_words::DrillWords;
+use shared_runs::{Fault, RunFault, hear_drill};
 use std::io;
 use std::io::BufWriter;
 use std::rt::Files;

@@ -1,10 +1,10 @@
 //! The word `host`.
 use crate::{DIFFERS, print_line};
+use desk_cli::HostWords;
 use desk_core::Desk;
-use desk_files::{FAULT, More, Pipes};
-use desk_runs::{Fault, HostEnd, HostFault, RunFault, host_planners};
-use desk_words::HostWords;
+use desk_io::{FAULT, More, Pipes};
 use file_runs::{ProgramFault, open_named, save_named};
+use shared_runs::{Fault, HostEnd, HostFault, RunFault, host_planners};
 use std::process::ExitCode;
 use std::rt::Files;
 use std::sync::Wait;

@@ -5,12 +5,12 @@
 mod drilling;
 mod hosting;
 
-use desk_files::{FAULT, More, tell, tell_more, tell_served};
-use desk_runs::{Fault, RunFault};
-use desk_words::{Asked, VERSION, Words, read_words};
+use desk_cli::{Asked, VERSION, Words, read_words};
+use desk_io::{FAULT, More, tell, tell_more, tell_served};
 use drilling::drill_files;
 use file_runs::{ProgramFault, audit_files, check_files, draw_files, serve_streams};
 use hosting::host_files;
+use shared_runs::{Fault, RunFault};
 use std::env;
 use std::io::{Error, ErrorKind, IsTerminal};
 use std::process::ExitCode;

@@ -1,9 +1,9 @@
 //! Values written as the lines of sessions write them. None stands for a text that is no such value,
 //! and for want of memory.
-use desk_lines::{Request, read_line};
 use grid_cells::{Cell, Grid, Size};
 use plan_table::{Plan, Row};
 use scene_edits::{Edit, Scene, Thing};
+use session_lines::{Request, read_line};
 use std::alloc::Global;
 
 /// The edit of a line, as `path 3 0,0 1,0`.

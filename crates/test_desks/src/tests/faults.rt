@@ -1,8 +1,8 @@
 //! The texts of faults that no program meets.
 use desk_audit::AuditFault;
-use desk_runs::{Fault, RunFault};
 use desk_shared::{PassLost, ShareFault, SplitFault};
 use scene_edits::TaskFault;
+use shared_runs::{Fault, RunFault};
 use std::alloc::Global;
 use std::process::Abort;
 

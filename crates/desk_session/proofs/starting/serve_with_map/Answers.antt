@@ -1,7 +1,7 @@
 use Rattle.std.proofs.Common.{rules, arith, inl, ◌≡◌, ◌-◌, length}
-use Rattle.desk_serving.specs.Start.{desk_of}
+use Rattle.session_protocol.specs.Start.{desk_of}
 use Rattle.desk_session.proofs.MapDesk.{started}
-use Rattle.desk_serving.proofs.Reading.{and-then, until-then, takes-more, takes-fewer}
+use Rattle.session_protocol.proofs.Reading.{and-then, until-then, takes-more, takes-fewer}
 use Rattle.desk_session.proofs.starting.serve_with_map.Goals as goal
 
 pub returns-in-Ok-serve-clause-session : goal.returns-in-Ok-serve-clause-session

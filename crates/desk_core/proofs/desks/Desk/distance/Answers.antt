@@ -2,7 +2,7 @@ use Rattle.std.proofs.Common.{◌≡◌, sym, ap, subst}
 use Rattle.grid_cells.specs.Cell.{Point}
 use Rattle.grid_cells.specs.Walks.{IsDistance}
 use Rattle.scene_edits.specs.Scene.{SceneState}
-use Rattle.desk_books.specs.Books.{AreOf}
+use Rattle.live_report.specs.Books.{AreOf}
 use Rattle.desk_commits.specs.State.{DeskState}
 use Rattle.desk_commits.specs.Goals.{IsAsked}
 use Rattle.desk_core.proofs.desks.Desk.distance.Goals as goal

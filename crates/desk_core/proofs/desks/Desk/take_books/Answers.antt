@@ -1,6 +1,6 @@
 use Rattle.std.proofs.Common.{sym, ap, subst, ◌∙◌}
 use Rattle.scene_edits.specs.Scene.{SceneState}
-use Rattle.desk_books.specs.Books.{AreOf}
+use Rattle.live_report.specs.Books.{AreOf}
 use Rattle.desk_commits.specs.State.{DeskState}
 use Rattle.desk_core.proofs.desks.Desk.take_books.Goals as goal
 

@@ -1,9 +1,0 @@
-use Rattle.std.proofs.Common.{drop}
-use Rattle.plan_table.specs.Plans.{row_of}
-use Rattle.desk_books.specs.Prices.{Rows}
-use Rattle.desk_books.specs.Books.{Keep}
-use Rattle.desk_books.specs.Following.{AreLeft}
-use Rattle.desk_books.proofs.books.Books.catch_up.Given as goal
-
-abbrev pub invariant-loop-former : goal.invariant-loop-former
-invariant-loop-former l = (rows : Rows) × Keep l.scene.mode l.scene.grid rows l.books × AreLeft rows (row_of l.scene.rows) (drop l.former-index l.formers)

@@ -1,7 +1,0 @@
-use Rattle.desk_books.proofs.RouteChanges.{follow_route}
-use Rattle.desk_books.proofs.fleet.FleetBooks.retract.Goals as goal
-
-pub returns-clause-books : goal.returns-clause-books
-returns-clause-books c = λ fleet are own.
-    let was = rw (← c.self.view_is) at are in
-    follow_route _ _ _ _ _ _ _ c.take-index.ensures.stands c.in-Ok.ensures fleet was.index was.entries own

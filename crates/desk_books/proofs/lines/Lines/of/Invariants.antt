@@ -1,8 +1,0 @@
-use Rattle.std.proofs.Common.{take}
-use Rattle.grid_cells.specs.Grid.{Chart}
-use Rattle.goal_fields.specs.Held.{StandFor}
-use Rattle.desk_books.specs.Lines.{AreOpenLines}
-use Rattle.desk_books.proofs.lines.Lines.of.Given as goal
-
-abbrev pub invariant-loop-rank : goal.invariant-loop-rank
-invariant-loop-rank l = (grid : Chart) → StandFor grid l.fields.fields → AreOpenLines grid (take l.rank l.plans.rows) l.lines.items

@@ -1,5 +1,0 @@
-use Rattle.desk_books.proofs.Fleets.{no_books}
-use Rattle.desk_books.proofs.prices.PriceBooks.new.Goals as goal
-
-pub returns : goal.returns
-returns c = λ grid. no_books grid _ c.new.ensures.rows (c.new.ensures.stands grid) c.new-2.ensures.aims c.new-2.ensures.fields

@@ -1,5 +1,0 @@
-use Rattle.desk_checks.proofs.SameReports.{report_decides, answers_as}
-use Rattle.desk_checks.proofs.reporting.is_same.Goals as goal
-
-pub returns : goal.returns
-returns c = answers_as _ _ _ c.eq.ensures (report_decides c.args.report.now c.args.other.now)

@@ -1,5 +1,0 @@
-use Rattle.desk_runs.proofs.Sitting.{ended}
-use Rattle.desk_runs.proofs.hosts.sittings.sit.Goals as goal
-
-pub returns : goal.returns
-returns g c = ended c.args.desk.now _ c.args.pass _ _ _ _ c.new-window.ensures c.into_pass.ensures.owned c.into_pass.ensures.known c.seat-ended.ensures

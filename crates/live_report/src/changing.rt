@@ -1,0 +1,157 @@
+//! One agent's row becomes another.
+ghost use Rattle.std.specs.Prelude.{◌≡◌, IfOk, Some, None};
+ghost use Rattle.grid_cells.specs.Size.{Holds};
+ghost use Rattle.live_report.specs.Prices.{Rows};
+ghost use Rattle.live_report.specs.Prices as priced;
+ghost use Rattle.scene_edits.specs.Formers.{as_row, former_row, former_past};
+ghost use Rattle.scene_edits.specs.Kept.{AreAlike};
+ghost use Rattle.plan_table.specs.Path.{SamePlaces};
+ghost use Rattle.plan_table.specs.Plans.{row_of};
+ghost use Rattle.live_report.specs.Books.{Know, Renews};
+
+use crate::books::Books;
+use crate::former::{is_same_plan, track_of};
+use crate::prices::PriceBooks;
+use crate::standing_lines::{with_line, without_line};
+use grid_cells::{Agent, Cell, Grid, OutOfMemory};
+use plan_table::{Plan, Row};
+use scene_edits::{Former, FormerRow, Scene};
+
+impl Books {
+    // The agent's row before becomes its row in the scene.
+    pub(crate) fn change(self, former: &Former<'_>, scene: &Scene) -> Result<Books, OutOfMemory>
+        requires know { Know scene.now.mode scene.now.grid former.now.agent (former_row former.now) self }
+        requires alike { AreAlike (former_past former.now) (row_of scene.now.rows former.now.agent) }
+        ensures { IfOk result (Renews scene.now.mode scene.now.grid former.now.agent (former_row former.now) (row_of scene.now.rows former.now.agent) self) }
+    {
+        let agent = former.agent;
+        match (former.row(), scene.plans().row(agent)) {
+            (None, None) => Ok(self),
+            (None, Some(row)) => self.enter(agent, row, scene),
+            (Some(old), None) => self.leave(agent, old.goal, old.plan, scene),
+            (Some(old), Some(row)) => self.revise(agent, &old, row, scene),
+        }
+    }
+
+    // The agent comes, with that row.
+    pub(crate) fn enter(self, agent: Agent, row: &Row, scene: &Scene) -> Result<Books, OutOfMemory>
+        requires know { Know scene.now.mode scene.now.grid agent None self }
+        requires inside { Holds scene.now.grid.size row.now.goal }
+        ensures { IfOk result (Renews scene.now.mode scene.now.grid agent None (Some row.now) self) }
+    {
+        let (alloc, fleet, prices, lines) = self.into_parts();
+        let Ok(fleet) = fleet.admit(agent, row.track(scene.mode())) else {
+            drop(prices);
+            drop(lines);
+            return Err(OutOfMemory);
+        };
+        let Ok(prices) = prices.put(agent, row.goal, &row.plan, scene.grid()) else {
+            drop(fleet);
+            drop(lines);
+            return Err(OutOfMemory);
+        };
+        let lines = with_line(lines, agent, row, prices.fields());
+        Ok(Books {
+            alloc,
+            fleet,
+            prices,
+            lines,
+        })
+    }
+
+    // The agent goes, with that row.
+    fn leave(
+        self,
+        agent: Agent,
+        goal: Cell,
+        plan: &Plan,
+        scene: &Scene,
+    ) -> Result<Books, OutOfMemory>
+        ensures { IfOk result (Renews scene.now.mode scene.now.grid agent (Some (record { goal = goal; plan = plan.now })) None self) }
+    {
+        let (alloc, fleet, mut prices, lines) = self.into_parts();
+        let Ok(fleet) = fleet.retract(agent, track_of(goal, plan, scene.mode())) else {
+            drop(prices);
+            drop(lines);
+            return Err(OutOfMemory);
+        };
+        prices.take(agent, goal);
+        let lines = without_line(lines, agent);
+        Ok(Books {
+            alloc,
+            fleet,
+            prices,
+            lines,
+        })
+    }
+
+    // The agent stays, and its row changes.
+    fn revise(
+        self,
+        agent: Agent,
+        old: &FormerRow<'_>,
+        row: &Row,
+        scene: &Scene,
+    ) -> Result<Books, OutOfMemory>
+        requires know { Know scene.now.mode scene.now.grid agent (Some (as_row old.now)) self }
+        requires alike { SamePlaces old.now.plan.now row.now.plan old.now.alike }
+        requires inside { Holds scene.now.grid.size row.now.goal }
+        ensures { IfOk result (Renews scene.now.mode scene.now.grid agent (Some (as_row old.now)) (Some row.now) self) }
+    {
+        let mode = scene.mode();
+        let was = track_of(old.goal, old.plan, mode);
+        let (alloc, fleet, prices, lines) = self.into_parts();
+        let Ok(fleet) = fleet.revise(agent, was, row.track(mode), old.alike) else {
+            drop(prices);
+            drop(lines);
+            return Err(OutOfMemory);
+        };
+        let Ok(prices) = reprice(prices, agent, old, row, scene.grid()) else {
+            drop(fleet);
+            drop(lines);
+            return Err(OutOfMemory);
+        };
+        let lines = with_line(lines, agent, row, prices.fields());
+        Ok(Books {
+            alloc,
+            fleet,
+            prices,
+            lines,
+        })
+    }
+}
+
+// The agent's plan and goal become those of the row.
+fn reprice(
+    prices: PriceBooks,
+    agent: Agent,
+    old: &FormerRow<'_>,
+    row: &Row,
+    grid: &Grid,
+) -> Result<PriceBooks, OutOfMemory>
+    requires alike { SamePlaces old.now.plan.now row.now.plan old.now.alike }
+    requires inside { Holds grid.now.size row.now.goal }
+    requires know { (rows : Rows) × priced.AreOf grid.now rows prices × (rows agent ≡ Some (as_row old.now)) }
+    ensures { IfOk result (priced.Reprices grid.now agent (Some (as_row old.now)) (Some row.now) prices) }
+{
+    let planned = replan(prices, agent, old, row, grid)?;
+    planned.aim(agent, old.goal, row.goal, grid)
+}
+
+// The agent's plan becomes that of the row.
+fn replan(
+    prices: PriceBooks,
+    agent: Agent,
+    old: &FormerRow<'_>,
+    row: &Row,
+    grid: &Grid,
+) -> Result<PriceBooks, OutOfMemory>
+    requires alike { SamePlaces old.now.plan.now row.now.plan old.now.alike }
+    requires know { (rows : Rows) × priced.AreOf grid.now rows prices × (rows agent ≡ Some (as_row old.now)) }
+    ensures { IfOk result (priced.Reprices grid.now agent (Some (as_row old.now)) (Some (record { goal = old.now.goal; plan = row.now.plan })) prices) }
+{
+    if is_same_plan(old.plan, &row.plan, old.alike) {
+        return Ok(prices);
+    }
+    prices.follow_plan(agent, old.goal, &row.plan, old.alike, grid)
+}

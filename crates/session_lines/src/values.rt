@@ -1,0 +1,63 @@
+ghost use Rattle.std.specs.Prelude.{◌≡◌, ◌+◌, [], take, drop, bytes_eq, MatchOption};
+ghost use Rattle.std.specs.List.{before_first, after_first, position};
+ghost use Rattle.session_lines.specs.Values.{agent_of, time_of, place_of, cell_of, is_comma};
+
+use bench_reader::number_of;
+use grid_cells::{Agent, Cell, MOST_SIDE, Step};
+
+/// Whether the word is that name.
+pub(crate) fn is_word(word: &[u8], name: &[u8]) -> bool
+    ensures { result ≡ bytes_eq word.now name.now }
+{
+    word == name
+}
+
+/// The agent that a word names.
+pub(crate) fn agent_of(word: &[u8]) -> Option<Agent>
+    ensures { result ≡ agent_of word.now }
+{
+    Agent::new(number_of(word)?)
+}
+
+/// The time that a word names.
+pub(crate) fn time_of(word: &[u8]) -> Option<Step>
+    ensures { result ≡ time_of word.now }
+{
+    Some(Step::new(number_of(word)?))
+}
+
+/// The column or the row that a word writes.
+pub(crate) fn place_of(word: &[u8]) -> Option<u32>
+    ensures { result ≡ place_of word.now }
+{
+    let number = number_of(word)?;
+    if number < MOST_SIDE {
+        Some(number)
+    } else {
+        None
+    }
+}
+
+// The index of the first comma.
+fn comma_of(word: &[u8]) -> Option<usize>
+    ensures { result ≡ position is_comma word.now }
+{
+    word.iter().position(|byte| *byte == b',')
+}
+
+// What stands before the first comma, and behind it.
+fn parts(word: &[u8]) -> Option<(&[u8], &[u8])>
+    ensures { MatchOption result (after_first is_comma word.now ≡ [])
+        (λ r. (r.0.now ≡ before_first is_comma word.now) × (r.1.now ≡ after_first is_comma word.now)) }
+{
+    let comma = comma_of(word)?;
+    Some((&word[..comma], &word[comma + 1..]))
+}
+
+/// The cell that a word names.
+pub(crate) fn cell_of(word: &[u8]) -> Option<Cell>
+    ensures { result ≡ cell_of word.now }
+{
+    let (x, y) = parts(word)?;
+    Cell::new(place_of(x)?, place_of(y)?)
+}

@@ -1,0 +1,25 @@
+-- What a line is answered: by its request, or as a bad line, or it finds no memory (this project's choice).
+use Rattle.std.specs.Prelude.{◌≡◌, ◌⊎◌, ℕ, Result, Ok, Err}
+use Rattle.desk_commits.specs.Counting.{Counting}
+use Rattle.session_lines.specs.Requests.{request_of}
+use Rattle.session_protocol.specs.Session.{Answering}
+use Rattle.session_protocol.specs.Table.{Obeys, FindsNoMemory}
+use Rattle.session_protocol.specs.declared.drafts.Session.{Session}
+use Rattle.session_protocol.specs.declared.replies.BadLine.TheVariants as bad
+use Rattle.session_protocol.specs.declared.replies.Reply.{Reply}
+use Rattle.session_protocol.specs.declared.replies.Reply.TheVariants.{Bad}
+use Rattle.session_lines.specs.declared.requests.Request.{Request}
+use Rattle.session_lines.specs.declared.requests.LineFault.{LineFault}
+use Rattle.session_lines.specs.declared.requests.LineFault.TheVariants.{Word, Shape, OutOfMemory}
+
+-- a request is obeyed, and a bad line is told and changes nothing
+abbrev pub IsReplyTo : {S : Type 0} → Counting S → ℕ → Session → S → Result Request LineFault → Reply → Session → S → Type 0
+IsReplyTo c number old at (Ok request) reply new then = Obeys c number old at request reply new then
+IsReplyTo c number old at (Err Word) reply new then = (reply ≡ Bad number bad.Word) × (new ≡ old) × (then ≡ at)
+IsReplyTo c number old at (Err Shape) reply new then = (reply ≡ Bad number bad.Shape) × (new ≡ old) × (then ≡ at)
+IsReplyTo c number old at (Err OutOfMemory) reply new then = FindsNoMemory old at reply new then
+
+-- a session beside a counter answers a line by its request, or the line finds no memory and changes nothing
+abbrev pub answering : {S : Type 0} → Counting S → Answering (Session × S)
+answering c old number line reply new =
+    IsReplyTo c number old.0 old.1 (request_of line) reply new.0 new.1 ⊎ FindsNoMemory old.0 old.1 reply new.0 new.1

@@ -1,0 +1,92 @@
+-- The table of a session: what each request is answered where the session is idle or gathers, and where it then is (this project's choice).
+use Rattle.std.specs.Prelude.{◌≡◌, ◌<◌, ◌⊎◌, ℕ, [], ◌∷◌, ◌++◌, length, Option, Result}
+use Rattle.grid_cells.specs.Cell.{Point}
+use Rattle.grid_cells.specs.declared.memory.OutOfMemory.{OutOfMemory}
+use Rattle.mapf_rules.specs.declared.kinds.Kinds.{Kinds}
+use Rattle.scene_edits.specs.declared.changes.Thing.{Thing}
+use Rattle.scene_edits.specs.declared.edits.Edit.{Edit}
+use Rattle.desk_commits.specs.Entries.{Entry}
+use Rattle.desk_commits.specs.declared.commits.TheConstants.{MOST_EDITS, MOST_WATCHES}
+use Rattle.desk_commits.specs.declared.answers.Refusal.{Refusal}
+use Rattle.desk_commits.specs.declared.answers.Reading.{Reading}
+use Rattle.desk_commits.specs.declared.answers.AskFault.{AskFault}
+use Rattle.desk_commits.specs.Counting.{Counting}
+use Rattle.session_protocol.specs.Drafts.{Draft, blank, entry_of}
+use Rattle.session_protocol.specs.Tellings.{commit_reply, after_commit, reading_reply, SolvesReply, distance_reply}
+use Rattle.session_protocol.specs.declared.drafts.Session.{Session}
+use Rattle.session_protocol.specs.declared.drafts.Session.TheVariants.{Idle, Gathering}
+use Rattle.session_protocol.specs.declared.replies.BadLine.TheVariants.{NotBegun, Full}
+use Rattle.session_protocol.specs.declared.replies.Reply.{Reply}
+use Rattle.session_protocol.specs.declared.replies.Reply.TheVariants as reply
+use Rattle.session_lines.specs.declared.requests.Request.{Request}
+use Rattle.session_lines.specs.declared.requests.Request.TheVariants as ask
+
+-- one more watch is kept, where there are fewer than a commit may have
+abbrev pub KeepsWatch : ℕ → Draft → Thing → Reply → Session → Type 0
+KeepsWatch number draft thing given new =
+    ((length draft.watch < MOST_WATCHES) × (given ≡ reply.Kept) × (new ≡ Gathering (record draft { watch = draft.watch ++ thing ∷ [] })))
+    ⊎ ((length draft.watch ≡ MOST_WATCHES) × (given ≡ reply.Bad number Full) × (new ≡ Gathering draft))
+
+-- one more edit is kept, where there are fewer than a commit may have
+abbrev pub KeepsEdit : ℕ → Draft → Edit → Reply → Session → Type 0
+KeepsEdit number draft edit given new =
+    ((length draft.edits < MOST_EDITS) × (given ≡ reply.Kept) × (new ≡ Gathering (record draft { edits = draft.edits ++ edit ∷ [] })))
+    ⊎ ((length draft.edits ≡ MOST_EDITS) × (given ≡ reply.Bad number Full) × (new ≡ Gathering draft))
+
+-- the commit is made, and its answer is told
+abbrev pub Commits : {S : Type 0} → Counting S → S → Draft → (Result ℕ (Refusal × Entry) → Session) → Reply → Session → S → Type 0
+Commits {S} c at draft where_then given new then =
+    (result : Result ℕ (Refusal × Entry)) × c.commits at (entry_of (c.planner at) draft) result then × (given ≡ commit_reply result) × (new ≡ where_then result)
+
+-- an edit line outside a gathering: a commit of this edit, with no watch, on the counter's version
+abbrev pub CommitsAlone : {S : Type 0} → Counting S → S → Edit → Reply → Session → S → Type 0
+CommitsAlone {S} c at edit given new then =
+    (base : ℕ) × (seen : S) × c.versions at base seen × Commits c seen (record { base = base; watch = []; edits = edit ∷ [] }) (λ result. Idle) given new then
+
+-- a new gathering, on the counter's version
+abbrev pub Begins : {S : Type 0} → Counting S → S → Reply → Session → S → Type 0
+Begins c at given new then = (base : ℕ) × c.versions at base then × (given ≡ reply.Base base) × (new ≡ Gathering (blank base))
+
+-- what was asked without a gathering
+abbrev pub IsNotBegun : {S : Type 0} → ℕ → S → Reply → Session → S → Type 0
+IsNotBegun number at given new then = (given ≡ reply.Bad number NotBegun) × (new ≡ Idle) × (then ≡ at)
+
+-- the counter's version is told
+abbrev pub TellsVersion : {S : Type 0} → Counting S → S → Reply → S → Type 0
+TellsVersion c at given then = (version : ℕ) × c.versions at version then × (given ≡ reply.Version version)
+
+-- a fresh reading is told, or whether it solves
+abbrev pub TellsReport : {S : Type 0} → Counting S → S → Reply → S → Type 0
+TellsReport c at given then = (result : Result Reading OutOfMemory) × c.reads at result then × (given ≡ reading_reply result)
+
+abbrev pub TellsSolves : {S : Type 0} → Counting S → S → Kinds → Reply → S → Type 0
+TellsSolves c at kinds given then = (result : Result Reading OutOfMemory) × c.reads at result then × SolvesReply kinds result given
+
+-- a distance is told
+abbrev pub TellsDistance : {S : Type 0} → Counting S → S → ℕ → Point → Reply → S → Type 0
+TellsDistance c at agent cell given then = (result : Result (Option ℕ) AskFault) × c.tells at agent cell result then × (given ≡ distance_reply result)
+
+-- from a session and a counter, a request in the line of that number is given that reply, and leaves that session and that counter
+abbrev pub Obeys : {S : Type 0} → Counting S → ℕ → Session → S → Request → Reply → Session → S → Type 0
+Obeys c number old at ask.Silent given new then = (given ≡ reply.Silent) × (new ≡ old) × (then ≡ at)
+Obeys c number old at ask.Begin given new then = Begins c at given new then
+Obeys c number Idle at (ask.Watch thing) given new then = IsNotBegun number at given new then
+Obeys c number (Gathering draft) at (ask.Watch thing) given new then = KeepsWatch number draft thing given new × (then ≡ at)
+Obeys c number Idle at (ask.Edit edit) given new then = CommitsAlone c at edit given new then
+Obeys c number (Gathering draft) at (ask.Edit edit) given new then = KeepsEdit number draft edit given new × (then ≡ at)
+Obeys c number Idle at ask.Commit given new then = IsNotBegun number at given new then
+Obeys c number (Gathering draft) at ask.Commit given new then = Commits c at draft (after_commit draft) given new then
+Obeys c number Idle at ask.Cancel given new then = IsNotBegun number at given new then
+Obeys c number (Gathering draft) at ask.Cancel given new then = (given ≡ reply.Cancelled) × (new ≡ Idle) × (then ≡ at)
+Obeys c number old at ask.Version given new then = TellsVersion c at given then × (new ≡ old)
+Obeys c number old at ask.Report given new then = TellsReport c at given then × (new ≡ old)
+Obeys c number old at (ask.Distance agent cell) given new then = TellsDistance c at agent cell given then × (new ≡ old)
+Obeys c number old at (ask.Solves kinds) given new then = TellsSolves c at kinds given then × (new ≡ old)
+
+-- no memory was found, and nothing changed
+abbrev pub FindsNoMemory : {S : Type 0} → Session → S → Reply → Session → S → Type 0
+FindsNoMemory old at given new then = (given ≡ reply.NoMemory) × (new ≡ old) × (then ≡ at)
+
+-- a request is obeyed, or it finds no memory and changes nothing
+abbrev pub MayObey : {S : Type 0} → Counting S → ℕ → Session → S → Request → Reply → Session → S → Type 0
+MayObey c number old at request given new then = Obeys c number old at request given new then ⊎ FindsNoMemory old at given new then

@@ -1,0 +1,39 @@
+-- How the answers of a counter are told (this project's choice).
+use Rattle.std.specs.Prelude.{◌≡◌, ◌↔◌, ℕ, Bool, IsTrue, Option, Result, Ok, Err}
+use Rattle.grid_cells.specs.declared.memory.OutOfMemory.{OutOfMemory}
+use Rattle.desk_report.specs.Solves.{Solves}
+use Rattle.mapf_rules.specs.declared.kinds.Kinds.{Kinds}
+use Rattle.desk_commits.specs.Entries.{Entry}
+use Rattle.desk_commits.specs.declared.answers.Refusal.{Refusal}
+use Rattle.desk_commits.specs.declared.answers.Reading.{Reading}
+use Rattle.desk_commits.specs.declared.answers.AskFault.{AskFault}
+use Rattle.session_protocol.specs.Drafts.{Draft}
+use Rattle.session_protocol.specs.declared.drafts.Session.{Session}
+use Rattle.session_protocol.specs.declared.drafts.Session.TheVariants.{Idle, Gathering}
+use Rattle.session_protocol.specs.declared.replies.Reply.{Reply}
+use Rattle.session_protocol.specs.declared.replies.Reply.TheVariants as reply
+
+-- a commit's answer: the new version, or the refusal
+abbrev pub commit_reply : Result ℕ (Refusal × Entry) → Reply
+commit_reply (Ok version) = reply.Version version
+commit_reply (Err (refusal, back)) = reply.Refused refusal
+
+-- where a session is after its commit: idle if it was accepted, and else as before
+abbrev pub after_commit : Draft → Result ℕ (Refusal × Entry) → Session
+after_commit draft (Ok version) = Idle
+after_commit draft (Err refused) = Gathering draft
+
+-- a reading's answer
+abbrev pub reading_reply : Result Reading OutOfMemory → Reply
+reading_reply (Ok reading) = reply.Shown reading
+reading_reply (Err refused) = reply.NoMemory
+
+-- whether a reading solves by those kinds
+abbrev pub SolvesReply : Kinds → Result Reading OutOfMemory → Reply → Type 0
+SolvesReply kinds (Ok reading) given = (is_so : Bool) × (IsTrue is_so ↔ Solves reading.report kinds) × (given ≡ reply.Solves is_so)
+SolvesReply kinds (Err refused) given = given ≡ reply.NoMemory
+
+-- a distance's answer
+abbrev pub distance_reply : Result (Option ℕ) AskFault → Reply
+distance_reply (Ok distance) = reply.Far distance
+distance_reply (Err fault) = reply.NotAsked fault

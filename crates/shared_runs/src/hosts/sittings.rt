@@ -1,0 +1,96 @@
+//! A planner's session in a thread of its own, or what stands for it where no thread starts.
+ghost use Rattle.std.specs.Prelude.{◌≡◌, IfErr, IfOk};
+ghost use Rattle.desk_shared.specs.Passes.{Owns};
+ghost use Rattle.shared_runs.specs.Hosts.{IsEnded};
+
+use desk_shared::{Pass, SharedDesk, Window};
+use solver_check::{Outcome, SeatFault, Seats};
+use std::alloc::Global;
+use std::snapshot::Snapshot;
+use std::sync::Wait;
+use std::sync::atomic::{AtomicU32, Ordering};
+use std::thread::{Promise, PromisedHandle, Scope, Threads};
+
+/// What comes of a planner's session: the pass, and how the session ended.
+pub(crate) type Ended = (Pass, Outcome);
+
+/// The seat that a thread is to serve, and the pass that it is given.
+#[derive(Drop)]
+pub(crate) struct Seat<'a, S: Seats> {
+    pub desk: &'a SharedDesk,
+    pub seats: &'a S,
+    pub number: u32,
+    pub before: Snapshot<Pass>,
+}
+
+impl<'a, S: Seats> Promise<Ended> for Seat<'a, S> {
+    ghost kept_by = { λ p r. IsEnded p.desk.now (S.inputs p.seats.now p.number) p.before.value r.0 r.1 };
+}
+
+/// A planner's session under way, or what stands for it where its thread did not start.
+pub(crate) type Sitting<'a, S> = Result<PromisedHandle<Ended, Seat<'a, S>>, Ended>;
+
+/// No planner's number.
+pub(crate) const NOBODY: u32 = u32::MAX;
+
+/// Serves the planner of that number at its seat, unless its thread did not start.
+pub(crate) fn sit<R: Wait, S: Seats>(
+    rt: &R,
+    alloc: Global,
+    desk: &SharedDesk,
+    pass: Pass,
+    seats: &S,
+    number: u32,
+    unstarted: &AtomicU32,
+) -> Ended
+    requires { Owns desk.now pass }
+    ensures { IsEnded desk.now (S.inputs seats.now number) pass result.0 result.1 }
+{
+    if unstarted.load(Ordering::SeqCst) == number {
+        return (pass, Err(SeatFault::NoThread));
+    }
+    let mut window = Window::new(rt, desk, pass);
+    let ended = seats.seat(rt, alloc, number, &mut window);
+    (window.into_pass(), ended)
+}
+
+/// Begins the planner's session in a thread of its own. Where that does not start, the closure comes
+/// back and is called here, with word that the planner isn't seated: so its pass isn't lost.
+pub(crate) fn begin<'s, E: 's, R: Wait + Sync, S: Seats>(
+    rt: &'s R,
+    alloc: Global,
+    scope: &'s Scope<'s, E>,
+    desk: &'s SharedDesk,
+    pass: Pass,
+    seats: &'s S,
+    number: u32,
+    unstarted: &'s AtomicU32,
+) -> Sitting<'s, S>
+    requires { Owns desk.now pass }
+    ensures begun { IfOk result (λ child. child.promise.desk.now ≡ desk.now) }
+    ensures seated { IfOk result (λ child. (child.promise.seats.now ≡ seats.now) × (child.promise.number ≡ number)) }
+    ensures before { IfOk result (λ child. child.promise.before.value ≡ pass) }
+    ensures missed { IfErr result (λ r. IsEnded desk.now (S.inputs seats.now number) pass r.0 r.1) }
+{
+    let promise = Seat {
+        desk,
+        seats,
+        number,
+        before: Snapshot::of(&pass),
+    };
+    let started = scope.spawn_with(
+        promise,
+        move || -> Ended
+            requires { Owns desk.now pass }
+            ensures { IsEnded desk.entry.now (S.inputs seats.entry.now number) pass result.0 result.1 }
+        { sit(rt, alloc, desk, pass, seats, number, unstarted) },
+    );
+    match started {
+        Ok(child) => Ok(child),
+        Err(refused) => {
+            unstarted.store(number, Ordering::SeqCst);
+            let unseated = refused.value;
+            Err(unseated())
+        }
+    }
+}

@@ -1,0 +1,55 @@
+-- The edits that a text of paths asks for (this project's choice).
+use Rattle.std.specs.Prelude.{ℕ, ◌+◌, Option, Some, None, Bool, true, false, List, [], ◌∷◌, ◌++◌, slice_get}
+use Rattle.std.specs.Option.{option_and_then, option_or}
+use Rattle.grid_cells.specs.Cell.{Point}
+use Rattle.plan_table.specs.Path.{last_index}
+use Rattle.scene_edits.specs.declared.edits.Edit.{Edit}
+use Rattle.scene_edits.specs.declared.edits.Edit.TheVariants.{Add, Drop, Goal, Path, Tail, Open, Close}
+use Rattle.session_lines.specs.declared.solver_paths.paths.SolverPaths.{SolverPaths}
+
+-- an agent's cell in a list of the text's where that has one, else the cell of its path at that index
+abbrev pub cell_in : Option (List Point) → ℕ → List Point → ℕ → Option Point
+cell_in listed agent path at = option_or (option_and_then (λ cells. slice_get cells agent) listed) (slice_get path at)
+
+-- where the agent with that path starts: where the text says, or where its path begins
+abbrev pub start_in : SolverPaths → ℕ → List Point → Option Point
+start_in spelled agent path = cell_in spelled.starts agent path 0
+
+-- its goal: what the text says, or where its path ends
+abbrev pub goal_in : SolverPaths → ℕ → List Point → Option Point
+goal_in spelled agent path = cell_in spelled.goals agent path (last_index path)
+
+-- the agent is added, where it has a start and a goal
+abbrev pub add_of : ℕ → Option Point → Option Point → List Edit
+add_of agent (Some start) (Some goal) = Add agent start goal ∷ []
+add_of agent (Some start) None = []
+add_of agent None goal = []
+
+-- the agents of these paths are added, which are of agents from that one on
+abbrev pub adds_from : SolverPaths → ℕ → List (List Point) → List Edit
+adds_from spelled agent [] = []
+adds_from spelled agent (path ∷ paths) = add_of agent (start_in spelled agent path) (goal_in spelled agent path) ++ adds_from spelled (agent + 1) paths
+
+-- the agents are added
+abbrev pub adds_of : SolverPaths → List Edit
+adds_of spelled = adds_from spelled 0 spelled.paths
+
+-- the agents from that one on are given these paths
+abbrev pub paths_from : ℕ → List (List Point) → List Edit
+paths_from agent [] = []
+paths_from agent (path ∷ paths) = Path agent path ∷ paths_from (agent + 1) paths
+
+-- what the text asks for: its paths, and on a bare map its agents before them
+abbrev pub edits_of : Bool → SolverPaths → List Edit
+edits_of true spelled = adds_of spelled ++ paths_from 0 spelled.paths
+edits_of false spelled = paths_from 0 spelled.paths
+
+-- the edit adds an agent or gives one a path
+abbrev pub IsOfPaths : Edit → Type 0
+IsOfPaths (Add agent start goal) = Unit {0}
+IsOfPaths (Path agent cells) = Unit {0}
+IsOfPaths (Drop agent) = ⊥
+IsOfPaths (Goal agent goal) = ⊥
+IsOfPaths (Tail agent from cells) = ⊥
+IsOfPaths (Open cell) = ⊥
+IsOfPaths (Close cell) = ⊥

@@ -1,0 +1,91 @@
+-- Why there is no verdict: the first fault of the text of paths, the map, the scenario and the tasks, the agents and the paths
+-- (this project's choice). Want of memory is one fault, wherever it came.
+use Rattle.std.specs.Prelude.{◌≡◌, ◌⊎◌, ◌<◌, ℕ, Bool, true, false, Option, List, length, unwrap_or, is_none, Result, Ok, Err}
+use Rattle.grid_cells.specs.Size.{Extent}
+use Rattle.plan_table.specs.declared.tracks.Mode.{Mode}
+use Rattle.scene_edits.specs.Scene.{SceneState}
+use Rattle.scene_edits.specs.InOrder.{IsFirstFault}
+use Rattle.scene_edits.specs.declared.scenes.TheConstants.{MOST_AGENTS}
+use Rattle.scene_edits.specs.declared.edits.Edit.{Edit}
+use Rattle.scene_edits.specs.declared.edits.Edit.TheVariants as edits
+use Rattle.scene_edits.specs.declared.edits.EditFault.{EditFault}
+use Rattle.scene_edits.specs.declared.edits.EditFault.TheVariants.{TooManyAgents}
+use Rattle.session_lines.specs.SolverPaths.Texts.{paths_of}
+use Rattle.session_lines.specs.declared.solver_paths.forms.Form.{Form}
+use Rattle.session_lines.specs.declared.solver_paths.paths.SolverPaths.{SolverPaths}
+use Rattle.solver_check.specs.Opens.{Opens, IsOpenFault}
+use Rattle.solver_check.specs.declared.faults.RunFault.{RunFault}
+use Rattle.solver_check.specs.declared.faults.RunFault.TheVariants as run_fault
+use Rattle.solver_check.specs.CheckEdits.{edits_of}
+use Rattle.solver_check.specs.CheckTimes.{time_of}
+use Rattle.solver_check.specs.declared.checks.faults.CheckFault.{CheckFault}
+use Rattle.solver_check.specs.declared.checks.faults.CheckFault.TheVariants.{Paths, Run, Agent, Path, WriteFailed, OutOfMemory}
+
+abbrev pub of_run : RunFault → CheckFault
+of_run run_fault.OutOfMemory = OutOfMemory
+of_run why = Run why
+
+-- how many tasks of a scenario are taken: as many as there are paths, unless it is said
+abbrev pub tasks_taken : Option ℕ → SolverPaths → ℕ
+tasks_taken agents spelled = unwrap_or agents (length spelled.paths)
+
+-- the fault of an agent, or of a path at its time
+abbrev pub Tells : Extent → Edit → EditFault → CheckFault → Type 0
+Tells size (edits.Add agent start goal) why fault = fault ≡ Agent agent why
+Tells size (edits.Path agent cells) why fault = fault ≡ Path agent (time_of size cells why) why
+Tells size (edits.Drop agent) why fault = ⊥
+Tells size (edits.Goal agent goal) why fault = ⊥
+Tells size (edits.Tail agent from cells) why fault = ⊥
+Tells size (edits.Open cell) why fault = ⊥
+Tells size (edits.Close cell) why fault = ⊥
+
+-- the fault is that of the first edit that a scene refuses
+pub record IsFirstRefusal (scene : SceneState) (asked : List Edit) (fault : CheckFault) : Type 0 where
+  pub index : ℕ
+  pub why : EditFault
+  pub first : IsFirstFault scene asked index why
+  pub told : Tells scene.grid.size first.edit why fault
+
+-- what is answered where edits aren't all made: that fault, or want of memory
+abbrev pub IsRefused : SceneState → List Edit → CheckFault → Type 0
+IsRefused scene asked fault = IsFirstRefusal scene asked fault ⊎ (fault ≡ OutOfMemory)
+
+-- the text spells paths, and the map and the tasks make no scene
+pub record HasOpenFault (map : List ℕ) (scen : Option (List ℕ)) (agents : Option ℕ) (paths : List ℕ) (form : Option Form) (why : RunFault) : Type 0 where
+  pub spelled : SolverPaths
+  pub reads : paths_of form paths ≡ Ok spelled
+  pub first : IsOpenFault map scen (tasks_taken agents spelled) why
+
+-- the text spells more paths than there may be agents
+pub record HasTooMany (paths : List ℕ) (form : Option Form) (fault : CheckFault) : Type 0 where
+  pub spelled : SolverPaths
+  pub reads : paths_of form paths ≡ Ok spelled
+  pub many : MOST_AGENTS < length spelled.paths
+  pub told : fault ≡ Agent MOST_AGENTS TooManyAgents
+
+-- the scene opens, and refuses an agent or a path
+pub record HasRefusal (map : List ℕ) (scen : Option (List ℕ)) (agents : Option ℕ) (mode : Mode) (paths : List ℕ) (form : Option Form) (fault : CheckFault) : Type 0 where
+  pub spelled : SolverPaths
+  pub reads : paths_of form paths ≡ Ok spelled
+  pub opened : SceneState
+  pub opens : Opens map scen (tasks_taken agents spelled) mode opened
+  pub first : IsFirstRefusal opened (edits_of (is_none scen) spelled) fault
+
+-- the first fault of what a check reads; want of memory may come in place of any
+abbrev pub IsPlanFault : List ℕ → Option (List ℕ) → Option ℕ → Mode → List ℕ → Option Form → CheckFault → Type 0
+IsPlanFault map scen agents mode paths form (Paths why) = paths_of form paths ≡ Err why
+IsPlanFault map scen agents mode paths form (Run why) = HasOpenFault map scen agents paths form why
+IsPlanFault map scen agents mode paths form (Agent agent why) = HasTooMany paths form (Agent agent why) ⊎ HasRefusal map scen agents mode paths form (Agent agent why)
+IsPlanFault map scen agents mode paths form (Path agent time why) = HasRefusal map scen agents mode paths form (Path agent time why)
+IsPlanFault map scen agents mode paths form WriteFailed = ⊥
+IsPlanFault map scen agents mode paths form OutOfMemory = Unit {0}
+
+-- the verdict could not be written
+abbrev pub has_write_failed : {T : Type 0} → Result T CheckFault → Bool
+has_write_failed (Ok done) = false
+has_write_failed (Err WriteFailed) = true
+has_write_failed (Err (Paths why)) = false
+has_write_failed (Err (Run why)) = false
+has_write_failed (Err (Agent agent why)) = false
+has_write_failed (Err (Path agent time why)) = false
+has_write_failed (Err OutOfMemory) = false

@@ -1,0 +1,42 @@
+-- A run of `check`: the verdict on the paths of a text (this project's choice).
+use Rattle.std.specs.Prelude.{◌≡◌, ◌⊎◌, ◌↔◌, IsTrue, ℕ, List, Option, is_none, Ok, Bool}
+use Rattle.std.specs.Io.KnownBytes.{Appends}
+use Rattle.plan_table.specs.declared.tracks.Mode.{Mode}
+use Rattle.scene_edits.specs.Scene.{SceneState}
+use Rattle.scene_edits.specs.InOrder.{edited_all, AreAllowed}
+use Rattle.session_lines.specs.SolverPaths.Texts.{paths_of}
+use Rattle.session_lines.specs.declared.solver_paths.forms.Form.{Form}
+use Rattle.session_lines.specs.declared.solver_paths.paths.SolverPaths.{SolverPaths}
+use Rattle.desk_report.specs.Report.{IsReportOf}
+use Rattle.desk_report.specs.Solves.{Solves}
+use Rattle.mapf_rules.specs.declared.kinds.Kinds.{Kinds}
+use Rattle.desk_report.specs.declared.reports.Report.{Report}
+use Rattle.solver_check.specs.Opens.{Opens}
+use Rattle.solver_check.specs.CheckEdits.{edits_of}
+use Rattle.solver_check.specs.CheckFaults.{tasks_taken, IsPlanFault}
+use Rattle.solver_check.specs.declared.checks.faults.CheckFault.{CheckFault}
+use Rattle.solver_check.specs.declared.checks.faults.CheckFault.TheVariants.{WriteFailed}
+use Rattle.solver_check.specs.CheckTexts.{check_text}
+
+-- the scene that opens from the map and the tasks, with the agents and the paths that the text spells, all of them allowed
+pub record IsPlanned (map : List ℕ) (scen : Option (List ℕ)) (agents : Option ℕ) (mode : Mode) (paths : List ℕ) (form : Option Form) (scene : SceneState) : Type 0 where
+  pub spelled : SolverPaths
+  pub reads : paths_of form paths ≡ Ok spelled
+  pub opened : SceneState
+  pub opens : Opens map scen (tasks_taken agents spelled) mode opened
+  pub allowed : AreAllowed opened (edits_of (is_none scen) spelled)
+  pub is : scene ≡ edited_all opened (edits_of (is_none scen) spelled)
+
+-- what a check that comes to its end has written and answers
+pub record Checks (map : List ℕ) (scen : Option (List ℕ)) (agents : Option ℕ) (mode : Mode) (paths : List ℕ) (form : Option Form) (kinds : Kinds) (quiet : Bool) (held0 held1 : Option (List ℕ)) (solved : Bool) : Type 0 where
+  pub scene : SceneState
+  pub planned : IsPlanned map scen agents mode paths form scene
+  pub report : Report
+  pub told : IsReportOf scene.grid scene.mode scene.rows report
+  pub answer : IsTrue solved ↔ Solves report kinds
+  pub written : Appends held0 held1 (check_text quiet report solved)
+
+-- how a check fails: by the first fault of what it reads, else, where there is none, by its writer
+abbrev pub IsCheckFault : List ℕ → Option (List ℕ) → Option ℕ → Mode → List ℕ → Option Form → CheckFault → Type 0
+IsCheckFault map scen agents mode paths form fault =
+    IsPlanFault map scen agents mode paths form fault ⊎ ((fault ≡ WriteFailed) × ((scene : SceneState) × IsPlanned map scen agents mode paths form scene))

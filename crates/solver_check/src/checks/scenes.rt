@@ -1,0 +1,117 @@
+//! The scene that a text of paths makes.
+ghost use Rattle.std.specs.Prelude.{◌≡◌, ◌≤◌, length, IfOk, IfErr, OnOk};
+ghost use Rattle.scene_edits.specs.InOrder.{edited_all, AreAllowed};
+ghost use Rattle.scene_edits.specs.declared.scenes.TheConstants.{MOST_AGENTS};
+ghost use Rattle.solver_check.specs.CheckEdits.{edits_of, IsOfPaths};
+ghost use Rattle.solver_check.specs.CheckFaults.{IsPlanFault, IsRefused, Tells};
+ghost use Rattle.solver_check.specs.Checks.{IsPlanned};
+ghost use Rattle.solver_check.specs.Opens.{bytes_of};
+
+use crate::checks::edits::edits_of;
+use crate::checks::faults::CheckFault;
+use crate::checks::times::time_of;
+use crate::scenes::{Problem, scene_of};
+use grid_cells::{Agent, OutOfMemory, Size};
+use scene_edits::{Edit, EditFault, EditsFault, MOST_AGENTS, Scene};
+use session_lines::solver_paths::{Form, PathsFault, SolverPaths, read_paths};
+use std::alloc::Global;
+
+// The fault of an agent, or of a path.
+fn refusal_of(size: Size, edit: &Edit, why: EditFault) -> CheckFault
+    requires { IsOfPaths edit.now }
+    ensures { Tells size edit.now why result }
+{
+    match edit {
+        Edit::Add { agent, .. } => CheckFault::Agent { agent: *agent, why },
+        Edit::Path { agent, cells } => CheckFault::Path {
+            agent: *agent,
+            time: time_of(size, cells.items(), why),
+            why,
+        },
+        _ => unreachable!(),
+    }
+}
+
+// Gives the scene the paths, and on a bare map the agents before them.
+fn plan(
+    alloc: Global,
+    scene: &mut Scene,
+    spelled: SolverPaths,
+    bare: bool,
+) -> Result<(), CheckFault>
+    requires { length spelled.paths ≤ MOST_AGENTS }
+    ensures ok { OnOk result (AreAllowed scene.old (edits_of bare spelled) × (scene.new ≡ edited_all scene.old (edits_of bare spelled))) }
+    ensures err { IfErr result (IsRefused scene.old (edits_of bare spelled)) }
+{
+    let edits = match edits_of(alloc, spelled, bare) {
+        Ok(edits) => edits,
+        Err(OutOfMemory) => return Err(CheckFault::OutOfMemory),
+    };
+    let edits = edits.items();
+    match scene.apply_all(edits) {
+        Ok(_) => Ok(()),
+        Err(EditsFault::OutOfMemory) => Err(CheckFault::OutOfMemory),
+        Err(EditsFault::Faulty { index, why }) => {
+            Err(refusal_of(scene.grid().size(), &edits[index], why))
+        }
+    }
+}
+
+// The fault of a text that spells too many paths.
+fn too_many() -> CheckFault
+    ensures { result ≡ CheckFault.Agent MOST_AGENTS EditFault.TooManyAgents }
+{
+    let Some(agent) = Agent::new(MOST_AGENTS) else {
+        unreachable!()
+    };
+    CheckFault::Agent {
+        agent,
+        why: EditFault::TooManyAgents,
+    }
+}
+
+/// The scene of a problem, with the paths of a text and, where there is no scenario, their agents.
+///
+/// # Errors
+///
+/// The first fault of the text of paths, the map, the scenario, the tasks, the agents and the paths,
+/// or want of memory.
+pub fn planned_scene(
+    alloc: Global,
+    problem: Problem<'_>,
+    paths: &[u8],
+    form: Option<Form>,
+) -> Result<Scene, CheckFault>
+    ensures ok { IfOk result (IsPlanned problem.entry.map.now (bytes_of problem.entry.scen) problem.entry.agents problem.entry.mode paths.now form) }
+    ensures err { IfErr result (IsPlanFault problem.entry.map.now (bytes_of problem.entry.scen) problem.entry.agents problem.entry.mode paths.now form) }
+{
+    let spelled = match read_paths(alloc, paths, form) {
+        Ok(spelled) => spelled,
+        Err(PathsFault::OutOfMemory) => return Err(CheckFault::OutOfMemory),
+        Err(fault) => return Err(CheckFault::Paths(fault)),
+    };
+    let many = spelled.paths.items().len();
+    if many > MOST_AGENTS as usize {
+        drop(spelled);
+        return Err(too_many());
+    }
+    let tasks = problem.agents.unwrap_or(many as u32);
+    let counted = Problem {
+        agents: Some(tasks),
+        ..problem
+    };
+    let mut scene = match scene_of(alloc, counted) {
+        Ok(scene) => scene,
+        Err(fault) => {
+            drop(spelled);
+            return Err(CheckFault::from(fault));
+        }
+    };
+    match plan(alloc, &mut scene, spelled, problem.scen.is_none()) {
+        Ok(()) => Ok(scene),
+        Err(fault) => {
+            drop(scene);
+            Err(fault)
+        }
+    }
+}

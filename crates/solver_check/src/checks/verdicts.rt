@@ -1,0 +1,71 @@
+ghost use Rattle.std.specs.Prelude.{◌≡◌, ◌≢◌, ◌≤◌, ◌↔◌, ◌||◌, IfOk, IfErr, IsTrue};
+ghost use Rattle.desk_report.specs.Solves.{Solves};
+ghost use Rattle.solver_check.specs.Checks.{Checks, IsCheckFault};
+ghost use Rattle.solver_check.specs.CheckFaults.{has_write_failed};
+ghost use Rattle.solver_check.specs.Opens.{bytes_of};
+
+use crate::checks::faults::CheckFault;
+use crate::checks::scenes::planned_scene;
+use crate::checks::texts::put_check;
+use crate::reporting::report_of;
+use crate::scenes::Problem;
+use desk_report::{Kinds, Report, Sink, WriteFailed};
+use grid_cells::OutOfMemory;
+use session_lines::solver_paths::Form;
+use std::alloc::Global;
+use std::sync::Wait;
+use std::thread::Threads;
+
+// Whether the report says that the problem is solved, by those kinds of conflicts.
+fn solves(report: &Report, kinds: Kinds) -> bool
+    ensures { IsTrue result ↔ Solves report.now kinds }
+{
+    report.solves(kinds)
+}
+
+/// Writes and answers whether paths that a solver wrote solve their problem, by the kinds of
+/// conflicts that are named. The scene is that of a map in a mode, with the agents of the first
+/// tasks of a scenario: so many, or else one for each path. With no scenario its agents are those of
+/// the paths, each with the start and the goal that their text tells, or else the two ends of its
+/// path. The report is made from scratch, by so many threads; a quiet one is without its lists.
+///
+/// # Errors
+///
+/// The first fault of the paths' text, the map, the scenario, the tasks, the agents and the paths,
+/// want of memory, or a fault of the writer. But for the last, nothing is written.
+pub fn run_check<T: Threads + Wait, W: Sink>(
+    rt: &T,
+    alloc: Global,
+    problem: Problem<'_>,
+    paths: &[u8],
+    form: Option<Form>,
+    kinds: Kinds,
+    quiet: bool,
+    workers: u32,
+    writer: &mut W,
+) -> Result<bool, CheckFault>
+    requires workers { (1 ≤ workers) × (workers ≤ 64) }
+    ensures ok { IfOk result (Checks problem.entry.map.now (bytes_of problem.entry.scen) problem.entry.agents problem.entry.mode
+        paths.now form kinds quiet (W.held writer.old) (W.held writer.new)) }
+    ensures err { IfErr result (IsCheckFault problem.entry.map.now (bytes_of problem.entry.scen) problem.entry.agents problem.entry.mode paths.now form) }
+    ensures broken { W.broken writer.new ≡ (W.broken writer.old || has_write_failed result) }
+    ensures silent { IfErr result (λ fault. fault ≢ CheckFault.WriteFailed → W.held writer.new ≡ W.held writer.old) }
+{
+    let scene = match planned_scene(alloc, problem, paths, form) {
+        Ok(scene) => scene,
+        Err(fault) => return Err(fault),
+    };
+    let told = report_of(rt, alloc, &scene, workers);
+    drop(scene);
+    let report = match told {
+        Ok(report) => report,
+        Err(OutOfMemory) => return Err(CheckFault::OutOfMemory),
+    };
+    let yes = solves(&report, kinds);
+    let put = put_check(writer, quiet, &report, yes);
+    drop(report);
+    match put {
+        Ok(()) => Ok(yes),
+        Err(WriteFailed) => Err(CheckFault::WriteFailed),
+    }
+}

@@ -1,5 +1,0 @@
-use Rattle.text_runs.proofs.Returning.{saved_desks_come_back_holds}
-use Rattle.text_runs.proofs.laws.saved_desks_come_back.Goals as goal
-
-pub returns : goal.returns
-returns c = saved_desks_come_back_holds
