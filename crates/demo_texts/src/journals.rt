@@ -1,7 +1,7 @@
 //! Journals: their mode where they are read, and their text of version 2.
 use bstr::ByteSlice;
+use journal_text::{read_journal, upgrade_journal};
 use plan_table::Mode;
-use session_protocol::{read_journal, upgrade_journal};
 use std::alloc::{AllocError, Global};
 
 // The mode, or why the text isn't read.

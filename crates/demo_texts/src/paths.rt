@@ -1,6 +1,6 @@
 //! Files of paths: their form, the starts and goals that they tell, and each path with all its cells.
 use grid_cells::{Cell, List};
-use session_lines::solver_paths::{Form, SolverPaths, read_paths};
+use path_files::{Form, SolverPaths, read_paths};
 use std::alloc::{AllocError, Global};
 
 /// The form of that name.

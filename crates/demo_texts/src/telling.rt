@@ -5,8 +5,8 @@ use desk_cli::{
 };
 use desk_report::Kinds;
 use grid_cells::Agent;
+use path_files::Form;
 use plan_table::Mode;
-use session_lines::solver_paths::Form;
 use std::alloc::AllocError;
 
 /// What words are read as.

@@ -3,7 +3,7 @@ use crate::reading::{mode_of, workers_of};
 use crate::words::CheckWords;
 use clap::ArgMatches;
 use mapf_rules::Kinds;
-use session_lines::solver_paths::Form;
+use path_files::Form;
 
 const NO_KINDS: Kinds = Kinds {
     vertex: false,

@@ -2,8 +2,8 @@ use crate::helping::{MAP_PROMPT, SESSION_PROMPT};
 use clap::Error;
 use grid_cells::Agent;
 use mapf_rules::Kinds;
+use path_files::Form;
 use plan_table::Mode;
-use session_lines::solver_paths::Form;
 
 /// What the words ask for. The files and planners that they name are texts of the words, which stay
 /// as long as the program runs.

@@ -2,10 +2,10 @@
 use crate::faulty_paths::{cells_of, ends_of};
 use bench_reader::{MapFault, ScenFault};
 use desk_commits::{Refusal, ReplayFault};
+use journal_text::JournalFault;
+use path_files::{Form, PathsFault};
 use plan_table::Mode;
 use scene_edits::{EditFault, Thing};
-use session_lines::solver_paths::{Form, PathsFault};
-use session_protocol::JournalFault;
 use solver_check::{CheckFault, Problem, RunFault, fault_word};
 use std::alloc::{AllocError, Global};
 

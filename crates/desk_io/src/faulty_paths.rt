@@ -2,8 +2,8 @@
 use crate::details::Texts;
 use bench_reader::{read_map, read_scen};
 use grid_cells::{Agent, Cell};
+use path_files::{Form, SolverPaths, read_paths};
 use scene_edits::EditFault;
-use session_lines::solver_paths::{Form, SolverPaths, read_paths};
 use std::alloc::Global;
 use std::fmt;
 

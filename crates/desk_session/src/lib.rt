@@ -7,8 +7,9 @@ mod starting;
 
 pub use desk_commits::{Counter, Journal};
 pub use desk_shared::Window;
-pub use session_protocol::{
-    Bounds, JournalFault, ServeFault, StartFault, hear_map, one_journal_answer, read_journal,
-    serve, upgrade_journal, write_journal, written_reads_back,
+pub use journal_text::{
+    JournalFault, one_journal_answer, read_journal, upgrade_journal, write_journal,
+    written_reads_back,
 };
+pub use session_protocol::{Bounds, ServeFault, StartFault, hear_map, serve};
 pub use starting::serve_with_map;

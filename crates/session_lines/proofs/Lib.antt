@@ -1,2 +1,1 @@
 pub mod KindLemmas
-pub mod SolverPaths

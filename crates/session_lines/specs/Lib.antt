@@ -6,4 +6,3 @@ pub mod Shapes
 pub mod Edits
 pub mod Faults
 pub mod Requests
-pub mod SolverPaths

@@ -30,7 +30,7 @@ pub enum Command {
 }
 
 /// Whether a line with that first word is a remark.
-pub(crate) fn is_remark(word: &[u8]) -> bool
+pub fn is_remark(word: &[u8]) -> bool
     ensures { result ≡ is_remark word.now }
 {
     match word {

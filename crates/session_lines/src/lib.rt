@@ -1,5 +1,4 @@
-//! The lines of sessions: their words, and the requests that they stand for; and the files of
-//! paths that solvers write, as such lines or in forms of their own.
+//! The grammar of session lines: their words, and the requests that they stand for.
 #![tactic(auto)]
 
 mod cells;
@@ -8,7 +7,8 @@ mod edits;
 mod kinds;
 mod requests;
 mod shapes;
-pub mod solver_paths;
 mod values;
 
+pub use commands::is_remark;
 pub use requests::{LineFault, Request, read_line};
+pub use values::{is_word, place_of};

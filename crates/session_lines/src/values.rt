@@ -6,7 +6,7 @@ use bench_reader::number_of;
 use grid_cells::{Agent, Cell, MOST_SIDE, Step};
 
 /// Whether the word is that name.
-pub(crate) fn is_word(word: &[u8], name: &[u8]) -> bool
+pub fn is_word(word: &[u8], name: &[u8]) -> bool
     ensures { result ≡ bytes_eq word.now name.now }
 {
     word == name
@@ -27,7 +27,7 @@ pub(crate) fn time_of(word: &[u8]) -> Option<Step>
 }
 
 /// The column or the row that a word writes.
-pub(crate) fn place_of(word: &[u8]) -> Option<u32>
+pub fn place_of(word: &[u8]) -> Option<u32>
     ensures { result ≡ place_of word.now }
 {
     let number = number_of(word)?;

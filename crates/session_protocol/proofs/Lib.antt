@@ -5,4 +5,3 @@ pub mod Endings
 pub mod Reading
 pub mod MapLines
 pub mod Staying
-pub mod JournalText

@@ -8,4 +8,3 @@ pub mod Session
 pub mod Reads
 pub mod Answer
 pub mod Start
-pub mod JournalText

@@ -1,4 +1,4 @@
-//! Sessions of planners over bytes: lines in, answers out; and the text of journals.
+//! Sessions of planners over bytes: lines in, answers out.
 #![tactic(auto)]
 
 mod answers;
@@ -6,7 +6,6 @@ mod bounds;
 mod drafts;
 mod gathering;
 mod hearing;
-mod journals;
 mod refusals;
 mod replies;
 mod serving;
@@ -14,8 +13,4 @@ mod writers;
 
 pub use bounds::{Bounds, ServeFault, StartFault};
 pub use hearing::hear_map;
-pub use journals::{
-    JournalFault, one_journal_answer, read_journal, upgrade_journal, write_journal,
-    written_reads_back,
-};
 pub use serving::serve;

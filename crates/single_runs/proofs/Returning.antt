@@ -11,11 +11,11 @@ use Rattle.desk_commits.specs.declared.answers.Reading.{Reading}
 use Rattle.desk_commits.specs.declared.journals.ReplayFault.{ReplayFault}
 use Rattle.desk_commits.proofs.Headline.{entries_make_the_scene_holds}
 use Rattle.desk_commits.proofs.LegalJournals.{legal_journals_replay_holds}
-use Rattle.session_protocol.specs.JournalText.Ranges.{IsJournal}
-use Rattle.session_protocol.specs.JournalText.Reading.{ReadsAs}
-use Rattle.session_protocol.specs.declared.journals.faults.JournalFault.{JournalFault}
-use Rattle.session_protocol.proofs.JournalText.BadLines.{one-journal}
-use Rattle.session_protocol.proofs.JournalText.OneAnswer.{reads_back}
+use Rattle.journal_text.specs.Ranges.{IsJournal}
+use Rattle.journal_text.specs.Reading.{ReadsAs}
+use Rattle.journal_text.specs.declared.faults.JournalFault.{JournalFault}
+use Rattle.journal_text.proofs.BadLines.{one-journal}
+use Rattle.journal_text.proofs.OneAnswer.{reads_back}
 use Rattle.solver_check.specs.Faults.{as_told}
 use Rattle.single_runs.specs.Opened.{ReplaysAs}
 use Rattle.single_runs.specs.Saved.{SavedDesksComeBack, log_of, saved_text, under}

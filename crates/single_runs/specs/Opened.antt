@@ -5,8 +5,8 @@ use Rattle.scene_edits.specs.Scene.{SceneState}
 use Rattle.desk_commits.specs.State.{DeskState, opening}
 use Rattle.desk_commits.specs.Replays.{Log, IsReplay}
 use Rattle.desk_commits.specs.declared.journals.ReplayFault.{ReplayFault}
-use Rattle.session_protocol.specs.JournalText.Reading.{ReadsAs}
-use Rattle.session_protocol.specs.declared.journals.faults.JournalFault.{JournalFault}
+use Rattle.journal_text.specs.Reading.{ReadsAs}
+use Rattle.journal_text.specs.declared.faults.JournalFault.{JournalFault}
 use Rattle.solver_check.specs.Faults.{as_told}
 use Rattle.solver_check.specs.Opens.{Opens, IsOpenFault}
 use Rattle.solver_check.specs.declared.faults.RunFault.{RunFault}

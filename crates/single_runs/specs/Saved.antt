@@ -5,8 +5,8 @@ use Rattle.desk_commits.specs.Questions.{Shows}
 use Rattle.desk_commits.specs.Replays.{Log}
 use Rattle.desk_commits.specs.State.{DeskState}
 use Rattle.desk_commits.specs.declared.answers.Reading.{Reading}
-use Rattle.session_protocol.specs.JournalText.Lines.{journal_text}
-use Rattle.session_protocol.specs.JournalText.Ranges.{IsJournal}
+use Rattle.journal_text.specs.Lines.{journal_text}
+use Rattle.journal_text.specs.Ranges.{IsJournal}
 use Rattle.session_protocol.specs.Answer.{answering}
 use Rattle.desk_commits.specs.Counting.{desk_counting}
 use Rattle.session_protocol.specs.Session.{Serves}

@@ -3,8 +3,8 @@ ghost use Rattle.single_runs.specs.Opened.{OpensDesk, IsDeskFault, ReplaysAs};
 ghost use Rattle.solver_check.specs.Opens.{bytes_of};
 
 use desk_core::{Desk, Limit, replay};
+use journal_text::read_journal;
 use scene_edits::Scene;
-use session_protocol::read_journal;
 use solver_check::{Problem, RunFault, scene_of};
 use std::alloc::Global;
 

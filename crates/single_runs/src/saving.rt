@@ -1,12 +1,12 @@
 ghost use Rattle.std.specs.Prelude.{◌≡◌, OnOk, OnErr, is_err, ◌||◌};
 ghost use Rattle.std.specs.Io.KnownBytes.{Appends};
 ghost use Rattle.desk_report.specs.Bytes.{AppendsFront};
-ghost use Rattle.session_protocol.specs.JournalText.Ranges.{IsJournal};
+ghost use Rattle.journal_text.specs.Ranges.{IsJournal};
 ghost use Rattle.single_runs.specs.Saved.{log_of, saved_text};
 
 use desk_core::Desk;
 use desk_report::{Sink, WriteFailed};
-use session_protocol::write_journal;
+use journal_text::write_journal;
 
 /// Writes the journal of a desk, from which a desk of the same scene and journal can be opened where
 /// this one was. It takes no memory.

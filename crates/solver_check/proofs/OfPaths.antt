@@ -5,7 +5,7 @@ use Rattle.std.proofs.lemmas.List.Elements.{All-append, All-from_recursion}
 use Rattle.std.proofs.lemmas.Option.{slice_get_within, get_or_from_slice_get}
 use Rattle.grid_cells.specs.Cell.{Point}
 use Rattle.scene_edits.specs.declared.edits.Edit.{Edit}
-use Rattle.session_lines.specs.declared.solver_paths.paths.SolverPaths.{SolverPaths}
+use Rattle.path_files.specs.declared.paths.SolverPaths.{SolverPaths}
 use Rattle.solver_check.specs.CheckEdits.{start_in, goal_in, add_of, adds_from, paths_from, edits_of, IsOfPaths}
 
 add-of_paths : (agent : ℕ) (start goal : Option Point) → AllByRecursion IsOfPaths (add_of agent start goal)

@@ -8,8 +8,8 @@ use Rattle.scene_edits.specs.declared.tasks.TaskFault.{TaskFault}
 use Rattle.scene_edits.specs.declared.tasks.TaskFault.TheVariants as tasks
 use Rattle.desk_commits.specs.declared.journals.ReplayFault.{ReplayFault}
 use Rattle.desk_commits.specs.declared.journals.ReplayFault.TheVariants as replay
-use Rattle.session_protocol.specs.declared.journals.faults.JournalFault.{JournalFault}
-use Rattle.session_protocol.specs.declared.journals.faults.JournalFault.TheVariants as journal
+use Rattle.journal_text.specs.declared.faults.JournalFault.{JournalFault}
+use Rattle.journal_text.specs.declared.faults.JournalFault.TheVariants as journal
 use Rattle.session_protocol.specs.Session.{is_read_failed, is_write_failed}
 use Rattle.session_protocol.specs.Start.{StopsInMap}
 use Rattle.session_protocol.specs.declared.bounds.ServeFault.{ServeFault}

@@ -5,7 +5,7 @@ use Rattle.grid_cells.specs.Cell.{Point}
 use Rattle.plan_table.specs.Path.{last_index}
 use Rattle.scene_edits.specs.declared.edits.Edit.{Edit}
 use Rattle.scene_edits.specs.declared.edits.Edit.TheVariants.{Add, Drop, Goal, Path, Tail, Open, Close}
-use Rattle.session_lines.specs.declared.solver_paths.paths.SolverPaths.{SolverPaths}
+use Rattle.path_files.specs.declared.paths.SolverPaths.{SolverPaths}
 
 -- an agent's cell in a list of the text's where that has one, else the cell of its path at that index
 abbrev pub cell_in : Option (List Point) → ℕ → List Point → ℕ → Option Point

@@ -10,9 +10,9 @@ use Rattle.scene_edits.specs.declared.edits.Edit.{Edit}
 use Rattle.scene_edits.specs.declared.edits.Edit.TheVariants as edits
 use Rattle.scene_edits.specs.declared.edits.EditFault.{EditFault}
 use Rattle.scene_edits.specs.declared.edits.EditFault.TheVariants.{TooManyAgents}
-use Rattle.session_lines.specs.SolverPaths.Texts.{paths_of}
-use Rattle.session_lines.specs.declared.solver_paths.forms.Form.{Form}
-use Rattle.session_lines.specs.declared.solver_paths.paths.SolverPaths.{SolverPaths}
+use Rattle.path_files.specs.Texts.{paths_of}
+use Rattle.path_files.specs.declared.forms.Form.{Form}
+use Rattle.path_files.specs.declared.paths.SolverPaths.{SolverPaths}
 use Rattle.solver_check.specs.Opens.{Opens, IsOpenFault}
 use Rattle.solver_check.specs.declared.faults.RunFault.{RunFault}
 use Rattle.solver_check.specs.declared.faults.RunFault.TheVariants as run_fault

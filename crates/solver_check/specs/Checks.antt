@@ -4,9 +4,9 @@ use Rattle.std.specs.Io.KnownBytes.{Appends}
 use Rattle.plan_table.specs.declared.tracks.Mode.{Mode}
 use Rattle.scene_edits.specs.Scene.{SceneState}
 use Rattle.scene_edits.specs.InOrder.{edited_all, AreAllowed}
-use Rattle.session_lines.specs.SolverPaths.Texts.{paths_of}
-use Rattle.session_lines.specs.declared.solver_paths.forms.Form.{Form}
-use Rattle.session_lines.specs.declared.solver_paths.paths.SolverPaths.{SolverPaths}
+use Rattle.path_files.specs.Texts.{paths_of}
+use Rattle.path_files.specs.declared.forms.Form.{Form}
+use Rattle.path_files.specs.declared.paths.SolverPaths.{SolverPaths}
 use Rattle.desk_report.specs.Report.{IsReportOf}
 use Rattle.desk_report.specs.Solves.{Solves}
 use Rattle.mapf_rules.specs.declared.kinds.Kinds.{Kinds}

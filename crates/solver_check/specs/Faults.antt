@@ -4,7 +4,7 @@ use Rattle.bench_reader.specs.declared.maps.MapFault.TheVariants as map
 use Rattle.bench_reader.specs.declared.scens.ScenFault.TheVariants as scen
 use Rattle.scene_edits.specs.declared.tasks.TaskFault.TheVariants as tasks
 use Rattle.desk_commits.specs.declared.journals.ReplayFault.TheVariants as replay
-use Rattle.session_protocol.specs.declared.journals.faults.JournalFault.TheVariants as journal
+use Rattle.journal_text.specs.declared.faults.JournalFault.TheVariants as journal
 use Rattle.session_protocol.specs.declared.bounds.ServeFault.{ServeFault}
 use Rattle.session_protocol.specs.declared.bounds.ServeFault.TheVariants as session
 use Rattle.solver_check.specs.declared.faults.RunFault.{RunFault}

@@ -4,8 +4,9 @@ ghost use Rattle.solver_check.specs.declared.faults.RunFault.TheVariants.{Journa
 
 use bench_reader::{MapFault, ScenFault};
 use desk_commits::ReplayFault;
+use journal_text::JournalFault;
 use scene_edits::TaskFault;
-use session_protocol::{JournalFault, ServeFault};
+use session_protocol::ServeFault;
 use thiserror::Error;
 
 /// Why a run did not come to its end.

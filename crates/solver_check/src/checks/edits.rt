@@ -4,8 +4,8 @@ ghost use Rattle.scene_edits.specs.declared.scenes.TheConstants.{MOST_AGENTS};
 ghost use Rattle.solver_check.specs.CheckEdits.{adds_of, cell_in, edits_of, paths_from};
 
 use grid_cells::{Agent, Cell, List, OutOfMemory};
+use path_files::SolverPaths;
 use scene_edits::Edit;
-use session_lines::solver_paths::SolverPaths;
 use std::alloc::Global;
 
 // The agent of that number.

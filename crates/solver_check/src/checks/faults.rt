@@ -3,8 +3,8 @@ ghost use Rattle.solver_check.specs.CheckFaults.{of_run};
 
 use crate::faults::RunFault;
 use grid_cells::Agent;
+use path_files::PathsFault;
 use scene_edits::EditFault;
-use session_lines::solver_paths::PathsFault;
 use thiserror::Error;
 
 /// Why there is no verdict on a text of paths, or no picture.

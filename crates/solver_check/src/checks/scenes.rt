@@ -12,8 +12,8 @@ use crate::checks::faults::CheckFault;
 use crate::checks::times::time_of;
 use crate::scenes::{Problem, scene_of};
 use grid_cells::{Agent, OutOfMemory, Size};
+use path_files::{Form, PathsFault, SolverPaths, read_paths};
 use scene_edits::{Edit, EditFault, EditsFault, MOST_AGENTS, Scene};
-use session_lines::solver_paths::{Form, PathsFault, SolverPaths, read_paths};
 use std::alloc::Global;
 
 // The fault of an agent, or of a path.

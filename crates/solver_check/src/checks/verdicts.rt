@@ -11,7 +11,7 @@ use crate::reporting::report_of;
 use crate::scenes::Problem;
 use desk_report::{Kinds, Report, Sink, WriteFailed};
 use grid_cells::OutOfMemory;
-use session_lines::solver_paths::Form;
+use path_files::Form;
 use std::alloc::Global;
 use std::sync::Wait;
 use std::thread::Threads;

@@ -1,0 +1,15 @@
+use Rattle.std.proofs.Common.{◌≡◌, ◌+◌, ◌≤◌, length}
+use Rattle.bench_reader.specs.Lines.{lines_of}
+use Rattle.path_files.specs.Lines.{written_from}
+use Rattle.path_files.specs.Heads.{no_head}
+use Rattle.path_files.specs.Times.{by_time}
+use Rattle.path_files.proofs.times.read_by_time.Given as goal
+
+abbrev pub invariant-loop-line : goal.invariant-loop-line
+invariant-loop-line l = record {
+  so_far : by_time no_head (written_from 1 (lines_of l.text)) ≡ by_time l.head (written_from l.number (lines_of l.rest));
+  room : l.number + length l.rest ≤ 1 + length l.text;
+}
+
+abbrev pub decreases-loop-line : goal.decreases-loop-line
+decreases-loop-line l = length l.rest

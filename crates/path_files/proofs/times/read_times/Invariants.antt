@@ -1,0 +1,17 @@
+use Rattle.std.proofs.Common.{◌≡◌, ◌+◌, ◌≤◌, [], length}
+use Rattle.bench_reader.specs.Lines.{lines_of}
+use Rattle.plan_table.specs.declared.paths.TheConstants.{MOST_LAST_INDEX}
+use Rattle.path_files.specs.Lines.{written_from}
+use Rattle.path_files.specs.Heads.{agents_told}
+use Rattle.path_files.specs.Times.{times_from}
+use Rattle.path_files.proofs.times.read_times.Given as goal
+
+abbrev pub invariant-loop-line : goal.invariant-loop-line
+invariant-loop-line l = record {
+  so_far : times_from 0 (agents_told l.head) [] (written_from l.first (lines_of l.text)) ≡ times_from l.time l.count l.paths.items (written_from l.number (lines_of l.rest));
+  room : l.number + length l.rest ≤ l.first + length l.text;
+  few : l.time ≤ MOST_LAST_INDEX + 1;
+}
+
+abbrev pub decreases-loop-line : goal.decreases-loop-line
+decreases-loop-line l = length l.rest

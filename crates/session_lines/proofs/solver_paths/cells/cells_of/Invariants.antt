@@ -1,9 +1,0 @@
-use Rattle.std.proofs.Common.{◌≡◌, length}
-use Rattle.session_lines.specs.SolverPaths.Cells.{parts_of, cells_from, cells_of}
-use Rattle.session_lines.proofs.solver_paths.cells.cells_of.Given as goal
-
-abbrev pub invariant-loop-part : goal.invariant-loop-part
-invariant-loop-part l = cells_of l.notation l.line l.text ≡ cells_from l.notation l.line l.front l.cells.items (parts_of l.rest)
-
-abbrev pub decreases-loop-part : goal.decreases-loop-part
-decreases-loop-part l = length l.rest

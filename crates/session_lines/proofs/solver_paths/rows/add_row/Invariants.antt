@@ -1,9 +1,0 @@
-use Rattle.std.proofs.Common.{◌≡◌, ◌≤◌, length, take}
-use Rattle.session_lines.specs.SolverPaths.Rows.{with_row}
-use Rattle.session_lines.proofs.solver_paths.rows.add_row.Given as goal
-
-abbrev pub invariant-loop-agent : goal.invariant-loop-agent
-invariant-loop-agent l = record {
-  so_far : l.paths.items ≡ with_row l.fn.paths.items (take l.agent l.row);
-  reached : l.agent ≤ length l.paths.items;
-}
