@@ -12,4 +12,5 @@ pub mod LeftRings
 pub mod Beside
 pub mod Turning
 pub mod Mending
+pub mod Named
 pub mod KindOrder

@@ -6,3 +6,4 @@ pub mod Gathering
 pub mod Late
 pub mod Turns
 pub mod Mending
+pub mod Named

@@ -7,6 +7,7 @@ mod gather;
 mod least;
 mod ledger;
 mod movers;
+mod of_agents;
 mod offers;
 mod places;
 mod resting;
@@ -22,3 +23,4 @@ pub use mapf_rules::{
     one_conflict_list, position, ring_from, ring_out_of, ring_through, sorted,
     swap_is_two_followings,
 };
+pub use of_agents::naming;
