@@ -12,7 +12,7 @@ mod sizes;
 
 pub use cells::Cell;
 pub use grids::Grid;
-pub use laws::{one_distance, walks_are_lists};
+pub use laws::{limits_of_maps, limits_of_numbers, one_distance, walks_are_lists};
 pub use lists::List;
 pub use memory::OutOfMemory;
 pub use numbers::{Agent, MOST_AGENT, MOST_PLANNER, Planner, Step};
