@@ -6,7 +6,7 @@ mod paths;
 mod plans;
 mod tracks;
 
-pub use laws::one_table;
+pub use laws::{limit_of_paths, one_table};
 pub use paths::{MOST_LAST_INDEX, Plan, PlanFault};
 pub use plans::{Plans, Row};
 pub use tracks::{Mode, Track};

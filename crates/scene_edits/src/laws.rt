@@ -1,4 +1,7 @@
+ghost use Rattle.std.specs.Prelude.{◌≡◌};
 ghost use Rattle.scene_edits.specs.Laws.{OnePath, OneFaultOrNone, OneChange, EditsKeepScenes, AllEditsKeepScenes, EditsKeepSize, ChangesGoBack, OneAnswer, OneAnswerToAll};
+
+use crate::scenes::MOST_AGENTS;
 
 /// The cells that an agent can follow have one path: those cells without the waits at their end.
 pub fn one_path()
@@ -49,4 +52,9 @@ pub fn one_answer()
 #[tactic(auto, using(crate::proofs::OneAnswers::one_answer_to_all_holds))]
 pub fn one_answer_to_all()
     ensures { OneAnswerToAll }
+{}
+
+/// The limit of fleets: at most 8,192 agents are live at once.
+pub fn limit_of_fleets()
+    ensures { MOST_AGENTS ≡ 8192 }
 {}

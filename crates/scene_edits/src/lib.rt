@@ -24,8 +24,8 @@ pub use differences::first_difference;
 pub use edits::{ApplyFault, Edit, EditFault, EditsFault};
 pub use flipped_cells::flipped;
 pub use laws::{
-    all_edits_keep_scenes, changes_go_back, edits_keep_scenes, edits_keep_size, one_answer,
-    one_answer_to_all, one_change, one_fault_or_none, one_path,
+    all_edits_keep_scenes, changes_go_back, edits_keep_scenes, edits_keep_size, limit_of_fleets,
+    one_answer, one_answer_to_all, one_change, one_fault_or_none, one_path,
 };
 pub use named_agents::{Former, FormerRow, formers};
 pub use scenes::{MOST_AGENTS, Scene};
