@@ -16,7 +16,8 @@ pub use commits::{Commit, CommitFault, MOST_EDITS, MOST_WATCHES};
 pub use counters::Counter;
 pub use journals::{Journal, ReplayFault};
 pub use laws::{
-    entries_make_the_scene, legal_journals_replay, one_answer_to_a_commit, runs_are_legal,
+    entries_make_the_scene, legal_journals_replay, limits_of_commits, one_answer_to_a_commit,
+    runs_are_legal,
 };
 pub use limits::{Limit, MOST_ENTRIES};
 pub use stale::first_stale;

@@ -6,6 +6,7 @@ ghost use Rattle.desk_commits.specs.Entries.{thing_of};
 ghost use Rattle.desk_commits.specs.Stamps.{stamp_of, HasPlaces, IsOn, NameOnMap, AreOnMap, AreMarked, AreStamps, WhereTheyStand};
 
 use crate::commits::Commit;
+use crate::limits::MOST_ENTRIES;
 use crate::stale::thing_named;
 use grid_cells::{Cell, MOST_AGENT, OutOfMemory, Size};
 use scene_edits::{Edit, Thing};
@@ -36,7 +37,7 @@ impl Stamps {
 
     /// The stamps of that journal.
     pub fn of(alloc: Global, size: Size, journal: &[Commit]) -> Result<Stamps, OutOfMemory>
-        requires few { length journal.now ≤ 1000000 }
+        requires few { length journal.now ≤ MOST_ENTRIES }
         requires on_map { AreOnMap size journal.now }
         ensures { IfOk result (AreStamps size journal.now) }
     {
@@ -107,7 +108,7 @@ pub fn with_entry(
     journal: &[Commit],
     entry: &Commit,
 ) -> Option<Stamps>
-    requires few { length journal.now < 1000000 }
+    requires few { length journal.now < MOST_ENTRIES }
     requires on_map { NameOnMap size entry.now.edits }
     requires stand { WhereTheyStand size journal.now stamps }
     ensures { WhereTheyStand size (journal.now ++ entry.now ∷ []) result }

@@ -11,7 +11,7 @@ mod replaying;
 pub use desk_commits::{
     Answer, AskFault, Call, Commit, CommitFault, Journal, Limit, MOST_EDITS, MOST_ENTRIES,
     MOST_WATCHES, Reading, Refusal, ReplayFault, Snapshot, entries_make_the_scene,
-    legal_journals_replay, one_answer_to_a_commit, runs_are_legal,
+    legal_journals_replay, limits_of_commits, one_answer_to_a_commit, runs_are_legal,
 };
 pub use desks::Desk;
 pub use driving::drive;
