@@ -24,6 +24,12 @@ abbrev pub tail_of : List (List ℕ) → Option Edit
 tail_of (agent ∷ time ∷ words) = with_all edit.Tail (agent_of agent) (time_of time) (cells_of words)
 tail_of _ = None
 
+-- an edit with a list of cells, which grows as its line is read
+abbrev pub ListsCells : EditCommand → Type 0
+ListsCells Path = Unit {0}
+ListsCells Tail = Unit {0}
+ListsCells _ = ⊥
+
 -- the edit of a first word and the words behind it, if they are of its shape and in their ranges
 abbrev pub edit_of : EditCommand → List (List ℕ) → Option Edit
 edit_of Add words = add_of words

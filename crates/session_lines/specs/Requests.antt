@@ -1,6 +1,6 @@
 -- The request of a session line (this project's choice).
 use Rattle.std.specs.Prelude.{◌≡◌, ◌⊎◌, ℕ, Option, Some, None, Result, Ok, Err, List, [], ◌∷◌, codes, bytes_eq, if◌then◌else◌}
-use Rattle.std.specs.Option.{option_map, option_map_or, ok_or}
+use Rattle.std.specs.Option.{IsSomeAnd, option_map, option_map_or, ok_or}
 use Rattle.bench_reader.specs.Words.{words_of}
 use Rattle.scene_edits.specs.declared.changes.Thing.{Thing}
 use Rattle.scene_edits.specs.declared.changes.Thing.TheVariants as thing
@@ -8,7 +8,7 @@ use Rattle.session_lines.specs.Values.{agent_of, cell_of}
 use Rattle.session_lines.specs.Kinds.{kinds_of}
 use Rattle.session_lines.specs.Commands.{is_remark, command_of}
 use Rattle.session_lines.specs.Shapes.{alone, agent_and_cell}
-use Rattle.session_lines.specs.Edits.{edit_of}
+use Rattle.session_lines.specs.Edits.{ListsCells, edit_of}
 use Rattle.session_lines.specs.declared.commands.Command.{Command}
 use Rattle.session_lines.specs.declared.commands.Command.TheVariants.{Edit, Begin, Watch, Commit, Cancel, Version, Report, Distance, Solves}
 use Rattle.session_lines.specs.declared.requests.LineFault.{LineFault}
@@ -47,6 +47,16 @@ request_of_words (word ∷ words) =
 unfoldable pub request_of : List ℕ → Result Request LineFault
 request_of line = request_of_words (words_of line)
 
--- the line's request or fault, or want of memory
+-- a line with a list of cells is asked for, in whatever shape it is
+abbrev pub AsksForCells : Command → Type 0
+AsksForCells (Edit command) = ListsCells command
+AsksForCells _ = ⊥
+
+-- the first word is that of such a line: no other line grows anything as it is read
+abbrev pub HasCells : List (List ℕ) → Type 0
+HasCells [] = ⊥
+HasCells (word ∷ words) = IsSomeAnd (command_of word) AsksForCells
+
+-- the line's request or fault, or want of memory, of a line with a list of cells alone
 abbrev pub IsRequest : List ℕ → Result Request LineFault → Type 0
-IsRequest line result = (result ≡ request_of line) ⊎ (result ≡ Err fault.OutOfMemory)
+IsRequest line result = (result ≡ request_of line) ⊎ (HasCells (words_of line) × (result ≡ Err fault.OutOfMemory))

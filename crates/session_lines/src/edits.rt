@@ -1,7 +1,7 @@
 ghost use Rattle.std.specs.Prelude.{◌≡◌};
 ghost use Rattle.bench_reader.specs.Words.{words_of};
-ghost use Rattle.session_lines.specs.Faults.{IsShaped};
-ghost use Rattle.session_lines.specs.Edits.{add_of, path_edit_of, tail_of, edit_of};
+ghost use Rattle.session_lines.specs.Faults.{IsShaped, IsShapedAs};
+ghost use Rattle.session_lines.specs.Edits.{ListsCells, add_of, path_edit_of, tail_of, edit_of};
 
 use crate::cells::cells_of;
 use crate::commands::EditCommand;
@@ -62,9 +62,9 @@ fn goal_of(line: &[u8]) -> Option<Edit>
 /// The edit of a line behind its first word.
 ///
 /// # Errors
-/// `Shape`, or want of memory.
+/// `Shape`, or want of memory for a list of cells.
 pub(crate) fn edit_of(alloc: Global, command: EditCommand, line: &[u8]) -> Result<Edit, LineFault>
-    ensures { IsShaped (edit_of command (words_of line.now)) result }
+    ensures { IsShapedAs (ListsCells command) (edit_of command (words_of line.now)) result }
 {
     match command {
         EditCommand::Add => add_of(line).ok_or(LineFault::Shape),

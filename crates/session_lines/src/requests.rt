@@ -1,9 +1,9 @@
 ghost use Rattle.std.specs.Prelude.{◌≡◌};
 ghost use Rattle.std.specs.Option.{ok_or};
 ghost use Rattle.bench_reader.specs.Words.{words_of};
-ghost use Rattle.session_lines.specs.Faults.{IsShaped};
+ghost use Rattle.session_lines.specs.Faults.{IsShapedAs};
 ghost use Rattle.session_lines.specs.Shapes.{alone};
-ghost use Rattle.session_lines.specs.Requests.{thing_of, shaped, IsRequest};
+ghost use Rattle.session_lines.specs.Requests.{thing_of, shaped, AsksForCells, IsRequest};
 
 use crate::commands::{Command, command_of, is_remark};
 use crate::edits::edit_of;
@@ -54,7 +54,7 @@ pub enum LineFault {
 /// The request of a session line, without its line feed.
 ///
 /// # Errors
-/// `Word` before `Shape`, or want of memory.
+/// `Word` before `Shape`, or want of memory for the cells of a `path` or a `tail`.
 #[tactic(auto, unfolding(crate::specs::Requests::request_of))]
 pub fn read_line(alloc: Global, line: &[u8]) -> Result<Request, LineFault>
     ensures { IsRequest line.now result }
@@ -73,7 +73,7 @@ pub fn read_line(alloc: Global, line: &[u8]) -> Result<Request, LineFault>
 
 // The request of a command and the line behind its word.
 fn request_of(alloc: Global, command: Command, line: &[u8]) -> Result<Request, LineFault>
-    ensures { IsShaped (shaped command (words_of line.now)) result }
+    ensures { IsShapedAs (AsksForCells command) (shaped command (words_of line.now)) result }
 {
     match command {
         Command::Edit(command) => Ok(Request::Edit(edit_of(alloc, command, line)?)),
