@@ -59,7 +59,7 @@ module _ {S : Type 0} (c : Counting S) (Keeps : S → S → Type 0) (kept : IsKe
 
   answers : (old : Session × S) (number : ℕ) (line : List ℕ) (reply : Reply) (new : Session × S) → answering c old number line reply new → Keeps old.1 new.1
   answers old number line reply new (inl done) = replies number old.0 (request_of line) old.1 new.1 reply new.0 done
-  answers old number line reply new (inr done) = stays old.1 new.1 done.2
+  answers old number line reply new (inr (grows, done)) = stays old.1 new.1 done.2
 
   runs : (old : Session × S) (number : ℕ) (lines : List (List ℕ)) (replies : List Reply) (new : Session × S) → Run (answering c) old number lines replies new → Keeps old.1 new.1
   runs old number [] [] new same = stays old.1 new.1 (λ i. (same i).1)

@@ -1,9 +1,11 @@
 -- What a line is answered: by its request, or as a bad line, or it finds no memory (this project's choice).
-use Rattle.std.specs.Prelude.{◌≡◌, ◌⊎◌, ℕ, Result, Ok, Err}
+use Rattle.std.specs.Prelude.{◌≡◌, ◌⊎◌, ℕ, List, Result, Ok, Err}
+use Rattle.std.specs.Result.{IsOkAnd}
 use Rattle.desk_commits.specs.Counting.{Counting}
-use Rattle.session_lines.specs.Requests.{request_of}
+use Rattle.bench_reader.specs.Words.{words_of}
+use Rattle.session_lines.specs.Requests.{HasCells, request_of}
 use Rattle.session_protocol.specs.Session.{Answering}
-use Rattle.session_protocol.specs.Table.{Obeys, FindsNoMemory}
+use Rattle.session_protocol.specs.Table.{Obeys, Adds, FindsNoMemory}
 use Rattle.session_protocol.specs.declared.drafts.Session.{Session}
 use Rattle.session_protocol.specs.declared.replies.BadLine.TheVariants as bad
 use Rattle.session_protocol.specs.declared.replies.Reply.{Reply}
@@ -19,7 +21,11 @@ IsReplyTo c number old at (Err Word) reply new then = (reply ≡ Bad number bad.
 IsReplyTo c number old at (Err Shape) reply new then = (reply ≡ Bad number bad.Shape) × (new ≡ old) × (then ≡ at)
 IsReplyTo c number old at (Err OutOfMemory) reply new then = FindsNoMemory old at reply new then
 
--- a session beside a counter answers a line by its request, or the line finds no memory and changes nothing
+-- the line may grow something of the session's: the list of its cells, or what its request adds to
+abbrev pub MayGrow : Session → List ℕ → Type 0
+MayGrow session line = HasCells (words_of line) ⊎ IsOkAnd (request_of line) (Adds session)
+
+-- a session beside a counter answers a line by its request; one that may grow something may find no memory, and then changes nothing
 abbrev pub answering : {S : Type 0} → Counting S → Answering (Session × S)
 answering c old number line reply new =
-    IsReplyTo c number old.0 old.1 (request_of line) reply new.0 new.1 ⊎ FindsNoMemory old.0 old.1 reply new.0 new.1
+    IsReplyTo c number old.0 old.1 (request_of line) reply new.0 new.1 ⊎ (MayGrow old.0 line × FindsNoMemory old.0 old.1 reply new.0 new.1)

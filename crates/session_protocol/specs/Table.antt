@@ -87,6 +87,14 @@ Obeys c number old at (ask.Solves kinds) given new then = TellsSolves c at kinds
 abbrev pub FindsNoMemory : {S : Type 0} → Session → S → Reply → Session → S → Type 0
 FindsNoMemory old at given new then = (given ≡ reply.NoMemory) × (new ≡ old) × (then ≡ at)
 
--- a request is obeyed, or it finds no memory and changes nothing
+-- the request adds to a list: to one that is gathered and isn't full, or an edit to that of a commit of its own
+abbrev pub Adds : Session → Request → Type 0
+Adds Idle (ask.Edit edit) = Unit {0}
+Adds (Gathering draft) (ask.Edit edit) = length draft.edits < MOST_EDITS
+Adds (Gathering draft) (ask.Watch thing) = length draft.watch < MOST_WATCHES
+Adds session _ = ⊥
+
+-- a request is obeyed; one that adds to a list may find no memory, and then changes nothing
 abbrev pub MayObey : {S : Type 0} → Counting S → ℕ → Session → S → Request → Reply → Session → S → Type 0
-MayObey c number old at request given new then = Obeys c number old at request given new then ⊎ FindsNoMemory old at given new then
+MayObey c number old at request given new then =
+    Obeys c number old at request given new then ⊎ (Adds old request × FindsNoMemory old at given new then)

@@ -15,7 +15,7 @@ fn keep<T: Drop>(number: u32, list: List<T>, most: usize, item: T) -> (Reply, Li
     requires { length list ≤ most }
     ensures { ((length list < most) × (result.0 ≡ Reply.Kept) × (result.1 ≡ list ++ item ∷ []))
         ⊎ ((length list ≡ most) × (result.0 ≡ Reply.Bad number BadLine.Full) × (result.1 ≡ list))
-        ⊎ ((result.0 ≡ Reply.NoMemory) × (result.1 ≡ list)) }
+        ⊎ ((length list < most) × (result.0 ≡ Reply.NoMemory) × (result.1 ≡ list)) }
 {
     let mut items = list.into_items();
     let reply = if items.len() < most {
@@ -34,7 +34,8 @@ fn keep<T: Drop>(number: u32, list: List<T>, most: usize, item: T) -> (Reply, Li
 
 // One more watch.
 pub(crate) fn keep_watch(number: u32, gathered: Gathered, thing: Thing) -> (Reply, Session)
-    ensures { KeepsWatch number gathered thing result.0 result.1 ⊎ ((result.0 ≡ Reply.NoMemory) × (result.1 ≡ Session.Gathering gathered)) }
+    ensures { KeepsWatch number gathered thing result.0 result.1
+        ⊎ ((length gathered.watch < MOST_WATCHES) × (result.0 ≡ Reply.NoMemory) × (result.1 ≡ Session.Gathering gathered)) }
 {
     let Gathered { base, watch, edits } = gathered;
     let (reply, watch) = keep(number, watch, MOST_WATCHES, thing);
@@ -43,7 +44,8 @@ pub(crate) fn keep_watch(number: u32, gathered: Gathered, thing: Thing) -> (Repl
 
 // One more edit.
 pub(crate) fn keep_edit(number: u32, gathered: Gathered, edit: Edit) -> (Reply, Session)
-    ensures { KeepsEdit number gathered edit result.0 result.1 ⊎ ((result.0 ≡ Reply.NoMemory) × (result.1 ≡ Session.Gathering gathered)) }
+    ensures { KeepsEdit number gathered edit result.0 result.1
+        ⊎ ((length gathered.edits < MOST_EDITS) × (result.0 ≡ Reply.NoMemory) × (result.1 ≡ Session.Gathering gathered)) }
 {
     let Gathered { base, watch, edits } = gathered;
     let (reply, edits) = keep(number, edits, MOST_EDITS, edit);
