@@ -1,5 +1,6 @@
 pub mod Report
 pub mod Solves
+pub mod Cut
 pub mod Laws
 pub mod Bytes
 pub mod LineText

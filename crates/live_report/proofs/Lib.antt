@@ -21,3 +21,4 @@ pub mod Parts
 pub mod Blocking
 pub mod Deciding
 pub mod Verdicts
+pub mod NamesOne

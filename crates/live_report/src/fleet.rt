@@ -23,7 +23,7 @@ use where_index::WhereIndex;
 /// together while tracks come, go and change.
 #[derive(Drop)]
 pub struct FleetBooks {
-    index: WhereIndex,
+    pub(crate) index: WhereIndex,
     conflicts: ConflictLedger,
 }
 

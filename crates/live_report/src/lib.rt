@@ -6,6 +6,8 @@ mod books;
 mod bounds;
 mod builds;
 mod changing;
+mod cuts;
+mod cutting;
 mod fleet;
 mod fleet_laws;
 mod following;
