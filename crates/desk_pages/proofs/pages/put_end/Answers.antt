@@ -1,0 +1,25 @@
+use Rattle.std.proofs.KnownBytes.{Appends-trans}
+use Rattle.desk_report.proofs.Fronts.{front-more, front-after, err-of, ok-after, err-after}
+use Rattle.std.proofs.Common.{ℕ, List, ◌++◌}
+use Rattle.std.specs.Prelude.{codes}
+use Rattle.desk_pages.proofs.pages.put_end.Goals as goal
+
+abbrev opening : List ℕ
+opening = codes "<script>\n"
+
+abbrev closing : List ℕ
+closing = codes "</script>\n</body>\n</html>\n"
+
+pub returns-in_err-put_all-clause-err : goal.returns-in_err-put_all-clause-err
+returns-in_err-put_all-clause-err g c =
+    err-of c.from_residual.result
+    (front-more _ _ (opening ++ c.args.script.now) closing (front-more _ _ opening c.args.script.now c.in_err-put_all.ensures.err))
+
+pub returns-in_err-put_all-2-clause-err : goal.returns-in_err-put_all-2-clause-err
+returns-in_err-put_all-2-clause-err g c = err-of c.from_residual-in_err-put_all-2.result (front-more _ _ _ _ (front-after _ _ _ _ _ c.in_ok-put_all.ensures.ok c.in_err-put_all-2.ensures.err))
+
+pub returns-clause-ok : goal.returns-clause-ok
+returns-clause-ok g c = ok-after _ _ _ _ _ _ (Appends-trans _ _ _ _ _ c.in_ok-put_all.ensures.ok c.in_ok-put_all-2.ensures.ok) c.put_all-3.ensures.ok
+
+pub returns-clause-err : goal.returns-clause-err
+returns-clause-err g c = err-after _ _ _ _ _ _ (Appends-trans _ _ _ _ _ c.in_ok-put_all.ensures.ok c.in_ok-put_all-2.ensures.ok) c.put_all-3.ensures.err

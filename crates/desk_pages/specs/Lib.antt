@@ -1,0 +1,2 @@
+pub mod SceneText
+pub mod Pages
