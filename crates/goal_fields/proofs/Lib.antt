@@ -14,3 +14,4 @@ pub mod HeldLemmas
 pub mod CoverLemmas
 pub mod RoomLemmas
 pub mod Reaching
+pub mod AStarLemmas

@@ -1,5 +1,6 @@
 pub mod Target
 pub mod Adopting
+pub mod AStar
 pub mod Changes
 pub mod Laws
 pub mod Held

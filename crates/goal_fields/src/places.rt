@@ -1,4 +1,5 @@
-ghost use Rattle.std.specs.Prelude.{◌≡◌, ◌<◌};
+ghost use Rattle.std.specs.Prelude.{◌≡◌, ◌<◌, ℕ, length, slice_index};
+ghost use Rattle.grid_cells.specs.Cell.{steps_between};
 ghost use Rattle.grid_cells.specs.Size.{Holds, neighbours_of};
 ghost use Rattle.grid_cells.specs.Grid.{flag_index};
 ghost use Rattle.cell_queue.specs.Queue.{area};
@@ -22,4 +23,20 @@ pub(crate) fn around(grid: &Grid, cell: Cell) -> [Option<Cell>; 4]
     ensures { result ≡ neighbours_of grid.now.size cell }
 {
     grid.size().neighbours(cell)
+}
+
+/// How many steps lie between the two cells where nothing is closed (their Manhattan distance).
+pub fn steps_between(a: Cell, b: Cell) -> u32
+    ensures { result ≡ steps_between a b }
+{
+    a.x().abs_diff(b.x()) + a.y().abs_diff(b.y())
+}
+
+// Sets each number to 0.
+pub(crate) fn wipe(numbers: &mut [u32])
+    ensures { (k : ℕ) → k < length numbers.new → slice_index numbers.new k ≡ 0 }
+{
+    for k in 0..numbers.len() {
+        numbers[k] = 0;
+    }
 }
