@@ -6,7 +6,8 @@ ghost use Rattle.plan_table.specs.declared.plans.Row.{Row};
 ghost use Rattle.desk_report.specs.Report.{IsReportOf};
 ghost use Rattle.scene_edits.specs.Scene.{SceneState};
 ghost use Rattle.live_report.specs.Books.{AreOf};
-ghost use Rattle.live_report.specs.Following.{AreBehind};
+ghost use Rattle.scene_edits.specs.ChangedBy.{ChangedBy};
+ghost use Rattle.live_report.specs.Following.{AreBehind, TouchesOnce};
 
 use crate::fleet::FleetBooks;
 use crate::lines::Lines;
@@ -85,14 +86,17 @@ impl Books {
     }
 
     /// Takes in what edits changed; `scene` is the edited scene. It visits the field of every goal,
-    /// and of the rest what the changes name.
+    /// and of the rest what the changes name. The index is touched for each agent once, by the records
+    /// that its tracks before and after don't share.
     ///
     /// # Errors
     ///
     /// Want of memory: the books are gone then.
     pub fn follow(self, changes: &[Change], scene: &Scene) -> Result<Books, OutOfMemory>
         requires { AreBehind changes.now scene.now self }
-        ensures { IfOk result (AreOf scene.now) }
+        ensures kept { IfOk result (AreOf scene.now) }
+        ensures touched { IfOk result (λ books. (before : SceneState) → ChangedBy before changes.now scene.now → AreOf before self
+            → TouchesOnce scene.now.mode before.rows scene.now.rows u64.MAX self.fleet.index.touched books.fleet.index.touched) }
     {
         let Ok(cells) = flipped(self.alloc, changes) else {
             drop(self);

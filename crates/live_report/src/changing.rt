@@ -1,5 +1,5 @@
 //! One agent's row becomes another.
-ghost use Rattle.std.specs.Prelude.{◌≡◌, IfOk, Some, None};
+ghost use Rattle.std.specs.Prelude.{◌≡◌, ◌+◌, min, IfOk, Some, None};
 ghost use Rattle.grid_cells.specs.Size.{Holds};
 ghost use Rattle.live_report.specs.Prices.{Rows};
 ghost use Rattle.live_report.specs.Prices as priced;
@@ -7,7 +7,10 @@ ghost use Rattle.scene_edits.specs.Formers.{as_row, former_row, former_past};
 ghost use Rattle.scene_edits.specs.Kept.{AreAlike};
 ghost use Rattle.plan_table.specs.Path.{SamePlaces};
 ghost use Rattle.plan_table.specs.Plans.{row_of};
+ghost use Rattle.plan_table.specs.Route.{route_in};
+ghost use Rattle.where_index.specs.Records.{nothing, records_apart};
 ghost use Rattle.live_report.specs.Books.{Know, Renews};
+ghost use Rattle.live_report.specs.Following.{former_apart};
 
 use crate::books::Books;
 use crate::former::{is_same_plan, track_of};
@@ -22,9 +25,11 @@ impl Books {
     pub(crate) fn change(self, former: &Former<'_>, scene: &Scene) -> Result<Books, OutOfMemory>
         requires know { Know scene.now.mode scene.now.grid former.now.agent (former_row former.now) self }
         requires alike { AreAlike (former_past former.now) (row_of scene.now.rows former.now.agent) }
-        ensures { IfOk result (Renews scene.now.mode scene.now.grid former.now.agent (former_row former.now) (row_of scene.now.rows former.now.agent) self) }
+        ensures kept { IfOk result (Renews scene.now.mode scene.now.grid former.now.agent (former_row former.now) (row_of scene.now.rows former.now.agent) self) }
+        ensures touched { IfOk result (λ books. books.fleet.index.touched ≡ min (self.fleet.index.touched + former_apart scene.now.mode scene.now.rows former.now) u64.MAX) }
     {
         let agent = former.agent;
+        let _touched = self.fleet.touched();
         match (former.row(), scene.plans().row(agent)) {
             (None, None) => Ok(self),
             (None, Some(row)) => self.enter(agent, row, scene),
@@ -37,7 +42,8 @@ impl Books {
     pub(crate) fn enter(self, agent: Agent, row: &Row, scene: &Scene) -> Result<Books, OutOfMemory>
         requires know { Know scene.now.mode scene.now.grid agent None self }
         requires inside { Holds scene.now.grid.size row.now.goal }
-        ensures { IfOk result (Renews scene.now.mode scene.now.grid agent None (Some row.now) self) }
+        ensures kept { IfOk result (Renews scene.now.mode scene.now.grid agent None (Some row.now) self) }
+        ensures touched { IfOk result (λ books. books.fleet.index.touched ≡ min (self.fleet.index.touched + records_apart nothing (route_in scene.now.mode row.now)) u64.MAX) }
     {
         let (alloc, fleet, prices, lines) = self.into_parts();
         let Ok(fleet) = fleet.admit(agent, row.track(scene.mode())) else {
@@ -67,7 +73,8 @@ impl Books {
         plan: &Plan,
         scene: &Scene,
     ) -> Result<Books, OutOfMemory>
-        ensures { IfOk result (Renews scene.now.mode scene.now.grid agent (Some (record { goal = goal; plan = plan.now })) None self) }
+        ensures kept { IfOk result (Renews scene.now.mode scene.now.grid agent (Some (record { goal = goal; plan = plan.now })) None self) }
+        ensures touched { IfOk result (λ books. books.fleet.index.touched ≡ min (self.fleet.index.touched + records_apart (route_in scene.now.mode (record { goal = goal; plan = plan.now })) nothing) u64.MAX) }
     {
         let (alloc, fleet, mut prices, lines) = self.into_parts();
         let Ok(fleet) = fleet.retract(agent, track_of(goal, plan, scene.mode())) else {
@@ -96,7 +103,8 @@ impl Books {
         requires know { Know scene.now.mode scene.now.grid agent (Some (as_row old.now)) self }
         requires alike { SamePlaces old.now.plan.now row.now.plan old.now.alike }
         requires inside { Holds scene.now.grid.size row.now.goal }
-        ensures { IfOk result (Renews scene.now.mode scene.now.grid agent (Some (as_row old.now)) (Some row.now) self) }
+        ensures kept { IfOk result (Renews scene.now.mode scene.now.grid agent (Some (as_row old.now)) (Some row.now) self) }
+        ensures touched { IfOk result (λ books. books.fleet.index.touched ≡ min (self.fleet.index.touched + records_apart (route_in scene.now.mode (as_row old.now)) (route_in scene.now.mode row.now)) u64.MAX) }
     {
         let mode = scene.mode();
         let was = track_of(old.goal, old.plan, mode);

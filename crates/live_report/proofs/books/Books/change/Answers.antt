@@ -21,18 +21,18 @@ revise-requires-clause-inside c = goal_inside c.args.scene.now c.plans.ensures.s
 pub revise-requires-clause-alike : goal.revise-requires-clause-alike
 revise-requires-clause-alike c = grind (arith, nat_tests, common_steps, gets)
 
-pub returns-in-None-None : goal.returns-in-None-None
-returns-in-None-None c = λ rows keep has.
+pub returns-in-None-None-clause-kept : goal.returns-in-None-None-clause-kept
+returns-in-None-None-clause-kept c = λ rows keep has.
     let agent = c.args.former.now.agent in
     let now : row_of c.args.scene.now.rows agent ≡ None = ap (λ (r : List (ℕ × Row)). row_of r agent) (sym c.plans.ensures.rows) ∙ sym c.in-None-None.ensures' in
     let same : rows agent ≡ row_of c.args.scene.now.rows agent = has ∙ sym (ap (option_map (λ (p : Past). p.row)) c.in-None-None.ensures) ∙ sym now in
     subst (λ (r : Rows). Keep c.args.scene.now.mode c.args.scene.now.grid r c.args.self) (sym (unchanged rows agent (row_of c.args.scene.now.rows agent) same)) keep
 
-pub returns-in-None-Some : goal.returns-in-None-Some
-returns-in-None-Some c = grind (arith, nat_tests, common_steps, gets)
+pub returns-in-None-Some-clause-kept : goal.returns-in-None-Some-clause-kept
+returns-in-None-Some-clause-kept c = grind (arith, nat_tests, common_steps, gets)
 
-pub returns-in-Some-None : goal.returns-in-Some-None
-returns-in-Some-None c = grind (arith, nat_tests, common_steps, gets)
+pub returns-in-Some-None-clause-kept : goal.returns-in-Some-None-clause-kept
+returns-in-Some-None-clause-kept c = grind (arith, nat_tests, common_steps, gets)
 
-pub returns-in-Some-Some : goal.returns-in-Some-Some
-returns-in-Some-Some c = grind (arith, nat_tests, common_steps, gets)
+pub returns-in-Some-Some-clause-kept : goal.returns-in-Some-Some-clause-kept
+returns-in-Some-Some-clause-kept c = grind (arith, nat_tests, common_steps, gets)

@@ -8,8 +8,8 @@ flip-requires-clause-covered c = λ k d below cell holds differ.
     let same = was.prices.fields k d below in
     c.requires.4 cell (rw same at holds) (rw c.grid-2.ensures.grid at (rw same at differ))
 
-pub returns : goal.returns
-returns c = λ old rows keep size covers.
+pub returns-clause-kept : goal.returns-clause-kept
+returns-clause-kept c = λ old rows keep size covers.
     let was = rw c.into_parts-fleet.ensures at keep in
     let rest : Keep c.args.scene.now.mode old rows (record { fleet = c.into_parts-fleet.result.1; prices = c.into_parts-fleet.result.2; lines = None }) = record { fleet = was.fleet; prices = was.prices; lines = tt } in
     record {

@@ -27,4 +27,4 @@ loop-rank-preserved c =
     let by_agent = c.plans-plans.ensures.scene.by_agent in
     let there : slice_get rows c.loop-rank.rank ≡ Some (c.entry_at-agent.result.0, c.entry_at-agent.result.1.now) = rw c.plans-plans.ensures.rows at c.entry_at-agent.ensures in
     let none = row_of_before rows by_agent c.loop-rank.rank c.entry_at-agent.result.0 c.entry_at-agent.result.1.now there in
-    subst (λ (r : Rows). Keep c.args.scene.now.mode c.args.scene.now.grid r c.in-Ok.more) (row_of_more rows by_agent c.loop-rank.rank c.entry_at-agent.result.0 c.entry_at-agent.result.1.now there) (c.in-Ok.ensures (row_of (take c.loop-rank.rank rows)) c.loop-rank.invariant none)
+    subst (λ (r : Rows). Keep c.args.scene.now.mode c.args.scene.now.grid r c.in-Ok.more) (row_of_more rows by_agent c.loop-rank.rank c.entry_at-agent.result.0 c.entry_at-agent.result.1.now there) (c.in-Ok.ensures.kept (row_of (take c.loop-rank.rank rows)) c.loop-rank.invariant none)

@@ -1,4 +1,4 @@
-use Rattle.std.proofs.Common.{◌≡◌, Some, refl, sym, ap, subst, ◌∙◌, arith}
+use Rattle.std.proofs.Common.{◌≡◌, ◌+◌, min, Some, refl, sym, ap, subst, ◌∙◌, arith}
 use Rattle.std.specs.Option.{option_map}
 use Rattle.std.proofs.lemmas.Bool.Decides.{nat_tests}
 use Rattle.std.proofs.lemmas.Grind.{common_steps}
@@ -7,6 +7,7 @@ use Rattle.plan_table.specs.Route.{Route, route_of, route_in}
 use Rattle.plan_table.specs.declared.plans.Row.{Row}
 use Rattle.plan_table.specs.declared.tracks.Mode.{Mode}
 use Rattle.where_index.specs.Index.{with_route}
+use Rattle.where_index.specs.Records.{records_apart}
 use Rattle.scene_edits.specs.Formers.{as_row}
 use Rattle.live_report.specs.Fleet as fleets
 use Rattle.live_report.specs.Books.{fleet_of}
@@ -24,8 +25,8 @@ with_line-lines-requires c =
     let prices = c.in-Ok-reprice.ensures rows (rw c.grid.ensures.grid was.prices) c.requires.know.has in
     rw c.fields.ensures ((prices.goals c.args.row.now.goal).1 (c.args.agent, record { row = c.args.row.now; live = in_place rows c.args.agent (Some c.args.row.now); aims = refl }))
 
-pub returns : goal.returns
-returns c = λ rows keep has.
+pub returns-clause-kept : goal.returns-clause-kept
+returns-clause-kept c = λ rows keep has.
     let mode = c.args.scene.now.mode in
     let old : Row = as_row c.args.old.now in
     let was = rw c.into_parts-fleet.ensures at keep in
@@ -36,3 +37,13 @@ returns c = λ rows keep has.
     let prices = rw c.grid.ensures.grid at (c.in-Ok-reprice.ensures rows (rw c.grid.ensures.grid was.prices) has) in
     let lines = c.with_line-lines.ensures c.args.scene.now.grid rows (rw c.fields.ensures prices.fields) was.lines in
     keep_with mode c.args.scene.now.grid rows c.args.agent (Some c.args.row.now) _ fleet prices lines
+
+pub returns-clause-touched : goal.returns-clause-touched
+returns-clause-touched c =
+    let mode = c.args.scene.now.mode in
+    let old : Row = as_row c.args.old.now in
+    let before : route_of c.track_of-was.result ≡ route_in mode old = c.track_of-was.ensures ∙ ap (λ (m : Mode). route_in m old) c.mode-mode.ensures in
+    let route : route_of c.track.result ≡ route_in mode c.args.row.now = c.track.ensures ∙ ap (λ (m : Mode). route_in m c.args.row.now) c.mode-mode.ensures in
+    subst (λ (r : Route). c.in-Ok.fleet.index.touched ≡ min (c.args.self.fleet.index.touched + records_apart (route_in mode old) r) 18446744073709551615) route
+    (subst (λ (r : Route). c.in-Ok.fleet.index.touched ≡ min (c.args.self.fleet.index.touched + records_apart r (route_of c.track.result)) 18446744073709551615) before
+    (rw c.into_parts-fleet.ensures c.in-Ok.ensures.touched))
