@@ -15,5 +15,5 @@ pub use courses::Courses;
 pub use drawing::run_draw;
 pub use laws::saved_desks_come_back;
 pub use opening::open_desk;
-pub use saving::save_desk;
+pub use saving::{save_desk, save_journal};
 pub use serving::{run_serve, serve_desk};
