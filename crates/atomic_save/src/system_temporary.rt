@@ -23,10 +23,12 @@ impl SystemTemporary {
         }
     }
 
-    // Whether a call has failed, and the reason for the last one that did.
+    // Closes the file, and lets go what it hasn't written: whether a call has failed, and the reason for
+    // the last one that did.
     pub(crate) fn into_fault(self) -> (bool, Option<Error>)
         ensures { result.0 ≡ self.failed }
     {
+        let (_file, _unwritten) = self.writer.into_parts();
         (self.failed, self.why)
     }
 
