@@ -7,6 +7,7 @@ use Rattle.scene_edits.specs.InOrder.{edited_all, AreAllowed}
 use Rattle.path_files.specs.Texts.{paths_of}
 use Rattle.path_files.specs.declared.forms.Form.{Form}
 use Rattle.path_files.specs.declared.paths.SolverPaths.{SolverPaths}
+use Rattle.desk_report.specs.Bytes.{AppendsFront}
 use Rattle.desk_report.specs.Report.{IsReportOf}
 use Rattle.desk_report.specs.Solves.{Solves}
 use Rattle.mapf_rules.specs.declared.kinds.Kinds.{Kinds}
@@ -35,6 +36,16 @@ pub record Checks (map : List ℕ) (scen : Option (List ℕ)) (agents : Option �
   pub told : IsReportOf scene.grid scene.mode scene.rows report
   pub answer : IsTrue solved ↔ Solves report kinds
   pub written : Appends held0 held1 (check_text quiet report solved)
+
+-- the sink failed, and a prefix of what the check writes went out
+pub record StopsInCheck (map : List ℕ) (scen : Option (List ℕ)) (agents : Option ℕ) (mode : Mode) (paths : List ℕ) (form : Option Form) (kinds : Kinds) (quiet : Bool) (held0 held1 : Option (List ℕ)) : Type 0 where
+  pub scene : SceneState
+  pub planned : IsPlanned map scen agents mode paths form scene
+  pub report : Report
+  pub told : IsReportOf scene.grid scene.mode scene.rows report
+  pub solved : Bool
+  pub answer : IsTrue solved ↔ Solves report kinds
+  pub sent : AppendsFront held0 held1 (check_text quiet report solved)
 
 -- how a check fails: by the first fault of what it reads, else, where there is none, by its writer
 abbrev pub IsCheckFault : List ℕ → Option (List ℕ) → Option ℕ → Mode → List ℕ → Option Form → CheckFault → Type 0

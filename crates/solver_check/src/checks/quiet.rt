@@ -1,6 +1,7 @@
 //! A report without its lists.
-ghost use Rattle.std.specs.Prelude.{◌≡◌, ◌||◌, is_err, OnOk};
+ghost use Rattle.std.specs.Prelude.{◌≡◌, ◌||◌, is_err, OnErr, OnOk};
 ghost use Rattle.std.specs.Io.KnownBytes.{Appends};
+ghost use Rattle.desk_report.specs.Bytes.{AppendsFront};
 ghost use Rattle.desk_report.specs.ReportText.{count_line};
 ghost use Rattle.solver_check.specs.CheckTexts.{count_finished, count_named, kind_line, kinds_text, quiet_text};
 
@@ -41,6 +42,7 @@ fn put_kind<W: Sink>(
     entries: &[Conflict],
 ) -> Result<(), WriteFailed>
     ensures ok { OnOk result (Appends (W.held sink.old) (W.held sink.new) (kind_line name.now kinds entries.now)) }
+    ensures err { OnErr result (AppendsFront (W.held sink.old) (W.held sink.new) (kind_line name.now kinds entries.now)) }
     ensures broken { W.broken sink.new ≡ (W.broken sink.old || is_err result) }
 {
     put_count(sink, name, count_named(kinds, entries))
@@ -50,6 +52,7 @@ fn put_kind<W: Sink>(
 #[tactic(auto, using(desk_report::proofs::Fronts::fronts), unfolding(crate::specs::CheckTexts::kinds_text))]
 fn put_kinds<W: Sink>(sink: &mut W, entries: &[Conflict]) -> Result<(), WriteFailed>
     ensures ok { OnOk result (Appends (W.held sink.old) (W.held sink.new) (kinds_text entries.now)) }
+    ensures err { OnErr result (AppendsFront (W.held sink.old) (W.held sink.new) (kinds_text entries.now)) }
     ensures broken { W.broken sink.new ≡ (W.broken sink.old || is_err result) }
 {
     put_kind(
@@ -87,10 +90,11 @@ fn put_kinds<W: Sink>(sink: &mut W, entries: &[Conflict]) -> Result<(), WriteFai
 /// each, how many agents are finished, and the totals.
 ///
 /// # Errors
-/// The sink failed, or took no byte.
+/// The sink failed, or took no byte: a prefix of the text went out.
 #[tactic(auto, using(desk_report::proofs::Fronts::fronts))]
 pub(crate) fn put_quiet<W: Sink>(sink: &mut W, report: &Report) -> Result<(), WriteFailed>
     ensures ok { OnOk result (Appends (W.held sink.old) (W.held sink.new) (quiet_text report.now)) }
+    ensures err { OnErr result (AppendsFront (W.held sink.old) (W.held sink.new) (quiet_text report.now)) }
     ensures broken { W.broken sink.new ≡ (W.broken sink.old || is_err result) }
 {
     let entries = report.conflicts.items();

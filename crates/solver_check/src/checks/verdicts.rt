@@ -1,6 +1,6 @@
 ghost use Rattle.std.specs.Prelude.{◌≡◌, ◌≢◌, ◌≤◌, ◌↔◌, ◌||◌, IfOk, IfErr, IsTrue};
 ghost use Rattle.desk_report.specs.Solves.{Solves};
-ghost use Rattle.solver_check.specs.Checks.{Checks, IsCheckFault};
+ghost use Rattle.solver_check.specs.Checks.{Checks, IsCheckFault, StopsInCheck};
 ghost use Rattle.solver_check.specs.CheckFaults.{has_write_failed};
 ghost use Rattle.solver_check.specs.Opens.{bytes_of};
 
@@ -32,7 +32,8 @@ fn solves(report: &Report, kinds: Kinds) -> bool
 /// # Errors
 ///
 /// The first fault of the paths' text, the map, the scenario, the tasks, the agents and the paths,
-/// want of memory, or a fault of the writer. But for the last, nothing is written.
+/// want of memory, or a fault of the writer: then a prefix of the text went out. But for the last,
+/// nothing is written.
 pub fn run_check<T: Threads + Wait, W: Sink>(
     rt: &T,
     alloc: Global,
@@ -50,6 +51,8 @@ pub fn run_check<T: Threads + Wait, W: Sink>(
     ensures err { IfErr result (IsCheckFault problem.entry.map.now (bytes_of problem.entry.scen) problem.entry.agents problem.entry.mode paths.now form) }
     ensures broken { W.broken writer.new ≡ (W.broken writer.old || has_write_failed result) }
     ensures silent { IfErr result (λ fault. fault ≢ CheckFault.WriteFailed → W.held writer.new ≡ W.held writer.old) }
+    ensures cut { IfErr result (λ fault. fault ≡ CheckFault.WriteFailed → StopsInCheck problem.entry.map.now (bytes_of problem.entry.scen) problem.entry.agents
+        problem.entry.mode paths.now form kinds quiet (W.held writer.old) (W.held writer.new)) }
 {
     let scene = match planned_scene(alloc, problem, paths, form) {
         Ok(scene) => scene,
