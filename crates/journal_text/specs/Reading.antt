@@ -1,11 +1,11 @@
 -- What a text reads as: the journal whose text it is, or the first line that doesn't fit (this project's choice).
-use Rattle.std.specs.Prelude.{◌≡◌, ◌⊎◌, ◌≤◌, ◌+◌, ℕ, List, ◌++◌, length, Result, Ok, Err}
+use Rattle.std.specs.Prelude.{◌≡◌, ◌⊎◌, ◌<◌, ◌≤◌, ◌+◌, ◌-◌, ℕ, List, ◌++◌, length, slice_get, Some, Result, Ok, Err}
 use Rattle.plan_table.specs.declared.tracks.Mode.{Mode}
 use Rattle.plan_table.specs.declared.tracks.Mode.TheVariants.{Stay}
 use Rattle.desk_commits.specs.Entries.{Entry}
 use Rattle.desk_commits.specs.Replays.{Log}
 use Rattle.journal_text.specs.Ranges.{IsJournal}
-use Rattle.journal_text.specs.Lines.{journal_lines, text_of, journal_text, first_text}
+use Rattle.journal_text.specs.Lines.{entry_lines, journal_lines, text_of, journal_text, first_text}
 use Rattle.journal_text.specs.declared.places.Heading.{Heading}
 use Rattle.journal_text.specs.declared.places.Heading.TheVariants.{First, Second}
 use Rattle.journal_text.specs.declared.faults.JournalFault.{JournalFault}
@@ -50,3 +50,12 @@ ReadsAs text (Err OutOfMemory) = Unit {0}
 abbrev pub UpgradesTo : List ℕ → Result (List ℕ) JournalFault → Type 0
 UpgradesTo text (Ok new) = (log : Log) × ReadsAs text (Ok log) × (new ≡ journal_text log.mode log.entries)
 UpgradesTo text (Err fault) = ReadsAs text (Err fault)
+
+-- the lines of the entry of that number, counted from 1, of the journal that the text reads as
+pub record IsEntryText (text : List ℕ) (number : ℕ) (lines : List ℕ) : Type 0 where
+  pub log : Log
+  pub reads : ReadsAs text (Ok log)
+  pub entry : Entry
+  pub stands : slice_get log.entries (number - 1) ≡ Some entry
+  pub counted : 0 < number
+  pub written : lines ≡ text_of (entry_lines entry)

@@ -1,5 +1,6 @@
 -- How refusals are written (this project's choice).
 use Rattle.std.specs.Prelude.{ℕ, List, [], ◌∷◌, ◌++◌, codes, decimal}
+use Rattle.std.specs.List.{join_with_byte}
 use Rattle.desk_report.specs.LineText.{line_text, cell_text}
 use Rattle.scene_edits.specs.declared.changes.Thing.{Thing}
 use Rattle.scene_edits.specs.declared.changes.Thing.TheVariants as things
@@ -17,16 +18,21 @@ thing_words (things.Cell cell) = codes "cell" ∷ cell_text cell ∷ []
 thing_words things.Map = codes "map" ∷ []
 
 -- what is wrong with an edit
+abbrev pub fault_word : EditFault → List ℕ
+fault_word faults.UnknownAgent = codes "unknown-agent"
+fault_word faults.AgentTaken = codes "agent-taken"
+fault_word faults.TooManyAgents = codes "too-many-agents"
+fault_word faults.OutOfMap = codes "out-of-map"
+fault_word faults.EmptyPath = codes "empty-path"
+fault_word faults.NotFromStart = codes "not-from-start"
+fault_word faults.NoSuchTime = codes "no-such-time"
+fault_word (faults.NotAStep at) = codes "not-a-step"
+fault_word faults.TooLong = codes "too-long"
+
+-- the same, and which cell of a path is no step
 abbrev pub fault_words : EditFault → List (List ℕ)
-fault_words faults.UnknownAgent = codes "unknown-agent" ∷ []
-fault_words faults.AgentTaken = codes "agent-taken" ∷ []
-fault_words faults.TooManyAgents = codes "too-many-agents" ∷ []
-fault_words faults.OutOfMap = codes "out-of-map" ∷ []
-fault_words faults.EmptyPath = codes "empty-path" ∷ []
-fault_words faults.NotFromStart = codes "not-from-start" ∷ []
-fault_words faults.NoSuchTime = codes "no-such-time" ∷ []
-fault_words (faults.NotAStep at) = codes "not-a-step" ∷ decimal at ∷ []
-fault_words faults.TooLong = codes "too-long" ∷ []
+fault_words (faults.NotAStep at) = fault_word (faults.NotAStep at) ∷ decimal at ∷ []
+fault_words why = fault_word why ∷ []
 
 -- why a commit is refused
 abbrev pub refusal_words : Refusal → List (List ℕ)
@@ -36,6 +42,10 @@ refusal_words refusals.NoEdits = codes "no-edits" ∷ []
 refusal_words (refusals.Stale now thing at) = codes "stale" ∷ decimal now ∷ (thing_words thing ++ decimal at ∷ [])
 refusal_words (refusals.Faulty index why) = codes "faulty" ∷ decimal index ∷ fault_words why
 refusal_words refusals.OutOfMemory = codes "memory" ∷ []
+
+-- the same as a text, with one space between each two words
+abbrev pub refusal_text : Refusal → List ℕ
+refusal_text refusal = join_with_byte 32 (refusal_words refusal)
 
 -- why a distance isn't told
 abbrev pub asked_words : AskFault → List (List ℕ)

@@ -1,8 +1,10 @@
 -- The text of a reply, and of a session (this project's choice).
-use Rattle.std.specs.Prelude.{ℕ, List, [], ◌∷◌, ◌++◌, codes, decimal}
+use Rattle.std.specs.Prelude.{◌||◌, ℕ, nat_eq, Bool, not, List, [], ◌∷◌, ◌++◌, take_while, codes, decimal}
 use Rattle.std.specs.List.{flat_map}
+use Rattle.std.specs.Str.{bytes_eq}
 use Rattle.desk_report.specs.LineText.{line_text, given_text, answer_text}
 use Rattle.desk_report.specs.ReportText.{report_text}
+use Rattle.desk_report.specs.declared.reports.Report.{Report}
 use Rattle.session_protocol.specs.RefusalText.{refusal_words, asked_words, refused_line}
 use Rattle.session_protocol.specs.declared.replies.BadLine.{BadLine}
 use Rattle.session_protocol.specs.declared.replies.BadLine.TheVariants.{Word, Shape, NotBegun, Full}
@@ -18,6 +20,10 @@ bad_word Full = codes "full"
 abbrev pub version_line : ℕ → List ℕ
 version_line version = line_text (codes "version" ∷ decimal version ∷ [])
 
+-- a report at its version
+abbrev pub reported_text : ℕ → Report → List ℕ
+reported_text version report = version_line version ++ report_text report
+
 abbrev pub reply_text : Reply → List ℕ
 reply_text Silent = []
 reply_text (Bad line why) = line_text (codes "bad" ∷ decimal line ∷ bad_word why ∷ [])
@@ -27,10 +33,26 @@ reply_text (Base version) = line_text (codes "base" ∷ decimal version ∷ [])
 reply_text Kept = line_text (codes "kept" ∷ [])
 reply_text Cancelled = line_text (codes "cancelled" ∷ [])
 reply_text (Refused refusal) = refused_line (refusal_words refusal)
-reply_text (Shown reading) = version_line reading.version ++ report_text reading.report
+reply_text (Shown reading) = reported_text reading.version reading.report
 reply_text (Far distance) = line_text (codes "distance" ∷ given_text distance ∷ [])
 reply_text (NotAsked fault) = refused_line (asked_words fault)
 reply_text (Solves is_so) = line_text (codes "solves" ∷ answer_text is_so ∷ [])
+
+-- the word begins an answer that takes its line
+abbrev pub is_acceptance : List ℕ → Bool
+is_acceptance word =
+    bytes_eq word (codes "version") || bytes_eq word (codes "base") || bytes_eq word (codes "kept")
+    || bytes_eq word (codes "cancelled") || bytes_eq word (codes "distance") || bytes_eq word (codes "solves")
+
+-- what stands in a text before its first blank or line feed
+abbrev pub first_word : List ℕ → List ℕ
+first_word text = take_while (λ byte. not (nat_eq byte 32 || nat_eq byte 10)) text
+
+-- an answer is empty, or begins with such a word, or with `refused` or `bad`
+abbrev pub begins_as_listed : Reply → Bool
+begins_as_listed reply =
+    let word = first_word (reply_text reply) in
+    bytes_eq word [] || is_acceptance word || bytes_eq word (codes "refused") || bytes_eq word (codes "bad")
 
 -- the replies, one after the other
 abbrev pub session_text : List Reply → List ℕ

@@ -13,4 +13,6 @@ mod writers;
 
 pub use bounds::{Bounds, ServeFault, StartFault};
 pub use hearing::hear_map;
+pub use refusals::{fault_word, put_refusal};
 pub use serving::serve;
+pub use writers::{is_acceptance, put_report};

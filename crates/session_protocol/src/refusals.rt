@@ -1,103 +1,116 @@
-//! The lines of refusals.
-ghost use Rattle.std.specs.Prelude.{◌∷◌, ◌++◌, [], codes, decimal};
-ghost use Rattle.desk_report.specs.Bytes.{Puts};
-ghost use Rattle.session_protocol.specs.RefusalText.{refused_line, thing_words, fault_words, refusal_words, asked_words};
+//! Refusals, as words and as lines.
+ghost use Rattle.std.specs.Prelude.{◌≡◌, ◌∷◌, ◌++◌, ◌||◌, [], codes, decimal, is_err, map, OnErr, OnOk};
+ghost use Rattle.std.specs.List.{join_with_byte};
+ghost use Rattle.std.specs.Io.KnownBytes.{Appends};
+ghost use Rattle.desk_report.specs.Bytes.{AppendsFront, Puts};
+ghost use Rattle.desk_report.specs.Words.{word_text};
+ghost use Rattle.session_protocol.specs.RefusalText.{asked_words, fault_word, fault_words, refusal_text, refusal_words, refused_line, thing_words};
 
 use desk_commits::{AskFault, Refusal};
-use desk_report::{Sink, Word, WriteFailed, put_line};
+use desk_report::{Sink, Word, WriteFailed, put_all, put_line, put_more};
 use scene_edits::{EditFault, Thing};
 
-// A refusal of one word.
-fn put_plain<W: Sink>(sink: &mut W, name: &[u8]) -> Result<(), WriteFailed>
-    ensures { Puts W.held W.broken sink.old sink.new result (refused_line (name.now ∷ [])) }
+// The words, with one space between each two.
+fn put_words<W: Sink>(sink: &mut W, first: &[u8], others: &[Word]) -> Result<(), WriteFailed>
+    ensures ok { OnOk result (Appends (W.held sink.old) (W.held sink.new) (join_with_byte 32 (first.now ∷ map word_text others.now))) }
+    ensures err { OnErr result (AppendsFront (W.held sink.old) (W.held sink.new) (join_with_byte 32 (first.now ∷ map word_text others.now))) }
+    ensures broken { W.broken sink.new ≡ (W.broken sink.old || is_err result) }
 {
-    put_line(sink, b"refused", &[Word::Text(name)])
-}
-
-// A refusal of a word and a number.
-fn put_numbered<W: Sink>(sink: &mut W, name: &[u8], number: u64) -> Result<(), WriteFailed>
-    ensures { Puts W.held W.broken sink.old sink.new result (refused_line (name.now ∷ decimal number ∷ [])) }
-{
-    put_line(sink, b"refused", &[Word::Text(name), Word::Number(number)])
+    put_all(sink, first)?;
+    put_more(sink, others)
 }
 
 // A stale commit: the version, the thing that was named since, and the entry that names it.
 fn put_stale<W: Sink>(sink: &mut W, now: u64, thing: Thing, at: u64) -> Result<(), WriteFailed>
-    ensures { Puts W.held W.broken sink.old sink.new result (refused_line (codes "stale" ∷ decimal now ∷ (thing_words thing ++ decimal at ∷ []))) }
+    ensures { Puts W.held W.broken sink.old sink.new result (join_with_byte 32 (codes "stale" ∷ decimal now ∷ (thing_words thing ++ decimal at ∷ []))) }
 {
-    let stale = Word::Text(b"stale");
     let (now, at) = (Word::Number(now), Word::Number(at));
     match thing {
         Thing::Agent(agent) => {
-            let words = [stale, now, Word::Text(b"agent"), Word::agent(agent), at];
-            put_line(sink, b"refused", &words)
+            let words = [now, Word::Text(b"agent"), Word::agent(agent), at];
+            put_words(sink, b"stale", &words)
         }
         Thing::Cell(cell) => {
-            let words = [stale, now, Word::Text(b"cell"), Word::At(cell), at];
-            put_line(sink, b"refused", &words)
+            let words = [now, Word::Text(b"cell"), Word::At(cell), at];
+            put_words(sink, b"stale", &words)
         }
         Thing::Map => {
-            let words = [stale, now, Word::Text(b"map"), at];
-            put_line(sink, b"refused", &words)
+            let words = [now, Word::Text(b"map"), at];
+            put_words(sink, b"stale", &words)
         }
     }
 }
 
-// A fault of one word in the edit of that index.
-fn put_fault<W: Sink>(sink: &mut W, index: u64, name: &[u8]) -> Result<(), WriteFailed>
-    ensures { Puts W.held W.broken sink.old sink.new result (refused_line (codes "faulty" ∷ decimal index ∷ name.now ∷ [])) }
+/// The word for a fault of an edit. The index of a cell that is no step follows it in a session.
+pub fn fault_word(why: EditFault) -> &'static str
+    ensures { result.now ≡ fault_word why }
 {
-    let words = [Word::Text(b"faulty"), Word::Number(index), Word::Text(name)];
-    put_line(sink, b"refused", &words)
+    match why {
+        EditFault::UnknownAgent => "unknown-agent",
+        EditFault::AgentTaken => "agent-taken",
+        EditFault::TooManyAgents => "too-many-agents",
+        EditFault::OutOfMap => "out-of-map",
+        EditFault::EmptyPath => "empty-path",
+        EditFault::NotFromStart => "not-from-start",
+        EditFault::NoSuchTime => "no-such-time",
+        EditFault::NotAStep { .. } => "not-a-step",
+        EditFault::TooLong => "too-long",
+    }
 }
 
 // A fault in the edit of that index.
 fn put_faulty<W: Sink>(sink: &mut W, index: u64, why: EditFault) -> Result<(), WriteFailed>
-    ensures { Puts W.held W.broken sink.old sink.new result (refused_line (codes "faulty" ∷ decimal index ∷ fault_words why)) }
+    ensures { Puts W.held W.broken sink.old sink.new result (join_with_byte 32 (codes "faulty" ∷ decimal index ∷ fault_words why)) }
 {
-    let name: &[u8] = match why {
-        EditFault::UnknownAgent => b"unknown-agent",
-        EditFault::AgentTaken => b"agent-taken",
-        EditFault::TooManyAgents => b"too-many-agents",
-        EditFault::OutOfMap => b"out-of-map",
-        EditFault::EmptyPath => b"empty-path",
-        EditFault::NotFromStart => b"not-from-start",
-        EditFault::NoSuchTime => b"no-such-time",
-        EditFault::TooLong => b"too-long",
+    let (index, name) = (Word::Number(index), Word::Text(fault_word(why).as_bytes()));
+    match why {
         EditFault::NotAStep { at } => {
-            let words = [
-                Word::Text(b"faulty"),
-                Word::Number(index),
-                Word::Text(b"not-a-step"),
-                Word::Number(u64::from(at)),
-            ];
-            return put_line(sink, b"refused", &words);
+            let words = [index, name, Word::Number(u64::from(at))];
+            put_words(sink, b"faulty", &words)
         }
-    };
-    put_fault(sink, index, name)
-}
-
-// Why a commit is refused.
-pub(crate) fn put_refusal<W: Sink>(sink: &mut W, refusal: Refusal) -> Result<(), WriteFailed>
-    ensures { Puts W.held W.broken sink.old sink.new result (refused_line (refusal_words refusal)) }
-{
-    match refusal {
-        Refusal::JournalFull { limit } => put_numbered(sink, b"journal-full", u64::from(limit)),
-        Refusal::Ahead { now } => put_numbered(sink, b"ahead", now),
-        Refusal::NoEdits => put_plain(sink, b"no-edits"),
-        Refusal::Stale { now, thing, at } => put_stale(sink, now, thing, at),
-        Refusal::Faulty { index, why } => put_faulty(sink, index as u64, why),
-        Refusal::OutOfMemory => put_plain(sink, b"memory"),
+        _ => put_words(sink, b"faulty", &[index, name]),
     }
 }
 
-// Why a distance isn't told.
+/// Puts why a commit is refused, in the words of a session, with one space between each two.
+///
+/// # Errors
+///
+/// The sink failed, or took no byte: a prefix of the words went out.
+pub fn put_refusal<W: Sink>(sink: &mut W, refusal: Refusal) -> Result<(), WriteFailed>
+    ensures { Puts W.held W.broken sink.old sink.new result (refusal_text refusal) }
+{
+    match refusal {
+        Refusal::JournalFull { limit } => {
+            put_words(sink, b"journal-full", &[Word::Number(u64::from(limit))])
+        }
+        Refusal::Ahead { now } => put_words(sink, b"ahead", &[Word::Number(now)]),
+        Refusal::NoEdits => put_words(sink, b"no-edits", &[]),
+        Refusal::Stale { now, thing, at } => put_stale(sink, now, thing, at),
+        Refusal::Faulty { index, why } => put_faulty(sink, index as u64, why),
+        Refusal::OutOfMemory => put_words(sink, b"memory", &[]),
+    }
+}
+
+/// Puts a refusal of a commit as a line of its own.
+#[tactic(auto, using(desk_report::proofs::Fronts::fronts))]
+pub(crate) fn put_refused<W: Sink>(sink: &mut W, refusal: Refusal) -> Result<(), WriteFailed>
+    ensures ok { OnOk result (Appends (W.held sink.old) (W.held sink.new) (refused_line (refusal_words refusal))) }
+    ensures err { OnErr result (AppendsFront (W.held sink.old) (W.held sink.new) (refused_line (refusal_words refusal))) }
+    ensures broken { W.broken sink.new ≡ (W.broken sink.old || is_err result) }
+{
+    put_all(sink, b"refused ")?;
+    put_refusal(sink, refusal)?;
+    put_all(sink, b"\n")
+}
+
+/// Puts why a distance isn't told, as a line of its own.
 pub(crate) fn put_not_asked<W: Sink>(sink: &mut W, fault: AskFault) -> Result<(), WriteFailed>
     ensures { Puts W.held W.broken sink.old sink.new result (refused_line (asked_words fault)) }
 {
     match fault {
-        AskFault::UnknownAgent => put_plain(sink, b"unknown-agent"),
-        AskFault::OutOfMap => put_plain(sink, b"out-of-map"),
-        AskFault::OutOfMemory => put_plain(sink, b"memory"),
+        AskFault::UnknownAgent => put_line(sink, b"refused", &[Word::Text(b"unknown-agent")]),
+        AskFault::OutOfMap => put_line(sink, b"refused", &[Word::Text(b"out-of-map")]),
+        AskFault::OutOfMemory => put_line(sink, b"refused", &[Word::Text(b"memory")]),
     }
 }

@@ -1,15 +1,12 @@
 //! The texts of replies.
-ghost use Rattle.std.specs.Prelude.{◌≡◌, ◌++◌, OnOk, OnErr, is_err, ◌||◌};
+ghost use Rattle.std.specs.Prelude.{◌≡◌, IsTrue, OnOk, OnErr, is_err, ◌||◌};
 ghost use Rattle.std.specs.Io.KnownBytes.{Appends};
 ghost use Rattle.desk_report.specs.Bytes.{AppendsFront, Puts};
-ghost use Rattle.desk_report.specs.LineText.{line_text};
-ghost use Rattle.desk_report.specs.ReportText.{report_text};
-ghost use Rattle.session_protocol.specs.Replies.{bad_word, version_line, reply_text};
+ghost use Rattle.session_protocol.specs.Replies.{bad_word, begins_as_listed, is_acceptance, version_line, reported_text, reply_text};
 
-use crate::refusals::{put_not_asked, put_refusal};
+use crate::refusals::{put_not_asked, put_refused};
 use crate::replies::{BadLine, Reply};
-use desk_commits::Reading;
-use desk_report::{Sink, Word, WriteFailed, put_line, write_report};
+use desk_report::{Report, Sink, Word, WriteFailed, put_line, write_report};
 
 // The word for what is wrong with a line.
 fn word_of(why: BadLine) -> &'static [u8]
@@ -38,20 +35,25 @@ fn put_version<W: Sink>(sink: &mut W, version: u64) -> Result<(), WriteFailed>
     put_line(sink, b"version", &[Word::Number(version)])
 }
 
-// A reading: its version, and its report.
+/// Puts a version, and a report.
+///
+/// # Errors
+///
+/// The sink failed, or took no byte: a prefix of the text went out.
 #[tactic(auto, using(desk_report::proofs::Fronts::fronts))]
-fn put_reading<W: Sink>(sink: &mut W, reading: &Reading) -> Result<(), WriteFailed>
-    ensures ok { OnOk result (Appends (W.held sink.old) (W.held sink.new) (version_line reading.now.version ++ report_text reading.now.report)) }
-    ensures err { OnErr result (AppendsFront (W.held sink.old) (W.held sink.new) (version_line reading.now.version ++ report_text reading.now.report)) }
+pub fn put_report<W: Sink>(sink: &mut W, version: u64, report: &Report) -> Result<(), WriteFailed>
+    ensures ok { OnOk result (Appends (W.held sink.old) (W.held sink.new) (reported_text version report.now)) }
+    ensures err { OnErr result (AppendsFront (W.held sink.old) (W.held sink.new) (reported_text version report.now)) }
     ensures broken { W.broken sink.new ≡ (W.broken sink.old || is_err result) }
 {
-    put_version(sink, reading.version)?;
-    write_report(&reading.report, sink)
+    put_version(sink, version)?;
+    write_report(report, sink)
 }
 
 // The reply.
 pub(crate) fn put_reply<W: Sink>(sink: &mut W, reply: &Reply) -> Result<(), WriteFailed>
-    ensures { Puts W.held W.broken sink.old sink.new result (reply_text reply.now) }
+    ensures text { Puts W.held W.broken sink.old sink.new result (reply_text reply.now) }
+    ensures listed { IsTrue (begins_as_listed reply.now) }
 {
     match reply {
         Reply::Silent => Ok(()),
@@ -61,10 +63,23 @@ pub(crate) fn put_reply<W: Sink>(sink: &mut W, reply: &Reply) -> Result<(), Writ
         Reply::Base(version) => put_line(sink, b"base", &[Word::Number(*version)]),
         Reply::Kept => put_line(sink, b"kept", &[]),
         Reply::Cancelled => put_line(sink, b"cancelled", &[]),
-        Reply::Refused(refusal) => put_refusal(sink, *refusal),
-        Reply::Shown(reading) => put_reading(sink, reading),
+        Reply::Refused(refusal) => put_refused(sink, *refusal),
+        Reply::Shown(reading) => put_report(sink, reading.version, &reading.report),
         Reply::Far(distance) => put_line(sink, b"distance", &[Word::given(*distance)]),
         Reply::NotAsked(fault) => put_not_asked(sink, *fault),
         Reply::Solves(is_so) => put_line(sink, b"solves", &[Word::Answer(*is_so)]),
     }
+}
+
+/// Whether an answer that begins with the word takes its line. Any other answer is empty, or begins
+/// with `refused` or `bad`.
+pub fn is_acceptance(word: &[u8]) -> bool
+    ensures { result ≡ is_acceptance word.now }
+{
+    word == b"version".as_slice()
+        || word == b"base".as_slice()
+        || word == b"kept".as_slice()
+        || word == b"cancelled".as_slice()
+        || word == b"distance".as_slice()
+        || word == b"solves".as_slice()
 }

@@ -1,5 +1,5 @@
 use Rattle.desk_report.proofs.Fronts.{front-more, err-of, err-after}
-use Rattle.session_protocol.proofs.writers.put_reading.Goals as goal
+use Rattle.session_protocol.proofs.writers.put_report.Goals as goal
 
 pub returns-in_err-put_version-clause-err : goal.returns-in_err-put_version-clause-err
 returns-in_err-put_version-clause-err g c = err-of c.from_residual.result (front-more _ _ _ _ c.in_err-put_version.ensures.err)

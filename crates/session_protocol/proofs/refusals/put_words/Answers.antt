@@ -1,0 +1,16 @@
+use Rattle.desk_report.specs.Words.{word_text}
+use Rattle.desk_report.proofs.Fronts.{front-more, err-of, ok-after, err-after}
+use Rattle.desk_report.proofs.Lines.{join-words}
+use Rattle.session_protocol.proofs.refusals.put_words.Goals as goal
+
+pub returns-in_err-put_all-clause-err : goal.returns-in_err-put_all-clause-err
+returns-in_err-put_all-clause-err g c =
+    rw (join-words word_text c.args.first.now c.args.others.now) (err-of c.from_residual.result (front-more _ _ _ _ c.in_err-put_all.ensures.err))
+
+pub returns-clause-ok : goal.returns-clause-ok
+returns-clause-ok g c =
+    rw (join-words word_text c.args.first.now c.args.others.now) (ok-after _ _ _ _ _ _ c.in_ok-put_all.ensures.ok c.put_more.ensures.ok)
+
+pub returns-clause-err : goal.returns-clause-err
+returns-clause-err g c =
+    rw (join-words word_text c.args.first.now c.args.others.now) (err-after _ _ _ _ _ _ c.in_ok-put_all.ensures.ok c.put_more.ensures.err)

@@ -1,8 +1,0 @@
-use Rattle.desk_report.proofs.Fronts.{front-more, err-of, err-after}
-use Rattle.solver_check.proofs.reporting.put_report.Goals as goal
-
-pub returns-in_err-put_line-clause-err : goal.returns-in_err-put_line-clause-err
-returns-in_err-put_line-clause-err g c = err-of c.from_residual.result (front-more _ _ _ _ c.in_err-put_line.ensures.err)
-
-pub returns-clause-err : goal.returns-clause-err
-returns-clause-err g c = err-after _ _ _ _ _ _ c.in_ok-put_line.ensures.ok c.write_report.ensures.err
