@@ -12,6 +12,7 @@ REFUSED_WORDS = [
     "audit --map m --workers 0", "audit --map m --workers 65", "audit --map m --limit 5", "drill --map m", "drill one",
     "drill --map m --workers 65 one", "drill --map m --journal j one", "--map m", "check --map m", "check --paths p",
     "check --map m --paths p --solves", "check --map m --paths p --solves crash", "check --map m --paths p --form row",
+    "serve --agents +1", "serve --limit +5", "host --map m --wait +1 east", "audit --map m --workers +4", "draw --map m --at=-0",
 ]
 
 

@@ -1,4 +1,6 @@
 //! The options and files of a word, as data, and as its parser takes them.
+ghost use Rattle.std.specs.Prelude.{◌≡◌};
+
 use clap::builder::ValueParser;
 use clap::{Arg, ArgAction, value_parser};
 use std::alloc::{AllocError, Global};
@@ -41,7 +43,9 @@ fn numbers<'a>(least: u32, greatest: u32) -> ValueParser<'a> {
     value_parser!(u32).range(i64::from(least)..=i64::from(greatest))
 }
 
-fn flag<'a>(alloc: Global, argument: Argument) -> Arg<'a> {
+fn flag<'a>(alloc: Global, argument: Argument) -> Arg<'a>
+    ensures { result.id.now ≡ argument.name.now }
+{
     let flag = Arg::new(alloc, argument.name)
         .long(argument.name)
         .help(argument.help)
@@ -72,7 +76,9 @@ fn valued<'a>(
 }
 
 // One text or more, which no option names.
-fn listed<'a>(alloc: Global, argument: Argument, name: &'static str) -> Arg<'a> {
+fn listed<'a>(alloc: Global, argument: Argument, name: &'static str) -> Arg<'a>
+    ensures { result.id.now ≡ argument.name.now }
+{
     Arg::new(alloc, argument.name)
         .help(argument.help)
         .required(argument.is_needed)

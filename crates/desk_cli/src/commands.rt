@@ -105,6 +105,16 @@ const WORDS: [Word; 6] = [
     },
 ];
 
+/// The arguments of the word of that name.
+pub(crate) fn arguments_of(name: &str) -> &'static [Argument] {
+    for word in &WORDS {
+        if word.name == name {
+            return word.arguments;
+        }
+    }
+    &[]
+}
+
 // The command of a word.
 fn command_of<'a>(alloc: Global, word: &Word) -> Result<Command<'a>, AllocError> {
     let mut arguments = Vec::new(alloc);

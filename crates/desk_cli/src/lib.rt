@@ -2,12 +2,13 @@
 #![tactic(auto)]
 
 mod arguments;
-mod checks;
 mod commands;
 mod helping;
+mod mistakes;
 mod options;
 mod ranges;
 mod reading;
+mod values;
 mod words;
 
 pub use helping::{SESSION_PROMPT, VERSION};

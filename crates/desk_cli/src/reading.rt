@@ -1,8 +1,16 @@
 //! What the program's words ask for.
-use crate::checks::check_words;
+ghost use Rattle.std.specs.Prelude.{◌≡◌, IfOk, codes, unwrap_or};
+ghost use Rattle.clap.specs.Matches.{found_of};
+ghost use Rattle.desk_cli.specs.Values.{mode_named, number_given};
+ghost use Rattle.desk_cli.specs.Asked.{AsksFor, AsksToAudit, AsksToCheck, AsksToDraw, AsksToDrill, AsksToHost, AsksToServe};
+
 use crate::commands::command;
-use crate::ranges::{names_no_range, range_of, refused_range};
-use crate::words::{Asked, AuditWords, DrawWords, DrillWords, HostWords, ServeWords, Words};
+use crate::mistakes::{mistake_in, refused};
+use crate::ranges::range_of;
+use crate::values::{form_given, kinds_given, mode_given, number_given, text_given, texts_given};
+use crate::words::{
+    Asked, AuditWords, CheckWords, DrawWords, DrillWords, HostWords, ServeWords, Words,
+};
 use clap::{ArgMatches, Error};
 use plan_table::Mode;
 use std::alloc::{AllocError, Global};
@@ -13,91 +21,106 @@ const USUAL_LIMIT: u32 = 100_000;
 /// How many threads make a report where the words don't say.
 const USUAL_WORKERS: u32 = 4;
 
-pub(crate) fn mode_of(matches: &ArgMatches<'static>) -> Mode {
-    match matches.get_str("mode") {
-        Some("disappear") => Mode::Disappear,
-        _ => Mode::Stay,
-    }
+fn agents_of(matches: &ArgMatches<'static>) -> u32
+    ensures { result ≡ unwrap_or (number_given (found_of matches.now) (codes "agents")) 0 }
+{
+    number_given(matches, "agents").unwrap_or(0)
 }
 
-fn agents_of(matches: &ArgMatches<'static>) -> u32 {
-    matches.get_one::<u32>("agents").unwrap_or(0)
+fn workers_of(matches: &ArgMatches<'static>) -> u32
+    ensures { result ≡ unwrap_or (number_given (found_of matches.now) (codes "workers")) 4 }
+{
+    number_given(matches, "workers").unwrap_or(USUAL_WORKERS)
 }
 
-pub(crate) fn workers_of(matches: &ArgMatches<'static>) -> u32 {
-    matches.get_one::<u32>("workers").unwrap_or(USUAL_WORKERS)
-}
-
-// The scripts or planners that are named, in their order.
-fn named_of(
-    alloc: Global,
-    matches: &ArgMatches<'static>,
-    what: &str,
-) -> Result<Vec<&'static str>, AllocError> {
-    match matches.get_strs(what) {
-        Some(named) => named.to_vec(alloc),
-        None => Ok(Vec::new(alloc)),
-    }
-}
-
-fn serve_words(matches: &ArgMatches<'static>) -> ServeWords {
+fn serve_words(matches: &ArgMatches<'static>) -> ServeWords
+    ensures { AsksToServe (found_of matches.now) result }
+{
     ServeWords {
         map: matches.get_str("map"),
         scen: matches.get_str("scen"),
         agents: agents_of(matches),
-        limit: matches.get_one::<u32>("limit").unwrap_or(USUAL_LIMIT),
-        mode: mode_of(matches),
+        limit: number_given(matches, "limit").unwrap_or(USUAL_LIMIT),
+        mode: mode_given(matches),
         journal: matches.get_str("journal"),
         save: matches.get_str("save"),
     }
 }
 
-fn audit_words(matches: &ArgMatches<'static>) -> AuditWords {
+fn audit_words(matches: &ArgMatches<'static>) -> AuditWords
+    ensures { AsksToAudit (found_of matches.now) result }
+{
     AuditWords {
-        map: matches.get_str("map").unwrap_or(""),
+        map: text_given(matches, "map"),
         scen: matches.get_str("scen"),
         agents: agents_of(matches),
-        mode: mode_of(matches),
+        mode: mode_given(matches),
         journal: matches.get_str("journal"),
         workers: workers_of(matches),
     }
 }
 
-fn drill_words(alloc: Global, matches: &ArgMatches<'static>) -> Result<DrillWords, AllocError> {
+fn drill_words(alloc: Global, matches: &ArgMatches<'static>) -> Result<DrillWords, AllocError>
+    ensures { IfOk result (AsksToDrill (found_of matches.now)) }
+{
+    let scripts = texts_given(alloc, matches, "script")?;
     Ok(DrillWords {
-        map: matches.get_str("map").unwrap_or(""),
+        map: text_given(matches, "map"),
         scen: matches.get_str("scen"),
         agents: agents_of(matches),
-        mode: mode_of(matches),
+        mode: mode_given(matches),
         workers: workers_of(matches),
-        scripts: named_of(alloc, matches, "script")?,
+        scripts,
     })
 }
 
-fn host_words(alloc: Global, matches: &ArgMatches<'static>) -> Result<HostWords, AllocError> {
+fn host_words(alloc: Global, matches: &ArgMatches<'static>) -> Result<HostWords, AllocError>
+    ensures { IfOk result (AsksToHost (found_of matches.now)) }
+{
+    let names = texts_given(alloc, matches, "name")?;
     Ok(HostWords {
         desk: serve_words(matches),
-        wait: matches.get_one::<u32>("wait"),
+        wait: number_given(matches, "wait"),
         workers: workers_of(matches),
-        names: named_of(alloc, matches, "name")?,
+        names,
     })
 }
 
-fn draw_words(matches: &ArgMatches<'static>) -> DrawWords {
-    DrawWords {
-        map: matches.get_str("map").unwrap_or(""),
+fn check_words(matches: &ArgMatches<'static>) -> CheckWords
+    ensures { AsksToCheck (found_of matches.now) result }
+{
+    CheckWords {
+        map: text_given(matches, "map"),
         scen: matches.get_str("scen"),
-        agents: matches.get_one::<u32>("agents"),
-        mode: mode_of(matches),
+        agents: number_given(matches, "agents"),
+        mode: mode_given(matches),
+        paths: text_given(matches, "paths"),
+        form: form_given(matches),
+        kinds: kinds_given(matches),
+        quiet: matches.get_flag("quiet"),
+        workers: workers_of(matches),
+    }
+}
+
+fn draw_words(matches: &ArgMatches<'static>) -> DrawWords
+    ensures { AsksToDraw (found_of matches.now) result }
+{
+    DrawWords {
+        map: text_given(matches, "map"),
+        scen: matches.get_str("scen"),
+        agents: number_given(matches, "agents"),
+        mode: mode_given(matches),
         journal: matches.get_str("journal"),
         paths: matches.get_str("paths"),
-        at: matches.get_one::<u32>("at"),
-        shown: range_of(matches.get_str("agents-shown").unwrap_or("")),
+        at: number_given(matches, "at"),
+        shown: range_of(text_given(matches, "agents-shown")),
     }
 }
 
 // What is asked for where no word names it.
-fn usual_words() -> ServeWords {
+fn usual_words() -> ServeWords
+    ensures { result ≡ record { map = None; scen = None; agents = 0; limit = 100000; mode = Mode.Stay; journal = None; save = None } }
+{
     ServeWords {
         map: None,
         scen: None,
@@ -110,18 +133,21 @@ fn usual_words() -> ServeWords {
 }
 
 // What is asked for by the word of that name.
-fn named_words(
-    alloc: Global,
-    name: &str,
-    inner: &ArgMatches<'static>,
-) -> Result<Words, AllocError> {
-    match name {
-        "drill" => Ok(Words::Drill(drill_words(alloc, inner)?)),
-        "host" => Ok(Words::Host(host_words(alloc, inner)?)),
-        "check" => Ok(Words::Check(check_words(inner))),
-        "draw" => Ok(Words::Draw(draw_words(inner))),
-        "audit" => Ok(Words::Audit(audit_words(inner))),
-        _ => Ok(Words::Serve(serve_words(inner))),
+fn named_words(alloc: Global, name: &str, inner: &ArgMatches<'static>) -> Result<Words, AllocError>
+    ensures { IfOk result (AsksFor name.now (found_of inner.now)) }
+{
+    if name == "drill" {
+        Ok(Words::Drill(drill_words(alloc, inner)?))
+    } else if name == "host" {
+        Ok(Words::Host(host_words(alloc, inner)?))
+    } else if name == "check" {
+        Ok(Words::Check(check_words(inner)))
+    } else if name == "draw" {
+        Ok(Words::Draw(draw_words(inner)))
+    } else if name == "audit" {
+        Ok(Words::Audit(audit_words(inner)))
+    } else {
+        Ok(Words::Serve(serve_words(inner)))
     }
 }
 
@@ -147,8 +173,12 @@ fn is_verbose(matches: &ArgMatches<'static>) -> bool {
 
 // What the words that were matched ask for.
 fn asked_of(alloc: Global, matches: &ArgMatches<'static>) -> Asked {
-    if names_no_range(matches) {
-        return refused_range(alloc);
+    if let Some((name, inner)) = matches.subcommand() {
+        match mistake_in(alloc, name, inner) {
+            Ok(None) => (),
+            Ok(Some(mistake)) => return refused(alloc, mistake.as_str()),
+            Err(_) => return Asked::NoMemory,
+        }
     }
     match words_of(alloc, matches) {
         Ok(words) => Asked::For {

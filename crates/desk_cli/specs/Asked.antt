@@ -1,0 +1,75 @@
+-- What the words ask for, by what the parser found in them (this project's choice).
+use Rattle.std.specs.Prelude.{◌≡◌, ℕ, List, [], option_map, unwrap_or, codes}
+use Rattle.std.specs.Option.{option_copied}
+use Rattle.clap.specs.Matches.{first_value, matched_of, raw_values}
+use Rattle.clap.specs.declared.parser.matches.Found.{Found}
+use Rattle.desk_cli.specs.Values.{number_given, texts_given, texts_in, mode_named, form_named, kinds_named}
+use Rattle.desk_cli.specs.declared.words.ServeWords.{ServeWords}
+use Rattle.desk_cli.specs.declared.words.AuditWords.{AuditWords}
+use Rattle.desk_cli.specs.declared.words.DrillWords.{DrillWords}
+use Rattle.desk_cli.specs.declared.words.HostWords.{HostWords}
+use Rattle.desk_cli.specs.declared.words.CheckWords.{CheckWords}
+use Rattle.desk_cli.specs.declared.words.DrawWords.{DrawWords}
+use Rattle.desk_cli.specs.declared.words.Words.{Words}
+use Rattle.desk_cli.specs.declared.words.Words.TheVariants.{Version, Serve, Audit, Drill, Host, Check, Draw}
+
+-- a session's desk
+pub record AsksToServe (found : Found) (words : ServeWords) : Type 0 where
+  pub map : option_copied words.map ≡ first_value found (codes "map")
+  pub scen : option_copied words.scen ≡ first_value found (codes "scen")
+  pub agents : words.agents ≡ unwrap_or (number_given found (codes "agents")) 0
+  pub limit : words.limit ≡ unwrap_or (number_given found (codes "limit")) 100000
+  pub mode : words.mode ≡ mode_named (first_value found (codes "mode"))
+  pub journal : option_copied words.journal ≡ first_value found (codes "journal")
+  pub save : option_copied words.save ≡ first_value found (codes "save")
+
+pub record AsksToAudit (found : Found) (words : AuditWords) : Type 0 where
+  pub map : words.map.now ≡ unwrap_or (first_value found (codes "map")) []
+  pub scen : option_copied words.scen ≡ first_value found (codes "scen")
+  pub agents : words.agents ≡ unwrap_or (number_given found (codes "agents")) 0
+  pub mode : words.mode ≡ mode_named (first_value found (codes "mode"))
+  pub journal : option_copied words.journal ≡ first_value found (codes "journal")
+  pub workers : words.workers ≡ unwrap_or (number_given found (codes "workers")) 4
+
+pub record AsksToDrill (found : Found) (words : DrillWords) : Type 0 where
+  pub map : words.map.now ≡ unwrap_or (first_value found (codes "map")) []
+  pub scen : option_copied words.scen ≡ first_value found (codes "scen")
+  pub agents : words.agents ≡ unwrap_or (number_given found (codes "agents")) 0
+  pub mode : words.mode ≡ mode_named (first_value found (codes "mode"))
+  pub workers : words.workers ≡ unwrap_or (number_given found (codes "workers")) 4
+  pub scripts : texts_in words.scripts.items ≡ texts_given found (codes "script")
+
+pub record AsksToHost (found : Found) (words : HostWords) : Type 0 where
+  pub desk : AsksToServe found words.desk
+  pub wait : words.wait ≡ number_given found (codes "wait")
+  pub workers : words.workers ≡ unwrap_or (number_given found (codes "workers")) 4
+  pub names : texts_in words.names.items ≡ texts_given found (codes "name")
+
+pub record AsksToCheck (found : Found) (words : CheckWords) : Type 0 where
+  pub map : words.map.now ≡ unwrap_or (first_value found (codes "map")) []
+  pub scen : option_copied words.scen ≡ first_value found (codes "scen")
+  pub agents : words.agents ≡ number_given found (codes "agents")
+  pub mode : words.mode ≡ mode_named (first_value found (codes "mode"))
+  pub paths : words.paths.now ≡ unwrap_or (first_value found (codes "paths")) []
+  pub form : words.form ≡ form_named (first_value found (codes "form"))
+  pub kinds : words.kinds ≡ kinds_named (option_map raw_values (matched_of found (codes "solves")))
+  pub workers : words.workers ≡ unwrap_or (number_given found (codes "workers")) 4
+
+pub record AsksToDraw (found : Found) (words : DrawWords) : Type 0 where
+  pub map : words.map.now ≡ unwrap_or (first_value found (codes "map")) []
+  pub scen : option_copied words.scen ≡ first_value found (codes "scen")
+  pub agents : words.agents ≡ number_given found (codes "agents")
+  pub mode : words.mode ≡ mode_named (first_value found (codes "mode"))
+  pub journal : option_copied words.journal ≡ first_value found (codes "journal")
+  pub paths : option_copied words.paths ≡ first_value found (codes "paths")
+  pub at : words.at ≡ number_given found (codes "at")
+
+-- what the word of that name asks for
+abbrev pub AsksFor : List ℕ → Found → Words → Type 0
+AsksFor name found Version = ⊥
+AsksFor name found (Serve words) = AsksToServe found words
+AsksFor name found (Audit words) = (name ≡ codes "audit") × AsksToAudit found words
+AsksFor name found (Drill words) = (name ≡ codes "drill") × AsksToDrill found words
+AsksFor name found (Host words) = (name ≡ codes "host") × AsksToHost found words
+AsksFor name found (Check words) = (name ≡ codes "check") × AsksToCheck found words
+AsksFor name found (Draw words) = (name ≡ codes "draw") × AsksToDraw found words

@@ -1,0 +1,47 @@
+-- What the values of options stand for (this project's choice).
+use Rattle.std.specs.Prelude.{ℕ, Bool, true, false, List, [], Option, Some, None, map, option_map, option_and_then, unwrap_or, codes, bytes_eq, if◌then◌else◌}
+use Rattle.std.specs.Borrow.{Bor}
+use Rattle.bench_reader.specs.Words.{number_of}
+use Rattle.plan_table.specs.declared.tracks.Mode.{Mode}
+use Rattle.plan_table.specs.declared.tracks.Mode.TheVariants.{Stay, Disappear}
+use Rattle.mapf_rules.specs.declared.kinds.Kinds.{Kinds}
+use Rattle.session_lines.specs.Kinds.{named_kinds}
+use Rattle.path_files.specs.declared.forms.Form.{Form}
+use Rattle.path_files.specs.declared.forms.Form.TheVariants.{ByTime, ByAgent, BySession}
+use Rattle.clap.specs.Matches.{first_value, matched_of, raw_values}
+use Rattle.clap.specs.declared.parser.matches.Found.{Found}
+
+-- the number that an option names: decimal digits
+abbrev pub number_given : Found → List ℕ → Option ℕ
+number_given found name = option_and_then number_of (first_value found name)
+
+-- the texts of references
+abbrev pub texts_in : List (Bor (List ℕ)) → List (List ℕ)
+texts_in texts = map (λ text. text.now) texts
+
+-- the texts that an option, or none, names
+abbrev pub texts_given : Found → List ℕ → List (List ℕ)
+texts_given found name = unwrap_or (option_map raw_values (matched_of found name)) []
+
+-- stay, unless the other mode is named
+abbrev pub mode_named : Option (List ℕ) → Mode
+mode_named None = Stay
+mode_named (Some text) = if bytes_eq text (codes "disappear") then Disappear else Stay
+
+-- the form that is named
+abbrev pub form_named : Option (List ℕ) → Option Form
+form_named None = None
+form_named (Some text) =
+    if bytes_eq text (codes "time") then Some ByTime
+    else if bytes_eq text (codes "agent") then Some ByAgent
+    else if bytes_eq text (codes "session") then Some BySession
+    else None
+
+-- the conflicts of the classical problem
+abbrev pub classical : Kinds
+classical = record { vertex = true; edge = false; follow = false; swap = true; cycle = false }
+
+-- the kinds that are named; where none is, those of the classical problem
+abbrev pub kinds_named : Option (List (List ℕ)) → Kinds
+kinds_named None = classical
+kinds_named (Some texts) = named_kinds texts
