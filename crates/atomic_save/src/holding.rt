@@ -34,10 +34,10 @@ pub enum HoldError {
 ///
 /// Another session holds it, or why it could not be saved: no name, no such folder, or one that takes
 /// no file or no lock, a name too long, want of memory.
-pub fn hold<'r, R: Files<File = File> + AllocGlobal + Clock + Clone + Drop>(
-    rt: &'r R,
-    file: &'r str,
-) -> Result<(SystemFile<'r, R>, SystemTemporary), HoldError> {
+pub fn hold<R: Files<File = File> + AllocGlobal + Clock + Clone + Drop>(
+    rt: &R,
+    file: &str,
+) -> Result<(SystemFile<R>, SystemTemporary), HoldError> {
     let folder = match lock_folder(rt, file) {
         Ok(folder) => folder,
         Err(why) => return Err(why),
@@ -47,7 +47,10 @@ pub fn hold<'r, R: Files<File = File> + AllocGlobal + Clock + Clone + Drop>(
         Ok(true) => return Err(HoldError::InUse),
         Err(why) => return Err(HoldError::Refused(why)),
     }
-    let mut named = SystemFile::new(rt, file, folder);
+    let mut named = match SystemFile::new(rt, file, folder) {
+        Ok(named) => named,
+        Err(why) => return Err(HoldError::Refused(why)),
+    };
     let Ok(temporary) = named.create() else {
         return Err(HoldError::Refused(named.into_reason().unwrap_or(ErrorKind::Other.into())));
     };

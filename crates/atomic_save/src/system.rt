@@ -16,9 +16,9 @@ const MOST_NAMES: u32 = 1_000;
 
 /// A file of the system by its name, with its folder.
 #[derive(Drop)]
-pub struct SystemFile<'r, R: Files<File = File> + AllocGlobal> {
-    rt: &'r R,
-    file: &'r str,
+pub struct SystemFile<R: Files<File = File> + AllocGlobal + Drop> {
+    rt: R,
+    file: String,
     folder: File,
     permissions: Option<Permissions>,
     temporary: String,
@@ -28,16 +28,19 @@ pub struct SystemFile<'r, R: Files<File = File> + AllocGlobal> {
     why: Option<Error>,
 }
 
-impl<'r, R: Files<File = File> + AllocGlobal> SystemFile<'r, R> {
+impl<R: Files<File = File> + AllocGlobal + Drop> SystemFile<R> {
     // The file, whose folder is open, with no temporary file yet.
-    pub(crate) fn new(rt: &'r R, file: &'r str, folder: File) -> SystemFile<'r, R> {
+    pub(crate) fn new(rt: &R, file: &str, folder: File) -> Done<SystemFile<R>>
+    where
+        R: Clone,
+    {
         let permissions = match fs::metadata(rt, file) {
             Ok(there) => Some(there.permissions()),
             Err(_) => None,
         };
-        SystemFile {
-            rt,
-            file,
+        Ok(SystemFile {
+            rt: rt.clone()?,
+            file: String::from_str(rt.alloc(), file)?,
             folder,
             permissions,
             temporary: String::new(rt.alloc()),
@@ -45,7 +48,7 @@ impl<'r, R: Files<File = File> + AllocGlobal> SystemFile<'r, R> {
             is_kept: false,
             failed: false,
             why: None,
-        }
+        })
     }
 
     /// The system's reason for the last call that failed, also of one on a temporary file.
@@ -60,14 +63,14 @@ impl<'r, R: Files<File = File> + AllocGlobal> SystemFile<'r, R> {
 
     // Makes a temporary file of the first name that nobody has, and the name under which it can be kept.
     fn made(&self) -> Done<(SystemTemporary, String, String)> {
-        let (folder, name) = split(self.file);
+        let (folder, name) = split(self.file.as_str());
         for number in 0..MOST_NAMES {
             let path = format!(in self.rt.alloc(); "{folder}.{name}.{number}{ENDING}")?;
             let kept = format!(in self.rt.alloc(); "{folder}{name}.{number}{KEPT_ENDING}")?;
-            if fs::symlink_metadata(self.rt, kept.as_str()).is_ok() {
+            if fs::symlink_metadata(&self.rt, kept.as_str()).is_ok() {
                 continue;
             }
-            match new_file(self.rt, path.as_str(), self.mode()) {
+            match new_file(&self.rt, path.as_str(), self.mode()) {
                 Ok(file) => return Ok((self.ready(file, path.as_str())?, path, kept)),
                 Err(why) if why.kind() == ErrorKind::AlreadyExists => {}
                 Err(why) => return Err(why),
@@ -88,7 +91,7 @@ impl<'r, R: Files<File = File> + AllocGlobal> SystemFile<'r, R> {
     fn ready(&self, file: File, path: &str) -> Done<SystemTemporary> {
         let ready = self.locked(file);
         if ready.is_err() {
-            let _gone = fs::remove_file(self.rt, path);
+            let _gone = fs::remove_file(&self.rt, path);
         }
         ready
     }
@@ -128,14 +131,14 @@ impl<'r, R: Files<File = File> + AllocGlobal> SystemFile<'r, R> {
         if self.is_kept {
             return (Some(self.kept), self.why);
         }
-        match fs::symlink_metadata(self.rt, self.temporary.as_str()) {
+        match fs::symlink_metadata(&self.rt, self.temporary.as_str()) {
             Ok(there) if there.is_file() => (Some(self.temporary), self.why),
             _ => (None, self.why),
         }
     }
 }
 
-impl<'r, R: Files<File = File> + AllocGlobal> NamedFile<SystemTemporary> for SystemFile<'r, R> {
+impl<R: Files<File = File> + AllocGlobal + Drop> NamedFile<SystemTemporary> for SystemFile<R> {
     ghost is_told = { false };
 
     ghost content = { λ _. None };
@@ -170,9 +173,9 @@ impl<'r, R: Files<File = File> + AllocGlobal> NamedFile<SystemTemporary> for Sys
     }
 
     fn rename(&mut self, file: SystemTemporary) -> Result<(), FileFailed> {
-        let done = fs::rename(self.rt, self.temporary.as_str(), self.file);
+        let done = fs::rename(&self.rt, self.temporary.as_str(), self.file.as_str());
         if done.is_err() {
-            self.is_kept = is_renamed_anew(self.rt, self.temporary.as_str(), self.kept.as_str());
+            self.is_kept = is_renamed_anew(&self.rt, self.temporary.as_str(), self.kept.as_str());
         }
         // (until here it is open, and so locked)
         let (failed, _) = file.into_fault();
@@ -181,7 +184,7 @@ impl<'r, R: Files<File = File> + AllocGlobal> NamedFile<SystemTemporary> for Sys
     }
 
     fn remove(&mut self, file: SystemTemporary) {
-        let _gone = fs::remove_file(self.rt, self.temporary.as_str());
+        let _gone = fs::remove_file(&self.rt, self.temporary.as_str());
         let (failed, why) = file.into_fault();
         if failed {
             self.failed = true;
