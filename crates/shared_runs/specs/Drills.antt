@@ -22,7 +22,7 @@ use Rattle.session_protocol.specs.declared.drafts.Session.{Session}
 use Rattle.session_protocol.specs.declared.drafts.Session.TheVariants.{Idle}
 use Rattle.desk_shared.specs.Windows.{window_counting}
 use Rattle.solver_check.specs.Opens.{Opens}
-use Rattle.solver_check.specs.Reported.{reported_text}
+use Rattle.session_protocol.specs.Replies.{reported_text}
 use Rattle.solver_check.specs.Bounds.{run_bounds}
 
 -- the pass may give away the numbers from the first up to the planners, and no others

@@ -5,7 +5,7 @@ ghost use Rattle.shared_runs.specs.Drills.{drill_text, same_line};
 
 use desk_core::Reading;
 use desk_report::{Sink, Word, WriteFailed, put_line};
-use solver_check::put_report;
+use session_protocol::put_report;
 
 // Writes whether the audit's report is the same.
 fn put_same<W: Sink>(writer: &mut W, same: bool) -> Result<(), WriteFailed>

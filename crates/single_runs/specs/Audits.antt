@@ -10,7 +10,7 @@ use Rattle.desk_commits.specs.State.{DeskState, version_of}
 use Rattle.desk_commits.specs.declared.limits.TheConstants.{MOST_ENTRIES}
 use Rattle.single_runs.specs.Opened.{Replays, OpensDesk, IsDeskFault}
 use Rattle.solver_check.specs.Opens.{Opens}
-use Rattle.solver_check.specs.Reported.{reported_text}
+use Rattle.session_protocol.specs.Replies.{reported_text}
 use Rattle.solver_check.specs.declared.faults.RunFault.{RunFault}
 use Rattle.solver_check.specs.declared.faults.RunFault.TheVariants.{WriteFailed, OutOfMemory}
 

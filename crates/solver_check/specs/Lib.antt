@@ -1,6 +1,5 @@
 pub mod Faults
 pub mod Opens
-pub mod Reported
 pub mod CheckEdits
 pub mod CheckTimes
 pub mod CheckTexts
@@ -8,3 +7,4 @@ pub mod CheckFaults
 pub mod Checks
 pub mod Bounds
 pub mod Seats
+pub mod Shown

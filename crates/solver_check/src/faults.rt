@@ -2,6 +2,7 @@ ghost use Rattle.std.specs.Prelude.{◌≡◌};
 ghost use Rattle.solver_check.specs.Faults.{as_told};
 ghost use Rattle.solver_check.specs.declared.faults.RunFault.TheVariants.{Journal, Serve};
 
+use crate::shown::Shown;
 use bench_reader::{MapFault, ScenFault};
 use desk_commits::ReplayFault;
 use journal_text::JournalFault;
@@ -83,10 +84,10 @@ pub enum Fault {
     #[error("--agents needs --scen")]
     AgentsWithoutScen,
     /// A file can't be opened or read, or has too many bytes.
-    #[error("can't read {file}")]
+    #[error("can't read {}", Shown(*.file))]
     CannotRead { file: &'static str },
     /// The desk's journal can't be saved in a file, which is then as it was.
-    #[error("can't write {file}")]
+    #[error("can't write {}", Shown(*.file))]
     CannotWrite { file: &'static str },
     #[error("{0}")]
     Run(RunFault),

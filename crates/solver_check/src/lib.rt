@@ -11,12 +11,14 @@ mod hearing;
 mod reporting;
 mod scenes;
 mod seats;
+mod shown;
 
 pub use bounds::{BOUNDS, MOST_BYTES, MOST_LINES};
-pub use checks::{CheckFault, fault_word, planned_scene, run_check};
+pub use checks::{CheckFault, planned_scene, run_check};
 pub use faults::{Fault, RunFault};
 pub use heard::Heard;
 pub use hearing::{Hearing, MOST_HEARD};
-pub use reporting::{is_same, put_report, report_of};
+pub use reporting::{is_same, report_of};
 pub use scenes::{Problem, scene_of};
 pub use seats::{HostFault, Outcome, SeatFault, Seats};
+pub use shown::{Shown, letter_of};

@@ -1,32 +1,14 @@
-//! Reports that are made from scratch, compared and written.
-ghost use Rattle.std.specs.Prelude.{◌≡◌, ◌↔◌, ◌≤◌, ◌||◌, IfOk, IsTrue, OnErr, OnOk, is_err};
-ghost use Rattle.std.specs.Io.KnownBytes.{Appends};
-ghost use Rattle.desk_report.specs.Bytes.{AppendsFront};
+//! Reports that are made from scratch, and compared.
+ghost use Rattle.std.specs.Prelude.{◌≡◌, ◌↔◌, ◌≤◌, IfOk, IsTrue};
 ghost use Rattle.desk_report.specs.Report.{IsReportOf};
-ghost use Rattle.solver_check.specs.Reported.{reported_text};
 
 use desk_audit::{AuditFault, NoGate, audit};
-use desk_report::{Report, Sink, Word, WriteFailed, put_line, write_report};
+use desk_report::Report;
 use grid_cells::OutOfMemory;
 use scene_edits::Scene;
 use std::alloc::Global;
 use std::sync::Wait;
 use std::thread::Threads;
-
-/// Writes a version, and a report.
-///
-/// # Errors
-///
-/// The writer failed.
-#[tactic(auto, using(desk_report::proofs::Fronts::fronts))]
-pub fn put_report<W: Sink>(writer: &mut W, version: u64, report: &Report) -> Result<(), WriteFailed>
-    ensures ok { OnOk result (Appends (W.held writer.old) (W.held writer.new) (reported_text version report.now)) }
-    ensures err { OnErr result (AppendsFront (W.held writer.old) (W.held writer.new) (reported_text version report.now)) }
-    ensures broken { W.broken writer.new ≡ (W.broken writer.old || is_err result) }
-{
-    put_line(writer, b"version", &[Word::Number(version)])?;
-    write_report(report, writer)
-}
 
 /// The report of the scene, made from scratch by so many threads.
 ///

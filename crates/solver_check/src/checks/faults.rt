@@ -5,6 +5,7 @@ use crate::faults::RunFault;
 use grid_cells::Agent;
 use path_files::PathsFault;
 use scene_edits::EditFault;
+use session_protocol::fault_word;
 use thiserror::Error;
 
 /// Why there is no verdict on a text of paths, or no picture.
@@ -44,20 +45,5 @@ impl From<RunFault> for CheckFault {
             RunFault::OutOfMemory => CheckFault::OutOfMemory,
             fault => CheckFault::Run(fault),
         }
-    }
-}
-
-/// The word of a session for the fault of an edit.
-pub fn fault_word(why: EditFault) -> &'static str {
-    match why {
-        EditFault::UnknownAgent => "unknown-agent",
-        EditFault::AgentTaken => "agent-taken",
-        EditFault::TooManyAgents => "too-many-agents",
-        EditFault::OutOfMap => "out-of-map",
-        EditFault::EmptyPath => "empty-path",
-        EditFault::NotFromStart => "not-from-start",
-        EditFault::NoSuchTime => "no-such-time",
-        EditFault::NotAStep { .. } => "not-a-step",
-        EditFault::TooLong => "too-long",
     }
 }

@@ -7,6 +7,6 @@ mod texts;
 mod times;
 mod verdicts;
 
-pub use faults::{CheckFault, fault_word};
+pub use faults::CheckFault;
 pub use scenes::planned_scene;
 pub use verdicts::run_check;

@@ -1,6 +1,6 @@
 use Rattle.desk_report.proofs.Fronts.{front-more, err-of, ok-after, err-after}
 use Rattle.shared_runs.specs.Drills.{same_line}
-use Rattle.solver_check.specs.Reported.{reported_text}
+use Rattle.session_protocol.specs.Replies.{reported_text}
 use Rattle.shared_runs.proofs.reporting.put_drill.Goals as goal
 
 pub returns-in_err-put_report-clause-err : goal.returns-in_err-put_report-clause-err
