@@ -36,17 +36,23 @@ walks_along grid a (b ∷ cells) free steps goal last =
       | inr some ↦ (suc rest.0, omega (arith, rest.1), (All-head (IsOpen grid) a (b ∷ cells) free, (b, omega arith, rest.2)))
     ]
 
--- an open path that ends at the goal has a lower bound, and takes at least as long
-bound_given : (grid : Chart) (path : List Point) (start goal : Point) (bound : Option ℕ) → IsPath path → All (IsOpen grid) path → place path 0 ≡ Some start → slice_get path (last_index path) ≡ Some goal → IsDistance grid start goal bound → (d : ℕ) × (bound ≡ Some d) × (d ≤ last_index path)
-bound_given grid [] start goal bound is free first last dist = absurd (omega (arith, is.walkable.some_cell))
-bound_given grid (a ∷ cells) start goal bound is free first last dist =
+-- an open path that ends at the goal makes a walk of at most as many steps
+walk_given : (grid : Chart) (path : List Point) (start goal : Point) → IsPath path → All (IsOpen grid) path → place path 0 ≡ Some start → slice_get path (last_index path) ≡ Some goal → (steps : ℕ) × (steps ≤ last_index path) × Walk grid steps start goal
+walk_given grid [] start goal is free first last = absurd (omega (arith, is.walkable.some_cell))
+walk_given grid (a ∷ cells) start goal is free first last =
     let at_start : min 0 (last_index (a ∷ cells)) ≡ 0 = omega arith in
     let same : a ≡ start = same_Some a start (rw at_start at first) in
     let at_end : last_index (a ∷ cells) ≡ length cells = omega arith in
     let walk = walks_along grid a cells free is.walkable.steps goal (rw at_end at last) in
-    by_bound bound dist (walk.0) (subst (λ p. Walk grid walk.0 p goal) same walk.2) (omega (arith, walk.1))
+    (walk.0, omega (arith, walk.1), subst (λ p. Walk grid walk.0 p goal) same walk.2)
+
+-- so it has a lower bound, and takes at least as long
+bound_given : (grid : Chart) (path : List Point) (start goal : Point) (bound : Option ℕ) → IsPath path → All (IsOpen grid) path → place path 0 ≡ Some start → slice_get path (last_index path) ≡ Some goal → IsDistance grid start goal bound → (d : ℕ) × (bound ≡ Some d) × (d ≤ last_index path)
+bound_given grid path start goal bound is free first last dist =
+    let walk = walk_given grid path start goal is free first last in
+    by_bound bound dist walk.0 walk.2 walk.1
   where
-    by_bound : (o : Option ℕ) → IsDistance grid start goal o → (n : ℕ) → Walk grid n start goal → n ≤ length cells → (d : ℕ) × (o ≡ Some d) × (d ≤ last_index (a ∷ cells))
+    by_bound : (o : Option ℕ) → IsDistance grid start goal o → (n : ℕ) → Walk grid n start goal → n ≤ last_index path → (d : ℕ) × (o ≡ Some d) × (d ≤ last_index path)
     by_bound None none n w few = absurd (none n w)
     by_bound (Some d) least n w few = let lower : d ≤ n = least.1 n w in (d, refl, omega arith)
 
@@ -65,6 +71,17 @@ all_open grid path held free k d within =
       | inr closed ↦ absurd (free k cell (record { on_path = omega arith; there = there; closed = closed }))
     ]
 
+-- a finished agent's path is at its goal at its last index
+at_goal : (row : Row) → IsPath row.plan → IsFinished row → slice_get row.plan (last_index row.plan) ≡ Some row.goal
+at_goal row is finished =
+    let path : List Point = row.plan in
+    let rest = settle_once path finished.0 (last_index path) finished.1 (settles path is) in
+    grind arith
+
+-- a finished agent's unblocked path makes a walk from its start to its goal
+pub walk_of_row : (grid : Chart) (row : Row) → IsPath row.plan → All (Holds grid.size) row.plan → IsFinished row → IsUnblocked grid row.plan → (start : Point) → place row.plan 0 ≡ Some start → (steps : ℕ) × (steps ≤ last_index row.plan) × Walk grid steps start row.goal
+walk_of_row grid row is held finished free start starts = walk_given grid row.plan start row.goal is (all_open grid row.plan held free) starts (at_goal row is finished)
+
 -- what is given where a fact holds, where it does
 given_there : {X : Type 0} (o : Option X) (P : Type 0) (v : X) → SomeIff o P v → P → o ≡ Some v
 given_there o P v iff holds = grind arith
@@ -73,9 +90,7 @@ line_law : (grid : Chart) (entry : ℕ × Row) (line : AgentLine) → IsPathOn g
 line_law grid entry line on is finished free =
     let path : List Point = entry.1.plan in
     let settle = settle_once path line.settle (last_index path) is.settle (settles path on.path_is) in
-    let rest = settle_once path finished.0 (last_index path) finished.1 (settles path on.path_is) in
-    let last : slice_get path (last_index path) ≡ Some entry.1.goal = grind arith in
-    let given = bound_given grid path is.bound.start entry.1.goal line.bound on.path_is (all_open grid path on.held free) is.bound.starts last is.bound.distance in
+    let given = bound_given grid path is.bound.start entry.1.goal line.bound on.path_is (all_open grid path on.held free) is.bound.starts (at_goal entry.1 on.path_is finished) is.bound.distance in
     let gap = given_there line.gap (IsFinished entry.1 × IsUnblocked grid path) _ is.gap (finished, free) in
     record { bound = given.0; gap = line.settle - given.0; bound_given = given.1; gap_given = grind (arith, given.1); sum = omega (arith, given.2) }
 
