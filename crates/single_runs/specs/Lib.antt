@@ -4,3 +4,4 @@ pub mod Sittings
 pub mod Saved
 pub mod Audits
 pub mod Draws
+pub mod PageRuns

@@ -1,5 +1,5 @@
 //! Runs over texts, each at a desk of its own: the desk that they open, a session, what is saved of it,
-//! an audit and a picture.
+//! an audit, a picture and a page.
 #![tactic(auto)]
 
 mod auditing;
@@ -7,6 +7,7 @@ mod courses;
 mod drawing;
 mod laws;
 mod opening;
+mod paging;
 mod saving;
 mod serving;
 
@@ -15,5 +16,6 @@ pub use courses::Courses;
 pub use drawing::run_draw;
 pub use laws::saved_desks_come_back;
 pub use opening::open_desk;
+pub use paging::run_page;
 pub use saving::{save_desk, save_journal};
 pub use serving::{run_serve, serve_desk};
