@@ -109,8 +109,24 @@ def typed_maps():
         is_fault([], text, FILES[file])
 
 
+# Names that command a terminal or end a line, and how a fault shows them.
+SHOWN = [
+    (["serve", "--map", "a\nmapf_desk: b"], "can't read a?mapf_desk: b"),
+    (["audit", "--map", "m", "--scen", "\x1b[2Jc\td"], "can't read ?[2Jc d"),
+    (["check", "--map", "m", "--paths", "caf\u00e9\x7f"], "can't read caf???"),
+    (["serve", "--map", "m", "--save", "nowhere\r/j\n"], "can't write nowhere?/j?"),
+    (["host", "--map", "m", "e\x1bast", "e\x1bast"], "a planner named twice, e?ast"),
+]
+
+
+def names_are_shown_in_one_line():
+    for words, text in SHOWN:
+        is_fault(words, text)
+
+
 def tests():
     for name, words, text in FAULTS:
         yield name, lambda words=words, text=text: is_fault(words.split(), text)
     yield "map_on_standard_input", lambda: is_fault([], "map: bad size", FILES["map_size"])
     yield "typed_maps", typed_maps
+    yield "names_are_shown_in_one_line", names_are_shown_in_one_line

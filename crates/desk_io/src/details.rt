@@ -1,12 +1,15 @@
 //! What more is known of a run's fault, by the texts that it is about.
+ghost use Rattle.std.specs.Prelude.{◌≡◌, ◌≤◌, [], string_len, unwrap_or};
+ghost use Rattle.solver_check.specs.Opens.{bytes_of};
+
 use crate::faulty_paths::{cells_of, ends_of};
 use bench_reader::{MapFault, ScenFault};
 use desk_commits::{Refusal, ReplayFault};
-use journal_text::JournalFault;
+use desk_report::Spout;
 use path_files::{Form, PathsFault};
 use plan_table::Mode;
-use scene_edits::{EditFault, Thing};
-use solver_check::{CheckFault, Problem, RunFault, fault_word};
+use session_protocol::{JournalFault, entry_text, put_refusal};
+use solver_check::{CheckFault, Problem, RunFault, letter_of};
 use std::alloc::{AllocError, Global};
 
 /// The most letters that are shown of a text.
@@ -23,10 +26,25 @@ pub struct Texts<'t> {
     pub form: Option<Form>,
 }
 
+/// The text, or an empty one where there is none.
+pub fn bytes_in(text: Option<&[u8]>) -> &[u8]
+    ensures { result.now ≡ unwrap_or (bytes_of text.entry) [] }
+{
+    match text {
+        Some(bytes) => bytes,
+        None => b"",
+    }
+}
+
 /// The problem of the texts, for so many agents in that mode.
-pub fn problem_of(texts: Texts<'_>, agents: Option<u32>, mode: Mode) -> Problem<'_> {
+pub fn problem_of(texts: Texts<'_>, agents: Option<u32>, mode: Mode) -> Problem<'_>
+    ensures map { result.map.now ≡ unwrap_or (bytes_of texts.entry.map) [] }
+    ensures scen { bytes_of result.scen ≡ bytes_of texts.entry.scen }
+    ensures agents { result.agents ≡ agents }
+    ensures mode { result.mode ≡ mode }
+{
     Problem {
-        map: texts.map.unwrap_or(b""),
+        map: bytes_in(texts.map),
         scen: texts.scen,
         agents,
         mode,
@@ -125,61 +143,36 @@ fn line_of(alloc: Global, text: Option<&[u8]>, number: Option<usize>) -> Option<
     if line >= number { Some(shown) } else { None }
 }
 
-// An entry of a journal, counted from 1, and why it was refused.
+// An entry of a journal, counted from 1, and why it was refused, in the words of a session.
 fn entry_of(alloc: Global, text: Option<&[u8]>, number: usize, why: Refusal) -> Option<String> {
-    let text = text?;
-    let mut shown = refusal_text(alloc, why).ok()?;
+    let lines = entry_text(alloc, text?, number)?;
+    let shown = refused_entry(alloc, lines.as_slice(), why);
+    drop(lines);
+    shown
+}
+
+// Why the entry of those lines was refused, and the lines, each with a semicolon behind it.
+fn refused_entry(alloc: Global, lines: &[u8], why: Refusal) -> Option<String> {
+    let mut words = Spout::new(Vec::new(alloc));
+    put_refusal(&mut words, why).ok()?;
+    let words = words.into_inner();
+    let mut shown = String::new(alloc);
+    for byte in &words {
+        put_shown(&mut shown, *byte).ok()?;
+    }
     shown.push_str(": ").ok()?;
-    let mut entry: usize = 0;
-    let mut fresh = true;
-    for byte in text {
-        if fresh && *byte == b'e' {
-            entry = entry.saturating_add(1);
-        }
-        fresh = *byte == b'\n';
-        if entry == number {
-            put_shown(&mut shown, if fresh { b';' } else { *byte }).ok()?;
-        }
+    for byte in lines {
+        put_shown(&mut shown, if *byte == b'\n' { b';' } else { *byte }).ok()?;
     }
     Some(shown)
 }
 
-// One more byte of what is shown: a tab is told as a blank, and bytes that aren't letters of ASCII as
-// a question mark.
-fn put_shown(shown: &mut String, byte: u8) -> Result<(), AllocError> {
-    if shown.len() >= MOST_SHOWN {
-        return Ok(());
+// One more byte of what is shown, if there is room.
+fn put_shown(shown: &mut String, byte: u8) -> Result<(), AllocError>
+    ensures { string_len shown.old ≤ MOST_SHOWN → string_len shown.new ≤ MOST_SHOWN }
+{
+    if shown.len() < MOST_SHOWN {
+        shown.push(letter_of(byte))?;
     }
-    match byte {
-        b'\t' => shown.push(' '),
-        32..127 => shown.push(char::from(byte)),
-        _ => shown.push('?'),
-    }
-}
-
-// Why an entry is refused, in the words of a session.
-fn refusal_text(alloc: Global, why: Refusal) -> Result<String, AllocError> {
-    match why {
-        Refusal::JournalFull { limit } => format!(in alloc; "journal-full {limit}"),
-        Refusal::Ahead { now } => format!(in alloc; "ahead {now}"),
-        Refusal::NoEdits => format!(in alloc; "no-edits"),
-        Refusal::Stale { now, thing, at } => stale_text(alloc, now, thing, at),
-        Refusal::Faulty { index, why } => faulty_text(alloc, index, why),
-        Refusal::OutOfMemory => format!(in alloc; "memory"),
-    }
-}
-
-fn stale_text(alloc: Global, now: u64, thing: Thing, at: u64) -> Result<String, AllocError> {
-    match thing {
-        Thing::Agent(agent) => format!(in alloc; "stale {now} agent {} {at}", agent.number()),
-        Thing::Cell(cell) => format!(in alloc; "stale {now} cell {},{} {at}", cell.x(), cell.y()),
-        Thing::Map => format!(in alloc; "stale {now} map {at}"),
-    }
-}
-
-fn faulty_text(alloc: Global, index: usize, why: EditFault) -> Result<String, AllocError> {
-    match why {
-        EditFault::NotAStep { at } => format!(in alloc; "faulty {index} not-a-step {at}"),
-        why => format!(in alloc; "faulty {index} {}", fault_word(why)),
-    }
+    Ok(())
 }

@@ -1,4 +1,7 @@
 //! The files of a planner that comes from another process, and how far it has come.
+ghost use Rattle.std.specs.Prelude.{◌≡◌, ◌++◌, IfOk, codes, string_bytes};
+
+use solver_check::Shown;
 use std::alloc::{AllocError, Global};
 use std::sync::{Mutex, Wait};
 
@@ -19,6 +22,7 @@ pub enum Stage {
 /// the other one.
 #[derive(Drop)]
 pub struct Doors {
+    /// The planner's name, as it is shown.
     pub name: String,
     pub inward: String,
     pub outward: String,
@@ -31,9 +35,12 @@ impl Doors {
     /// # Errors
     ///
     /// Want of memory.
-    pub fn new(alloc: Global, name: &str) -> Result<Doors, AllocError> {
+    pub fn new(alloc: Global, name: &str) -> Result<Doors, AllocError>
+        ensures inward { IfOk result (λ doors. string_bytes doors.inward ≡ name.now ++ codes ".in") }
+        ensures outward { IfOk result (λ doors. string_bytes doors.outward ≡ name.now ++ codes ".out") }
+    {
         Ok(Doors {
-            name: String::from_str(alloc, name)?,
+            name: format!(in alloc; "{}", Shown(name))?,
             inward: format!(in alloc; "{name}.in")?,
             outward: format!(in alloc; "{name}.out")?,
             stage: Mutex::new(Stage::Input),

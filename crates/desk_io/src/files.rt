@@ -1,39 +1,65 @@
+//! The bytes of files.
+ghost use Rattle.std.specs.Prelude.{ℕ, List, Option, None, IfOk, option_map};
+ghost use Rattle.std.specs.Option.{option_copied};
+ghost use Rattle.desk_io.specs.Texts.{IsTold, IsText};
+
 use crate::telling::More;
 use solver_check::{Fault, MOST_BYTES, RunFault};
+use std::alloc::Global;
 use std::fs;
 use std::io::{ErrorKind, Read};
 use std::rt::Files;
 
-/// The bytes of a file.
-///
-/// # Errors
-///
-/// The file can't be opened or read, or has more than `MOST_BYTES` bytes; or want of memory.
-pub fn file_bytes<R: Files + AllocGlobal>(
-    rt: &R,
-    file: &'static str,
-    more: &mut More,
-) -> Result<Vec<u8>, Fault> {
-    let alloc = rt.alloc();
-    let opened = match fs::open(rt, file) {
-        Ok(opened) => opened,
-        Err(why) => {
-            more.reason(alloc, &why);
-            return Err(Fault::CannotRead { file });
+/// What has files, by their names.
+pub trait Folder {
+    /// The bytes of the file of that name, where they are told.
+    ghost holds: { Self → List ℕ → Option (List ℕ) };
+
+    /// The bytes of a file; more is known of why it can't be read.
+    ///
+    /// # Errors
+    ///
+    /// The file can't be opened or read, or has more than `MOST_BYTES` bytes; or want of memory.
+    fn bytes(&self, file: &'static str, more: &mut More) -> Result<Vec<u8>, Fault>
+        ensures { IfOk result (λ bytes. IsTold (holds self.now file.now) bytes.items) };
+}
+
+/// The system's files.
+pub struct System<'a, R>(pub &'a R);
+
+impl<R> Drop for System<'_, R> {
+    fn drop(self) {
+        let System(_) = self;
+    }
+}
+
+impl<R: Files + AllocGlobal> Folder for System<'_, R> {
+    ghost holds = { λ _ _. None };
+
+    fn bytes(&self, file: &'static str, more: &mut More) -> Result<Vec<u8>, Fault> {
+        let alloc = self.0.alloc();
+        let opened = match fs::open(self.0, file) {
+            Ok(opened) => opened,
+            Err(why) => {
+                more.reason(alloc, &why);
+                return Err(Fault::CannotRead { file });
+            }
+        };
+        let mut bytes = Vec::new(alloc);
+        match opened.take(MOST_BYTES + 1).read_to_end(&mut bytes) {
+            Err(why) if why.kind() == ErrorKind::OutOfMemory => {
+                Err(Fault::Run(RunFault::OutOfMemory))
+            }
+            Err(why) => {
+                more.reason(alloc, &why);
+                Err(Fault::CannotRead { file })
+            }
+            Ok(count) if count as u64 > MOST_BYTES => {
+                more.reason(alloc, &"more than 1073741824 bytes");
+                Err(Fault::CannotRead { file })
+            }
+            Ok(_) => Ok(bytes),
         }
-    };
-    let mut bytes = Vec::new(alloc);
-    match opened.take(MOST_BYTES + 1).read_to_end(&mut bytes) {
-        Err(why) if why.kind() == ErrorKind::OutOfMemory => Err(Fault::Run(RunFault::OutOfMemory)),
-        Err(why) => {
-            more.reason(alloc, &why);
-            Err(Fault::CannotRead { file })
-        }
-        Ok(count) if count as u64 > MOST_BYTES => {
-            more.reason(alloc, &"more than 1073741824 bytes");
-            Err(Fault::CannotRead { file })
-        }
-        Ok(_) => Ok(bytes),
     }
 }
 
@@ -41,15 +67,17 @@ pub fn file_bytes<R: Files + AllocGlobal>(
 ///
 /// # Errors
 ///
-/// As `file_bytes`.
-pub fn named_bytes<R: Files + AllocGlobal>(
-    rt: &R,
+/// As `Folder::bytes`.
+pub fn named_bytes<F: Folder>(
+    folder: &F,
     file: Option<&'static str>,
     more: &mut More,
-) -> Result<Option<Vec<u8>>, Fault> {
+) -> Result<Option<Vec<u8>>, Fault>
+    ensures { IfOk result (λ bytes. IsText (F.holds folder.now) (option_copied file.entry) (option_map (λ b. b.items) bytes)) }
+{
     match file {
         None => Ok(None),
-        Some(file) => match file_bytes(rt, file, more) {
+        Some(file) => match folder.bytes(file, more) {
             Ok(bytes) => Ok(Some(bytes)),
             Err(fault) => Err(fault),
         },
@@ -60,15 +88,16 @@ pub fn named_bytes<R: Files + AllocGlobal>(
 ///
 /// # Errors
 ///
-/// Those of `file_bytes`, at the first file that has one; or want of memory.
-pub fn all_bytes<R: Files + AllocGlobal>(
-    rt: &R,
+/// Those of `Folder::bytes`, at the first file that has one; or want of memory.
+pub fn all_bytes<F: Folder>(
+    alloc: Global,
+    folder: &F,
     files: &[&'static str],
     more: &mut More,
 ) -> Result<Vec<Vec<u8>>, Fault> {
-    let mut all = Vec::new(rt.alloc());
+    let mut all = Vec::new(alloc);
     for file in files {
-        let bytes = match file_bytes(rt, file, more) {
+        let bytes = match folder.bytes(file, more) {
             Ok(bytes) => bytes,
             Err(fault) => {
                 drop(all);

@@ -1,4 +1,6 @@
 //! The end of a run whose report is in a buffer.
+ghost use Rattle.std.specs.Prelude.{◌≡◌, IfErr, IfOk};
+
 use crate::details::{Detailed, Texts};
 use crate::noting::Noting;
 use crate::telling::More;
@@ -18,7 +20,10 @@ pub fn finish<T: Drop, F: Detailed + From<RunFault> + Drop, O: Write + Drop>(
     texts: Texts<'_>,
     writer: Spout<Noting<BufWriter<O>>>,
     more: &mut More,
-) -> Result<T, F> {
+) -> Result<T, F>
+    ensures ok { IfOk result (λ value. ended ≡ Ok value) }
+    ensures err { IfErr ended (λ fault. result ≡ Err fault) }
+{
     let (mut buffered, why) = writer.into_inner().into_parts();
     match ended {
         Err(fault) => {

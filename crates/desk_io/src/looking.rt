@@ -1,4 +1,6 @@
 //! A file that is to be written, looked at before.
+ghost use Rattle.std.specs.Prelude.{◌≡◌, is_ok};
+
 use crate::telling::More;
 use solver_check::Fault;
 use std::alloc::Global;
@@ -28,12 +30,9 @@ pub fn look_ahead<R: Files + AllocGlobal>(
 /// # Errors
 ///
 /// It wasn't done.
-pub fn told(
-    alloc: Global,
-    done: Done<()>,
-    file: &'static str,
-    more: &mut More,
-) -> Result<(), Fault> {
+pub fn told(alloc: Global, done: Done<()>, file: &'static str, more: &mut More) -> Result<(), Fault>
+    ensures { is_ok result ≡ is_ok done }
+{
     match done {
         Ok(()) => Ok(()),
         Err(why) => {

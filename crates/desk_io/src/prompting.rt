@@ -1,4 +1,7 @@
 //! A reader that tells a person what is to be typed.
+ghost use Rattle.std.specs.Prelude.{◌≡◌, if◌then◌else◌};
+ghost use Rattle.std.specs.Option.{option_copied};
+
 use std::io::{Read, Result};
 
 /// A reader that is lent, and what is told on standard error before it is first read, if anything.
@@ -16,7 +19,9 @@ impl<'a, R: Eprint, I: Read> Prompting<'a, R, I> {
         reader: &'a mut I,
         typed: bool,
         prompt: &'static str,
-    ) -> Prompting<'a, R, I> {
+    ) -> Prompting<'a, R, I>
+        ensures { option_copied result.prompt ≡ (if typed then Some prompt.now else None) }
+    {
         Prompting {
             rt,
             reader,
@@ -26,6 +31,8 @@ impl<'a, R: Eprint, I: Read> Prompting<'a, R, I> {
 }
 
 impl<R: Eprint, I: Read> Read for Prompting<'_, R, I> {
+    ghost remaining = { λ prompting. I.remaining prompting.reader.now };
+
     fn read(&mut self, bytes: &mut [u8]) -> Result<usize> {
         if let Some(prompt) = self.prompt.take() {
             let _told = eprintln!(self.rt; "{prompt}");

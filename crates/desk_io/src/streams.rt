@@ -1,16 +1,13 @@
 //! Standard input and output, joined: what was answered goes out before the program waits for more.
 //! The system's reason for a failure of each is kept.
-ghost use Rattle.std.specs.Prelude.{None, ⊤};
+ghost use Rattle.std.specs.Prelude.{◌≡◌, false, IfOk, None};
 
 use crate::noting::Noting;
-use desk_report::{ReadFailed, Source};
+use desk_report::{ReadFailed, Source, Tap};
 use grid_cells::OutOfMemory;
 use std::alloc::Global;
 use std::cell::RefCell;
-use std::io::{BufWriter, Error, ErrorKind, Read, Result, Write};
-
-// How many bytes are read at once, at most.
-const BUFFER: usize = 8192;
+use std::io::{BufReader, BufWriter, Error, ErrorKind, Read, Result, Write};
 
 /// Answers on their way out, in a buffer.
 #[derive(Drop)]
@@ -20,7 +17,10 @@ pub struct Outlet<W: Write + Drop> {
 }
 
 impl<W: Write + Drop> Outlet<W> {
-    pub fn new(writer: BufWriter<W>) -> Outlet<W> {
+    pub fn new(writer: BufWriter<W>) -> Outlet<W>
+        ensures writer { result.writer.writer ≡ writer }
+        ensures unread { result.unread ≡ None }
+    {
         Outlet {
             writer: Noting::new(writer),
             unread: None,
@@ -32,12 +32,16 @@ impl<W: Write + Drop> Outlet<W> {
     /// # Errors
     ///
     /// What was answered has not all gone out, for that reason.
-    pub fn send(&mut self) -> Result<()> {
+    pub fn send(&mut self) -> Result<()>
+        ensures { self.new.unread ≡ self.old.unread }
+    {
         self.writer.send()
     }
 
     /// Why the input could not be read, where it could not.
-    pub fn unread(&self) -> Option<Error> {
+    pub fn unread(&self) -> Option<Error>
+        ensures { result ≡ self.now.unread }
+    {
         self.unread
     }
 }
@@ -70,17 +74,39 @@ impl<W: Write + Drop> Write for Answers<'_, W> {
     }
 }
 
-/// The lines' end of the joined streams, with a buffer: before it reads on, it sends what was
-/// answered. A read that was interrupted is made again.
+/// The input's end of the joined streams: before it reads on, it sends what was answered.
 #[derive(Drop)]
-pub struct Lines<'a, R: Read + Drop, W: Write + Drop> {
+pub struct Asking<'a, R: Read + Drop, W: Write + Drop> {
     reader: R,
     outlet: &'a RefCell<Outlet<W>>,
-    buffer: Vec<u8>,
-    // The bytes that are still to be given stand from `next` to `end` in the buffer.
-    next: usize,
-    end: usize,
-    failed: bool,
+}
+
+impl<R: Read + Drop, W: Write + Drop> Read for Asking<'_, R, W> {
+    ghost remaining = { λ asking. R.remaining asking.reader };
+
+    fn read(&mut self, bytes: &mut [u8]) -> Result<usize> {
+        match self.outlet.try_borrow_mut() {
+            Ok(mut outlet) => outlet.send()?,
+            Err(_) => return Err(ErrorKind::Other.into()),
+        }
+        let read = self.reader.read(bytes);
+        if let Err(why) = read {
+            if why.kind() != ErrorKind::Interrupted {
+                if let Ok(mut outlet) = self.outlet.try_borrow_mut() {
+                    outlet.unread = Some(why);
+                }
+            }
+        }
+        read
+    }
+}
+
+/// The lines' end of the joined streams, with a buffer: before it reads on, it sends what was
+/// answered. A read that was interrupted is made again. It gives the bytes that the reader gives, each
+/// once and in their order.
+#[derive(Drop)]
+pub struct Lines<'a, R: Read + Drop, W: Write + Drop> {
+    tap: Tap<BufReader<Asking<'a, R, W>>>,
 }
 
 impl<'a, R: Read + Drop, W: Write + Drop> Lines<'a, R, W> {
@@ -93,78 +119,27 @@ impl<'a, R: Read + Drop, W: Write + Drop> Lines<'a, R, W> {
         alloc: Global,
         reader: R,
         outlet: &'a RefCell<Outlet<W>>,
-    ) -> std::result::Result<Lines<'a, R, W>, OutOfMemory> {
-        let Ok(buffer) = vec![in alloc; 0; BUFFER] else {
-            drop(reader);
-            return Err(OutOfMemory);
-        };
-        Ok(Lines {
-            reader,
-            outlet,
-            buffer,
-            next: 0,
-            end: 0,
-            failed: false,
-        })
-    }
-
-    // Reads on into the buffer, and answers whether that went well.
-    fn fill(&mut self) -> bool {
-        for _ in 0..u64::MAX {
-            match self.read() {
-                Ok(count) => {
-                    self.next = 0;
-                    self.end = count;
-                    return true;
-                }
-                Err(why) => {
-                    if why.kind() != ErrorKind::Interrupted {
-                        break;
-                    }
-                }
-            }
+    ) -> std::result::Result<Lines<'a, R, W>, OutOfMemory>
+        ensures left { IfOk result (λ lines. ⟦<Lines<'a, R, W> as Source>⟧.left lines ≡ R.remaining reader) }
+        ensures failed { IfOk result (λ lines. ⟦<Lines<'a, R, W> as Source>⟧.failed lines ≡ false) }
+    {
+        match BufReader::new(alloc, Asking { reader, outlet }) {
+            Ok(buffered) => Ok(Lines {
+                tap: Tap::new(buffered),
+            }),
+            Err(_) => Err(OutOfMemory),
         }
-        false
-    }
-
-    // Reads once, and answers how many bytes came.
-    fn read(&mut self) -> Result<usize> {
-        match self.outlet.try_borrow_mut() {
-            Ok(mut outlet) => outlet.send()?,
-            Err(_) => return Err(ErrorKind::Other.into()),
-        }
-        let read = self.reader.read(&mut self.buffer);
-        if let Err(why) = read {
-            if why.kind() != ErrorKind::Interrupted {
-                if let Ok(mut outlet) = self.outlet.try_borrow_mut() {
-                    outlet.unread = Some(why);
-                }
-            }
-        }
-        read
     }
 }
 
-impl<R: Read + Drop, W: Write + Drop> Source for Lines<'_, R, W> {
-    ghost left = { λ _. None };
+impl<'a, R: Read + Drop, W: Write + Drop> Source for Lines<'a, R, W> {
+    ghost left = { λ lines. ⟦<Tap<BufReader<Asking<'a, R, W>>> as Source>⟧.left lines.tap };
 
-    ghost failed = { λ lines. lines.failed };
+    ghost failed = { λ lines. ⟦<Tap<BufReader<Asking<'a, R, W>>> as Source>⟧.failed lines.tap };
 
-    ghost gives = { λ _ _ _. ⊤ };
+    ghost gives = { λ old got new. ⟦<Tap<BufReader<Asking<'a, R, W>>> as Source>⟧.gives old.tap got new.tap };
 
     fn next_byte(&mut self) -> std::result::Result<Option<u8>, ReadFailed> {
-        let failed = self.failed;
-        if self.next >= self.end && !self.fill() {
-            self.failed = true;
-            return Err(ReadFailed);
-        }
-        // (what was read says nothing of it)
-        self.failed = failed;
-        if self.next >= self.end {
-            return Ok(None);
-        }
-        let byte = self.buffer.get(self.next).copied();
-        self.next = self.next.saturating_add(1);
-        Ok(byte)
+        self.tap.next_byte()
     }
 }

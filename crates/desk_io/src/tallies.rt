@@ -1,5 +1,6 @@
 //! How the lines of a drill's scripts were answered, counted while the scripts are served.
-use solver_check::Hearing;
+use session_protocol::is_acceptance;
+use solver_check::{Hearing, Shown};
 use std::alloc::{AllocError, Global};
 use std::sync::atomic::{AtomicBool, AtomicU64, Ordering};
 
@@ -42,19 +43,10 @@ impl Tally {
         let bad = self.bad.load(Ordering::SeqCst);
         write!(
             lines,
-            "  {file}: {accepted} accepted, {refused} refused, {bad} bad\n"
+            "  {}: {accepted} accepted, {refused} refused, {bad} bad\n",
+            Shown(file)
         )
     }
-}
-
-// Whether an answer that is no refusal begins with the word.
-fn is_acceptance(word: &[u8]) -> bool {
-    word == b"version".as_slice()
-        || word == b"base".as_slice()
-        || word == b"kept".as_slice()
-        || word == b"cancelled".as_slice()
-        || word == b"distance".as_slice()
-        || word == b"solves".as_slice()
 }
 
 /// How the lines of each script were answered, by the script's number from 0.

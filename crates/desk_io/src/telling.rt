@@ -1,4 +1,7 @@
 //! What is told of a fault on standard error: its line, and what more is known.
+ghost use Rattle.std.specs.Prelude.{◌≡◌, None};
+ghost use Rattle.std.specs.Process.{exit_status};
+
 use std::alloc::Global;
 use std::fmt::Display;
 use std::process::ExitCode;
@@ -15,7 +18,9 @@ pub struct More {
 
 impl More {
     /// No more is known.
-    pub fn none() -> More {
+    pub fn none() -> More
+        ensures { result ≡ record { text = None; served = None } }
+    {
         More {
             text: None,
             served: None,
@@ -23,12 +28,16 @@ impl More {
     }
 
     /// That is known, if anything.
-    pub fn put(&mut self, text: Option<String>) {
+    pub fn put(&mut self, text: Option<String>)
+        ensures { self.new ≡ record self.old { text = text } }
+    {
         self.text = text;
     }
 
     /// That is the reason; where there is no memory for its text, no more is known.
-    pub fn reason<D: Display>(&mut self, alloc: Global, why: &D) {
+    pub fn reason<D: Display>(&mut self, alloc: Global, why: &D)
+        ensures { self.new.served ≡ self.old.served }
+    {
         self.text = match format!(in alloc; "{why}") {
             Ok(text) => Some(text),
             Err(_) => None,
@@ -36,19 +45,25 @@ impl More {
     }
 
     /// These lines are known of the scripts that were served, if any.
-    pub fn served(&mut self, lines: Option<String>) {
+    pub fn served(&mut self, lines: Option<String>)
+        ensures { self.new ≡ record self.old { served = lines } }
+    {
         self.served = lines;
     }
 }
 
 /// Tells a fault on standard error, where that takes it, and gives its status.
-pub fn tell<R: Eprint, D: Display + Drop>(rt: &R, fault: D) -> ExitCode {
+pub fn tell<R: Eprint, D: Display + Drop>(rt: &R, fault: D) -> ExitCode
+    ensures { exit_status result ≡ FAULT }
+{
     let _told = eprintln!(rt; "mapf_desk: {fault}");
     ExitCode::from(FAULT)
 }
 
 /// Tells a fault, and in a second line what more is known, where that is wanted.
-pub fn tell_more<R: Eprint, D: Display>(rt: &R, fault: &D, more: &More, verbose: bool) -> ExitCode {
+pub fn tell_more<R: Eprint, D: Display>(rt: &R, fault: &D, more: &More, verbose: bool) -> ExitCode
+    ensures { exit_status result ≡ FAULT }
+{
     let _told = eprintln!(rt; "mapf_desk: {fault}");
     if let Some(text) = &more.text {
         if verbose {

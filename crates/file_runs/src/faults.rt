@@ -1,4 +1,4 @@
-use solver_check::{CheckFault, Fault, HostFault};
+use solver_check::{CheckFault, Fault, HostFault, Shown};
 use std::fmt::{Display, Error, Formatter, Write};
 
 /// Why the program did not do what its words ask for.
@@ -20,7 +20,9 @@ impl Display for ProgramFault {
             ProgramFault::Desk(fault) => fault.fmt(f),
             ProgramFault::Check(fault) => fault.fmt(f),
             ProgramFault::Host(fault) => fault.fmt(f),
-            ProgramFault::NamedTwice { name } => write!(f, "a planner named twice, {name}"),
+            ProgramFault::NamedTwice { name } => {
+                write!(f, "a planner named twice, {}", Shown(name))
+            }
         }
     }
 }

@@ -1,10 +1,16 @@
 //! The word `drill`.
+ghost use Rattle.std.specs.Prelude.{[], IfErr, IfOk, unwrap_or};
+ghost use Rattle.shared_runs.specs.DrillFaults.{FailsDrill};
+ghost use Rattle.shared_runs.specs.Drills.{Drills, texts_of};
+ghost use Rattle.solver_check.specs.Opens.{bytes_of};
+
 use desk_cli::DrillWords;
 use desk_io::{
-    More, Noting, Tallies, Texts, all_bytes, finish, problem_of, read_files, tell_stage,
+    More, Noting, System, Tallies, Texts, all_bytes, finish, problem_of, read_files, tell_stage,
 };
-use desk_report::Spout;
+use desk_report::{Sink, Spout};
 use shared_runs::{Fault, RunFault, hear_drill};
+use std::alloc::Global;
 use std::io;
 use std::io::BufWriter;
 use std::rt::Files;
@@ -33,7 +39,7 @@ pub fn drill_files<R: Files + AllocGlobal + Print + Eprint + Threads + Wait + Sy
         Ok(named) => named,
         Err(fault) => return Err(fault),
     };
-    let scripts = match all_bytes(rt, words.scripts.as_slice(), more) {
+    let scripts = match all_bytes(rt.alloc(), &System(rt), words.scripts.as_slice(), more) {
         Ok(scripts) => scripts,
         Err(fault) => {
             drop(named);
@@ -70,10 +76,28 @@ fn drill_counted<R: AllocGlobal + Print + Threads + Wait + Sync>(
         return Err(RunFault::OutOfMemory);
     };
     let mut writer = Spout::new(Noting::new(buffered));
-    let problem = problem_of(texts, Some(words.agents), words.mode);
-    let workers = words.workers.clamp(1, 64);
-    let drilled = hear_drill(rt, alloc, problem, workers, scripts, &tallies, &mut writer);
+    let drilled = drill_onto(rt, alloc, texts, words, scripts, &tallies, &mut writer);
     let ended = finish(alloc, drilled, texts, writer, more);
     more.served(tallies.lines(alloc, words.scripts.as_slice()).ok());
     ended
+}
+
+// Runs a drill of the scripts over the scene of the texts and the words.
+fn drill_onto<R: Threads + Wait + Sync, W: Sink>(
+    rt: &R,
+    alloc: Global,
+    texts: Texts<'_>,
+    words: &DrillWords,
+    scripts: Vec<Vec<u8>>,
+    tallies: &Tallies,
+    writer: &mut W,
+) -> Result<bool, RunFault>
+    ensures drilled { IfOk result (Drills (unwrap_or (bytes_of texts.entry.map) []) (bytes_of texts.entry.scen) words.now.agents words.now.mode
+        (texts_of scripts.items) (W.held writer.old) (W.held writer.new)) }
+    ensures refused { IfErr result (FailsDrill (unwrap_or (bytes_of texts.entry.map) []) (bytes_of texts.entry.scen) words.now.agents words.now.mode
+        (texts_of scripts.items) (W.held writer.old) (W.held writer.new)) }
+{
+    let problem = problem_of(texts, Some(words.agents), words.mode);
+    let workers = words.workers.clamp(1, 64);
+    hear_drill(rt, alloc, problem, workers, scripts, tallies, writer)
 }
