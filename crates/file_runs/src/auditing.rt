@@ -1,9 +1,14 @@
 //! The word `audit`.
+ghost use Rattle.std.specs.Prelude.{[], IfErr, OnOk, unwrap_or};
+ghost use Rattle.single_runs.specs.Audits.{Audits, FailsAudit};
+ghost use Rattle.solver_check.specs.Opens.{bytes_of};
+
 use desk_cli::AuditWords;
-use desk_io::{More, Noting, Texts, finish, read_files, tell_stage};
-use desk_report::Spout;
+use desk_io::{More, Noting, Texts, bytes_in, finish, read_files, tell_stage};
+use desk_report::{Sink, Spout};
 use single_runs::run_audit;
 use solver_check::{Fault, RunFault};
+use std::alloc::Global;
 use std::io;
 use std::io::BufWriter;
 use std::rt::Files;
@@ -51,18 +56,33 @@ fn audit_texts<R: AllocGlobal + Print + Eprint + Threads + Wait>(
         return Err(RunFault::OutOfMemory);
     };
     let mut writer = Spout::new(Noting::new(buffered));
-    let workers = words.workers.clamp(1, 64);
     tell_stage(rt, stages, "opening the desk, and auditing it");
-    let ended = run_audit(
+    let ended = audit_onto(rt, alloc, texts, words, &mut writer);
+    finish(alloc, ended, texts, writer, more)
+}
+
+// Writes the report of the desk of the texts and the words, made from scratch.
+fn audit_onto<T: Threads + Wait, W: Sink>(
+    rt: &T,
+    alloc: Global,
+    texts: Texts<'_>,
+    words: &AuditWords,
+    writer: &mut W,
+) -> Result<(), RunFault>
+    ensures audited { OnOk result (Audits (unwrap_or (bytes_of texts.entry.map) []) (bytes_of texts.entry.scen) words.now.agents words.now.mode
+        (bytes_of texts.entry.journal) (W.held writer.old) (W.held writer.new)) }
+    ensures refused { IfErr result (FailsAudit (unwrap_or (bytes_of texts.entry.map) []) (bytes_of texts.entry.scen) words.now.agents words.now.mode
+        (bytes_of texts.entry.journal) (W.held writer.old) (W.held writer.new)) }
+{
+    run_audit(
         rt,
         alloc,
-        texts.map.unwrap_or(b""),
+        bytes_in(texts.map),
         texts.scen,
         words.agents,
         words.mode,
         texts.journal,
-        workers,
-        &mut writer,
-    );
-    finish(alloc, ended, texts, writer, more)
+        words.workers.clamp(1, 64),
+        writer,
+    )
 }

@@ -1,9 +1,14 @@
 //! The word `check`.
+ghost use Rattle.std.specs.Prelude.{[], IfErr, IfOk, unwrap_or};
+ghost use Rattle.solver_check.specs.Checks.{Checks, IsCheckFault};
+ghost use Rattle.solver_check.specs.Opens.{bytes_of};
+
 use crate::faults::ProgramFault;
 use desk_cli::CheckWords;
-use desk_io::{More, Noting, Texts, finish, problem_of, read_files, tell_stage};
-use desk_report::Spout;
+use desk_io::{More, Noting, Texts, bytes_in, finish, problem_of, read_files, tell_stage};
+use desk_report::{Sink, Spout};
 use solver_check::{CheckFault, Fault, run_check};
+use std::alloc::Global;
 use std::io;
 use std::io::BufWriter;
 use std::rt::Files;
@@ -55,16 +60,32 @@ fn check_texts<R: AllocGlobal + Print + Threads + Wait>(
         return Err(CheckFault::OutOfMemory);
     };
     let mut writer = Spout::new(Noting::new(buffered));
-    let ended = run_check(
+    let ended = check_onto(rt, alloc, texts, words, &mut writer);
+    finish(alloc, ended, texts, writer, more)
+}
+
+// Writes and answers whether the paths of the texts solve the problem of the texts and the words.
+fn check_onto<T: Threads + Wait, W: Sink>(
+    rt: &T,
+    alloc: Global,
+    texts: Texts<'_>,
+    words: &CheckWords,
+    writer: &mut W,
+) -> Result<bool, CheckFault>
+    ensures checked { IfOk result (Checks (unwrap_or (bytes_of texts.entry.map) []) (bytes_of texts.entry.scen) words.now.agents words.now.mode
+        (unwrap_or (bytes_of texts.entry.journal) []) texts.entry.form words.now.kinds words.now.quiet (W.held writer.old) (W.held writer.new)) }
+    ensures refused { IfErr result (IsCheckFault (unwrap_or (bytes_of texts.entry.map) []) (bytes_of texts.entry.scen) words.now.agents words.now.mode
+        (unwrap_or (bytes_of texts.entry.journal) []) texts.entry.form) }
+{
+    run_check(
         rt,
         alloc,
         problem_of(texts, words.agents, words.mode),
-        texts.journal.unwrap_or(b""),
+        bytes_in(texts.journal),
         texts.form,
         words.kinds,
         words.quiet,
         words.workers.clamp(1, 64),
-        &mut writer,
-    );
-    finish(alloc, ended, texts, writer, more)
+        writer,
+    )
 }

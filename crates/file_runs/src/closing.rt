@@ -1,4 +1,7 @@
 //! What is done at a session's end.
+ghost use Rattle.std.specs.Prelude.{◌≡◌, IsOk, MatchOption, None, OnOk};
+ghost use Rattle.file_runs.specs.Ends.{fault_of, last_fault};
+
 use crate::saving::save_named;
 use desk_core::Desk;
 use desk_io::{Detailed, More, Texts, tell_more};
@@ -9,7 +12,9 @@ use std::io::{Error, Result as Done};
 use std::rt::Files;
 
 /// The fault of a session that ended so.
-pub(crate) fn fault_of(ended: Result<u32, ServeFault>) -> Option<RunFault> {
+pub(crate) fn fault_of(ended: Result<u32, ServeFault>) -> Option<RunFault>
+    ensures { result ≡ fault_of ended }
+{
     match ended {
         Ok(_) => None,
         Err(fault) => Some(RunFault::from(fault)),
@@ -17,7 +22,9 @@ pub(crate) fn fault_of(ended: Result<u32, ServeFault>) -> Option<RunFault> {
 }
 
 /// The session's fault, where it has one.
-pub(crate) fn outcome_of(fault: Option<RunFault>) -> Result<(), Fault> {
+pub(crate) fn outcome_of(fault: Option<RunFault>) -> Result<(), Fault>
+    ensures { MatchOption fault (IsOk result) (λ why. result ≡ Err (Fault.Run why)) }
+{
     match fault {
         None => Ok(()),
         Some(fault) => Err(Fault::Run(fault)),
@@ -32,7 +39,9 @@ pub(crate) fn note_end(
     last: (Done<()>, Option<Error>),
     texts: Texts<'_>,
     more: &mut More,
-) -> Option<RunFault> {
+) -> Option<RunFault>
+    ensures { result ≡ last_fault fault last.0 }
+{
     let (fault, why) = with_reason(fault, last);
     match (fault, why) {
         (None, _) => (),
@@ -46,7 +55,9 @@ pub(crate) fn note_end(
 fn with_reason(
     fault: Option<RunFault>,
     last: (Done<()>, Option<Error>),
-) -> (Option<RunFault>, Option<Error>) {
+) -> (Option<RunFault>, Option<Error>)
+    ensures { result.0 ≡ last_fault fault last.0 }
+{
     let (sent, unread) = last;
     if let Err(why) = sent {
         return (Some(RunFault::Serve(ServeFault::WriteFailed)), Some(why));
@@ -69,7 +80,9 @@ pub(crate) fn end_desk<R: Files + AllocGlobal + Eprint>(
     file: Option<&'static str>,
     more: &mut More,
     verbose: bool,
-) -> Result<(), Fault> {
+) -> Result<(), Fault>
+    ensures { OnOk result (fault ≡ None) }
+{
     let mut unsaved = More::none();
     let saved = save_named(rt, &desk, file, &mut unsaved);
     drop(desk);

@@ -1,12 +1,18 @@
 //! The word `draw`.
+ghost use Rattle.std.specs.Prelude.{◌≡◌, [], IfErr, OnOk, unwrap_or};
+ghost use Rattle.single_runs.specs.Draws.{Draws, FailsDraw};
+ghost use Rattle.solver_check.specs.Opens.{bytes_of};
+ghost use Rattle.file_runs.specs.Words.{courses_of};
+
 use crate::faults::ProgramFault;
 use desk_cli::DrawWords;
 use desk_io::{More, Noting, Texts, finish, problem_of, read_files, tell_stage};
 use desk_pictures::Frame;
-use desk_report::Spout;
+use desk_report::{Sink, Spout};
 use grid_cells::Step;
 use single_runs::{Courses, run_draw};
 use solver_check::{CheckFault, Fault};
+use std::alloc::Global;
 use std::io;
 use std::io::BufWriter;
 use std::rt::Files;
@@ -17,7 +23,9 @@ use std::thread::Threads;
 const WORKERS: u32 = 4;
 
 // The text that tells where agents go, by the word that names its file.
-fn courses_of<'t>(words: &DrawWords, text: Option<&'t [u8]>) -> Courses<'t> {
+fn courses_of<'t>(words: &DrawWords, text: Option<&'t [u8]>) -> Courses<'t>
+    ensures { result ≡ courses_of words.now text.entry }
+{
     match text {
         Some(paths) if words.paths.is_some() => Courses::Solver(paths),
         journal => Courses::Journal(journal),
@@ -62,16 +70,40 @@ fn draw_texts<R: AllocGlobal + Print + Threads + Wait>(
     more: &mut More,
 ) -> Result<(), CheckFault> {
     let alloc = rt.alloc();
-    let frame = Frame {
-        at: words.at.map(Step::new),
-        shown: words.shown,
-    };
     let Ok(buffered) = BufWriter::new(alloc, io::writer(rt)) else {
         return Err(CheckFault::OutOfMemory);
     };
     let mut writer = Spout::new(Noting::new(buffered));
+    let ended = draw_onto(rt, alloc, texts, words, &mut writer);
+    finish(alloc, ended, texts, writer, more)
+}
+
+// Writes the picture of the scene of the texts and the words.
+fn draw_onto<T: Threads + Wait, W: Sink>(
+    rt: &T,
+    alloc: Global,
+    texts: Texts<'_>,
+    words: &DrawWords,
+    writer: &mut W,
+) -> Result<(), CheckFault>
+    ensures drawn { OnOk result (Draws (unwrap_or (bytes_of texts.entry.map) []) (bytes_of texts.entry.scen) words.now.agents words.now.mode
+        (courses_of words.now texts.entry.journal) words.now.at (W.held writer.old) (W.held writer.new)) }
+    ensures refused { IfErr result (FailsDraw (unwrap_or (bytes_of texts.entry.map) []) (bytes_of texts.entry.scen) words.now.agents words.now.mode
+        (courses_of words.now texts.entry.journal)) }
+{
+    let frame = frame_of(words);
     let problem = problem_of(texts, words.agents, words.mode);
     let courses = courses_of(words, texts.journal);
-    let ended = run_draw(rt, alloc, problem, courses, &frame, WORKERS, &mut writer);
-    finish(alloc, ended, texts, writer, more)
+    run_draw(rt, alloc, problem, courses, &frame, WORKERS, writer)
+}
+
+// The time of the picture, and the agents in it.
+fn frame_of(words: &DrawWords) -> Frame
+    ensures at { result.at ≡ words.now.at }
+    ensures shown { result.shown ≡ words.now.shown }
+{
+    Frame {
+        at: words.at.map(Step::new),
+        shown: words.shown,
+    }
 }

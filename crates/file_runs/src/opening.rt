@@ -1,21 +1,48 @@
 //! The desk that planners are to share.
+ghost use Rattle.std.specs.Prelude.{◌≡◌, [], IfErr, IfOk, max, min, unwrap_or};
+ghost use Rattle.std.specs.Option.{option_copied};
+ghost use Rattle.file_runs.specs.Names.{first_repeated, is_among};
+ghost use Rattle.single_runs.specs.Opened.{IsDeskFault, OpensDesk};
+ghost use Rattle.solver_check.specs.Opens.{bytes_of};
+ghost use Rattle.desk_commits.specs.declared.limits.TheConstants.{MOST_ENTRIES};
+
 use crate::faults::ProgramFault;
 use crate::serving::limit_of;
-use desk_cli::HostWords;
+use desk_cli::{HostWords, ServeWords};
 use desk_core::Desk;
-use desk_io::{Detailed, More, problem_of, read_named};
+use desk_io::{Detailed, More, Texts, problem_of, read_named};
 use single_runs::open_desk;
-use solver_check::Fault;
+use solver_check::{Fault, RunFault};
+use std::alloc::Global;
 use std::rt::Files;
 
-// The planner that is named twice, where one is.
-fn named_twice(names: &[&'static str]) -> Option<&'static str> {
+fn is_among(name: &str, names: &[&'static str]) -> bool
+    ensures { result ≡ is_among name.now names.now }
+{
+    names.iter().any(|other| *other == name)
+}
+
+// The first planner whose name another has before it, where there is one.
+fn named_twice(names: &[&'static str]) -> Option<&'static str>
+    ensures { option_copied result ≡ first_repeated [] names.now }
+{
     for (place, name) in names.iter().enumerate() {
-        if names.iter().take(place).any(|other| other == name) {
+        if is_among(name, &names[..place]) {
             return Some(name);
         }
     }
     None
+}
+
+// The desk of the texts and the words.
+fn open_texts(alloc: Global, texts: Texts<'_>, words: &ServeWords) -> Result<Desk, RunFault>
+    ensures opened { IfOk result (OpensDesk (unwrap_or (bytes_of texts.entry.map) []) (bytes_of texts.entry.scen) words.now.agents words.now.mode
+        (max 1 (min words.now.limit MOST_ENTRIES)) (bytes_of texts.entry.journal)) }
+    ensures refused { IfErr result (IsDeskFault (unwrap_or (bytes_of texts.entry.map) []) (bytes_of texts.entry.scen) words.now.agents words.now.mode
+        (max 1 (min words.now.limit MOST_ENTRIES)) (bytes_of texts.entry.journal)) }
+{
+    let problem = problem_of(texts, Some(words.agents), words.mode);
+    open_desk(alloc, problem, limit_of(words), texts.journal)
 }
 
 /// The desk of the files that the words name, which is to be shared by the planners of the words.
@@ -37,12 +64,7 @@ pub fn open_named<R: Files + AllocGlobal>(
         return Err(ProgramFault::NamedTwice { name });
     }
     let texts = named.texts();
-    let opened = open_desk(
-        rt.alloc(),
-        problem_of(texts, Some(words.desk.agents), words.desk.mode),
-        limit_of(&words.desk),
-        texts.journal,
-    );
+    let opened = open_texts(rt.alloc(), texts, &words.desk);
     if let Err(fault) = &opened {
         more.put(fault.more(rt.alloc(), texts));
     }

@@ -1,4 +1,9 @@
 //! The word `serve`.
+ghost use Rattle.std.specs.Prelude.{◌≡◌, IfOk, max, min};
+ghost use Rattle.desk_commits.specs.declared.limits.TheConstants.{MOST_ENTRIES};
+ghost use Rattle.solver_check.specs.Opens.{bytes_of};
+ghost use Rattle.file_runs.specs.Words.{SitsFrom};
+
 use crate::closing::{end_desk, fault_of, note_end, outcome_of};
 use desk_cli::ServeWords;
 use desk_core::{Desk, Limit, MOST_ENTRIES};
@@ -85,7 +90,9 @@ fn serve_buffered<R: Files + AllocGlobal + Eprint, I: Read + Drop, O: Write + Dr
 }
 
 // The journal's limit, which the words' parser has held to its range.
-pub(crate) fn limit_of(words: &ServeWords) -> Limit {
+pub(crate) fn limit_of(words: &ServeWords) -> Limit
+    ensures { result ≡ max 1 (min words.now.limit MOST_ENTRIES) }
+{
     match Limit::new(words.limit.clamp(1, MOST_ENTRIES)) {
         Some(limit) => limit,
         None => unreachable!(),
@@ -99,7 +106,10 @@ fn serve_lines<I: Read + Drop, O: Write + Drop>(
     words: &ServeWords,
     input: I,
     outlet: &RefCell<Outlet<O>>,
-) -> Result<(Desk, Result<u32, ServeFault>), RunFault> {
+) -> Result<(Desk, Result<u32, ServeFault>), RunFault>
+    ensures { IfOk result (λ sat. SitsFrom (bytes_of texts.entry.map) (bytes_of texts.entry.scen) words.now.agents words.now.mode
+        (max 1 (min words.now.limit MOST_ENTRIES)) (bytes_of texts.entry.journal) (I.remaining input) sat) }
+{
     let Ok(mut reader) = Lines::new(alloc, input, outlet) else {
         return Err(RunFault::OutOfMemory);
     };

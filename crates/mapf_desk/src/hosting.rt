@@ -1,11 +1,16 @@
 //! The word `host`.
-use crate::{DIFFERS, print_line};
+ghost use Rattle.std.specs.Prelude.{◌≡◌, ◌++◌, ◌||◌, IfOk, codes, is_err};
+ghost use Rattle.std.specs.List.{list_any};
+ghost use Rattle.shared_runs.specs.Drills.{same_line};
+ghost use Rattle.mapf_desk.specs.Statuses.{host_end};
+
+use crate::print_line;
+use crate::statuses::{RunEnd, answered};
 use desk_cli::HostWords;
 use desk_core::Desk;
-use desk_io::{FAULT, More, Pipes};
+use desk_io::{More, Pipes};
 use file_runs::{ProgramFault, open_named, save_named};
-use shared_runs::{Fault, HostEnd, HostFault, RunFault, host_planners};
-use std::process::ExitCode;
+use shared_runs::{Fault, HostEnd, HostFault, Outcome, RunFault, host_planners};
 use std::rt::Files;
 use std::sync::Wait;
 use std::thread;
@@ -24,7 +29,7 @@ pub fn host_files<R: Files + AllocGlobal + Print + Threads + Wait + Sync>(
     words: &HostWords,
     stages: bool,
     more: &mut More,
-) -> Result<ExitCode, ProgramFault> {
+) -> Result<RunEnd, ProgramFault> {
     let desk = match open_named(rt, words, more) {
         Ok(desk) => desk,
         Err(fault) => return Err(fault),
@@ -49,7 +54,10 @@ fn end_hosted<R: Files + AllocGlobal + Print>(
     end: &HostEnd,
     words: &HostWords,
     more: &mut More,
-) -> Result<ExitCode, ProgramFault> {
+) -> Result<RunEnd, ProgramFault>
+    ensures { IfOk result (λ run. IfOk end.now.same (λ same.
+        run ≡ host_end (is_err end.now.operator || list_any (λ ended. is_err ended) end.now.planners.items) same)) }
+{
     match save_named(rt, &end.desk, words.desk.save, more) {
         Ok(()) => {}
         Err(fault) => return Err(ProgramFault::Desk(fault)),
@@ -57,25 +65,47 @@ fn end_hosted<R: Files + AllocGlobal + Print>(
     let Ok(same) = end.same else {
         return Err(out_of_memory());
     };
-    let line = if same { "audit same" } else { "audit differs" };
-    match print_line(rt, line, more) {
-        Ok(()) => Ok(status_of(end, same)),
+    match print_line(rt, audit_text(same), more) {
+        Ok(()) => Ok(end_of(end, same)),
         Err(fault) => Err(fault),
     }
 }
 
-fn out_of_memory() -> ProgramFault {
+// Whether the audit's report is that of the desk, as it is told.
+fn audit_text(same: bool) -> &'static str
+    ensures { result.now ++ codes "\n" ≡ same_line same }
+{
+    if same { "audit same" } else { "audit differs" }
+}
+
+fn out_of_memory() -> ProgramFault
+    ensures { result ≡ ProgramFault.Desk (Fault.Run RunFault.OutOfMemory) }
+{
     ProgramFault::Desk(Fault::Run(RunFault::OutOfMemory))
 }
 
-// The status of a desk that was hosted, whose audit is the same or not.
-fn status_of(end: &HostEnd, same: bool) -> ExitCode {
-    if end.operator.is_err() || end.planners.iter().any(|ended| ended.is_err()) {
-        ExitCode::from(FAULT)
-    } else if same {
-        ExitCode::SUCCESS
+// Whether a session had a fault.
+fn any_fault(sessions: &[Outcome]) -> bool
+    ensures { result ≡ list_any (λ ended. is_err ended) sessions.now }
+{
+    sessions.iter().any(|ended| ended.is_err())
+}
+
+// Whether the operator's session or a planner's had a fault.
+fn has_fault(end: &HostEnd) -> bool
+    ensures { result ≡ (is_err end.now.operator || list_any (λ ended. is_err ended) end.now.planners.items) }
+{
+    end.operator.is_err() || any_fault(end.planners.as_slice())
+}
+
+// What hosting a desk comes to, whose audit is the same or not.
+fn end_of(end: &HostEnd, same: bool) -> RunEnd
+    ensures { result ≡ host_end (is_err end.now.operator || list_any (λ ended. is_err ended) end.now.planners.items) same }
+{
+    if has_fault(end) {
+        RunEnd::Faulty
     } else {
-        ExitCode::from(DIFFERS)
+        answered(same)
     }
 }
 

@@ -2,8 +2,13 @@
 //! drills planners that share it, checks the paths that a solver wrote, and draws pictures.
 #![tactic(auto)]
 
+ghost use Rattle.std.specs.Prelude.{◌≡◌, ◌≢◌, ◌⊎◌, IfErr, IfOk};
+ghost use Rattle.std.specs.Process.{exit_status};
+ghost use Rattle.mapf_desk.specs.Questions.{IsQuestion};
+
 mod drilling;
 mod hosting;
+mod statuses;
 
 use desk_cli::{Asked, VERSION, Words, read_words};
 use desk_io::{FAULT, More, tell, tell_more, tell_served};
@@ -11,18 +16,13 @@ use drilling::drill_files;
 use file_runs::{ProgramFault, audit_files, check_files, draw_files, serve_streams};
 use hosting::host_files;
 use shared_runs::{Fault, RunFault};
+use statuses::{RunEnd, answered, status_of};
 use std::env;
 use std::io::{Error, ErrorKind, IsTerminal};
 use std::process::ExitCode;
 use std::rt::Files;
 use std::sync::Wait;
 use std::thread::Threads;
-
-/// The status where the reports of a desk and of its audit differ.
-pub const DIFFERS: u8 = 1;
-
-/// The status of paths that don't solve the problem.
-const UNSOLVED: u8 = 1;
 
 // Does what the words ask for. Where it is wanted, stages are told.
 fn obey<R: Files + AllocGlobal + Print + Eprint + Input + Threads + Wait + Sync>(
@@ -32,35 +32,35 @@ fn obey<R: Files + AllocGlobal + Print + Eprint + Input + Threads + Wait + Sync>
     more: &mut More,
     verbose: bool,
     stages: bool,
-) -> Result<ExitCode, ProgramFault> {
+) -> Result<RunEnd, ProgramFault>
+    ensures { IfOk result (λ end. end ≢ RunEnd.Yes → IsQuestion words.now) }
+{
     match words {
         Words::Version => match print_line(rt, VERSION, more) {
-            Ok(()) => Ok(ExitCode::SUCCESS),
+            Ok(()) => Ok(RunEnd::Yes),
             Err(fault) => Err(fault),
         },
         Words::Serve(serve) => {
             match serve_streams(rt, serve, runtime.stdin().is_terminal(), more, verbose) {
-                Ok(()) => Ok(ExitCode::SUCCESS),
+                Ok(()) => Ok(RunEnd::Yes),
                 Err(fault) => Err(ProgramFault::Desk(fault)),
             }
         }
         Words::Audit(audit) => match audit_files(rt, audit, stages, more) {
-            Ok(()) => Ok(ExitCode::SUCCESS),
+            Ok(()) => Ok(RunEnd::Yes),
             Err(fault) => Err(ProgramFault::Desk(fault)),
         },
         Words::Drill(drill) => match drill_files(rt, drill, stages, more, verbose) {
-            Ok(true) => Ok(ExitCode::SUCCESS),
-            Ok(false) => Ok(ExitCode::from(DIFFERS)),
+            Ok(same) => Ok(answered(same)),
             Err(fault) => Err(ProgramFault::Desk(fault)),
         },
         Words::Host(host) => host_files(rt, runtime, host, stages || verbose, more),
         Words::Check(check) => match check_files(rt, check, stages, more) {
-            Ok(true) => Ok(ExitCode::SUCCESS),
-            Ok(false) => Ok(ExitCode::from(UNSOLVED)),
+            Ok(solved) => Ok(answered(solved)),
             Err(fault) => Err(fault),
         },
         Words::Draw(draw) => match draw_files(rt, draw, stages, more) {
-            Ok(()) => Ok(ExitCode::SUCCESS),
+            Ok(()) => Ok(RunEnd::Yes),
             Err(fault) => Err(fault),
         },
     }
@@ -71,7 +71,9 @@ fn print_line<R: AllocGlobal + Print>(
     rt: &R,
     line: &str,
     more: &mut More,
-) -> Result<(), ProgramFault> {
+) -> Result<(), ProgramFault>
+    ensures { IfErr result (λ fault. fault ≡ ProgramFault.Desk (Fault.Run RunFault.WriteFailed)) }
+{
     match println!(rt; "{line}") {
         Ok(()) => Ok(()),
         Err(why) => {
@@ -82,19 +84,23 @@ fn print_line<R: AllocGlobal + Print>(
 }
 
 // Prints the words' own text: help on standard output, a mistake on standard error.
-fn tell_words<R: Print + Eprint>(rt: &R, error: clap::Error) -> ExitCode {
+fn tell_words<R: Print + Eprint>(rt: &R, error: clap::Error) -> ExitCode
+    ensures { (exit_status result ≡ 0) ⊎ (exit_status result ≡ FAULT) }
+{
     if matches!(error.kind(), clap::error::ErrorKind::OutOfMemory) {
         return tell(rt, RunFault::OutOfMemory);
     }
     match error.print(rt) {
         Err(_) => tell(rt, RunFault::WriteFailed),
         Ok(()) if error.use_stderr() => ExitCode::from(FAULT),
-        Ok(()) => ExitCode::SUCCESS,
+        Ok(()) => status_of(RunEnd::Yes),
     }
 }
 
 // Tells why the words can't be had.
-fn tell_unread<R: Eprint>(rt: &R, why: Error) -> ExitCode {
+fn tell_unread<R: Eprint>(rt: &R, why: Error) -> ExitCode
+    ensures { exit_status result ≡ FAULT }
+{
     match why.kind() {
         ErrorKind::InvalidData => tell(rt, "words that aren't text"),
         _ => tell(rt, RunFault::OutOfMemory),
@@ -124,7 +130,7 @@ fn main(rt: HostRuntime) -> ExitCode {
         verbose,
         rt.stderr().is_terminal(),
     ) {
-        Ok(status) => status,
+        Ok(end) => status_of(end),
         Err(fault) => tell_more(&rt, &fault, &more, verbose),
     };
     tell_served(&rt, &more);
