@@ -29,7 +29,7 @@ pub use details::{Detailed, Texts, bytes_in, problem_of};
 pub use doors::{Doors, Stage};
 pub use files::{Folder, System, all_bytes, named_bytes};
 pub use finishing::finish;
-pub use looking::{folder_of, look_ahead, told};
+pub use looking::{HeldFile, hold_named, release};
 pub use named::{Named, read_files, read_from, read_named};
 pub use noting::Noting;
 pub use patience::Patient;

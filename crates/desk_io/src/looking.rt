@@ -1,55 +1,73 @@
-//! A file that is to be written, looked at before.
-ghost use Rattle.std.specs.Prelude.{◌≡◌, is_ok};
-
+//! A file that is to be written, looked at and held before.
 use crate::telling::More;
-use solver_check::Fault;
-use std::alloc::Global;
+use atomic_save::{HoldError, NamedFile, SystemFile, SystemTemporary, hold};
+use solver_check::{Fault, RunFault};
 use std::fs;
+use std::fs::File;
 use std::io::{Error, ErrorKind, Read, Result as Done};
 use std::rt::Files;
+use std::time::Clock;
 
 // How each journal begins.
 const HEAD: &[u8; 8] = b"journal ";
 
-/// Looks whether a desk's journal can be saved in the file: its folder is there, and the file isn't, or
-/// is a journal, or empty.
-///
-/// # Errors
-///
-/// It can't be, and why.
-pub fn look_ahead<R: Files + AllocGlobal>(
-    rt: &R,
-    file: &'static str,
-    more: &mut More,
-) -> Result<(), Fault> {
-    told(rt.alloc(), is_ready(rt, file), file, more)
+/// A file that a session's journal is to be saved in. No other session saves there until this one has,
+/// or lets it go.
+#[derive(Drop)]
+pub struct HeldFile<R: Files<File = File> + AllocGlobal + Drop> {
+    pub file: &'static str,
+    pub named: SystemFile<R>,
+    pub temporary: SystemTemporary,
 }
 
-/// Whether something was done with the file that is to be written; more is known of why it wasn't.
+/// Releases a file, if one is held: it stays as it is.
+pub fn release<R: Files<File = File> + AllocGlobal + Drop>(held: Option<HeldFile<R>>) {
+    if let Some(held) = held {
+        let HeldFile {
+            file: _,
+            mut named,
+            temporary,
+        } = held;
+        named.remove(temporary);
+    }
+}
+
+/// Holds the file that a desk's journal is to be saved in, where one is named: it isn't there, or is a
+/// journal, or empty, and can be replaced.
 ///
 /// # Errors
 ///
-/// It wasn't done.
-pub fn told(alloc: Global, done: Done<()>, file: &'static str, more: &mut More) -> Result<(), Fault>
-    ensures { is_ok result ≡ is_ok done }
-{
-    match done {
-        Ok(()) => Ok(()),
-        Err(why) => {
-            more.reason(alloc, &why);
+/// Another session holds it, or it can't be saved, and why; or want of memory.
+pub fn hold_named<R: Files<File = File> + AllocGlobal + Clock + Clone + Drop>(
+    rt: &R,
+    file: Option<&'static str>,
+    more: &mut More,
+) -> Result<Option<HeldFile<R>>, Fault> {
+    let Some(file) = file else {
+        return Ok(None);
+    };
+    let held = match is_ready(rt, file) {
+        Ok(()) => hold(rt, file),
+        Err(why) => Err(HoldError::Refused(why)),
+    };
+    match held {
+        Ok((named, temporary)) => Ok(Some(HeldFile {
+            file,
+            named,
+            temporary,
+        })),
+        Err(HoldError::InUse) => Err(Fault::InUse { file }),
+        Err(HoldError::Refused(why)) if why.kind() == ErrorKind::OutOfMemory => {
+            Err(Fault::Run(RunFault::OutOfMemory))
+        }
+        Err(HoldError::Refused(why)) => {
+            more.reason(rt.alloc(), &why);
             Err(Fault::CannotWrite { file })
         }
     }
 }
 
-/// The folder that a file is in, with the slash behind it: so a file isn't opened in its place.
-pub fn folder_of(file: &str) -> &str {
-    match file.rfind('/') {
-        Some(end) => file.get(..=end).unwrap_or("."),
-        None => ".",
-    }
-}
-
+// Looks whether the file isn't there, or is a journal, or empty.
 fn is_ready<R: Files>(rt: &R, file: &str) -> Done<()> {
     if let Ok(there) = fs::metadata(rt, file) {
         if !there.is_file() {
@@ -59,7 +77,6 @@ fn is_ready<R: Files>(rt: &R, file: &str) -> Done<()> {
             begins_a_journal(rt, file)?;
         }
     }
-    let _folder = fs::open(rt, folder_of(file))?;
     Ok(())
 }
 

@@ -6,11 +6,13 @@ ghost use Rattle.desk_io.specs.Texts.{AreTexts};
 
 use crate::details::Texts;
 use crate::files::{Folder, System, named_bytes};
-use crate::looking::look_ahead;
+use crate::looking::{HeldFile, hold_named, release};
 use crate::telling::More;
 use desk_cli::ServeWords;
 use solver_check::Fault;
+use std::fs::File;
 use std::rt::Files;
+use std::time::Clock;
 
 /// The bytes of the files that the words name.
 #[derive(Drop)]
@@ -98,32 +100,61 @@ pub fn read_from<F: Folder>(
     Ok(Named { map, scen, journal })
 }
 
-/// Reads the files of `serve`, and looks whether the one that is to be saved can be written.
+/// Holds the file that the words ask to save in, before the journal is read, which may be the same;
+/// and reads the files of `serve`.
 ///
 /// # Errors
 ///
-/// What the words lack, or the first file that can't be read or written.
-pub fn read_named<R: Files + AllocGlobal>(
+/// What the words lack, or the first file that can't be read; then that of `hold_named`.
+pub fn read_named<R: Files<File = File> + AllocGlobal + Clock + Clone + Drop>(
     rt: &R,
     words: &ServeWords,
     more: &mut More,
-) -> Result<Named, Fault> {
+) -> Result<(Named, Option<HeldFile<R>>), Fault> {
     if words.agents > 0 && words.scen.is_none() {
         return Err(Fault::AgentsWithoutScen);
     }
-    let named = match read_files(rt, words.map, words.scen, words.journal, more) {
-        Ok(named) => named,
-        Err(fault) => return Err(fault),
-    };
-    let ready = match words.save {
-        Some(file) => look_ahead(rt, file, more),
-        None => Ok(()),
-    };
-    match ready {
-        Ok(()) => Ok(named),
+    let mut unheld = More::none();
+    match hold_named(rt, words.save, &mut unheld) {
+        Ok(held) => read_held(rt, words, held, more),
+        Err(fault) => Err(first_fault(rt, words, fault, unheld, more)),
+    }
+}
+
+// Reads the files of `serve`, and lets the one that is held go where one can't be read.
+fn read_held<R: Files<File = File> + AllocGlobal + Drop>(
+    rt: &R,
+    words: &ServeWords,
+    held: Option<HeldFile<R>>,
+    more: &mut More,
+) -> Result<(Named, Option<HeldFile<R>>), Fault> {
+    match read_files(rt, words.map, words.scen, words.journal, more) {
+        Ok(named) => Ok((named, held)),
         Err(fault) => {
-            drop(named);
+            release(held);
             Err(fault)
+        }
+    }
+}
+
+// The fault of the first file of `serve` that can't be read, or else that of the one that can't be held.
+fn first_fault<R: Files + AllocGlobal>(
+    rt: &R,
+    words: &ServeWords,
+    fault: Fault,
+    unheld: More,
+    more: &mut More,
+) -> Fault {
+    match read_files(rt, words.map, words.scen, words.journal, more) {
+        Ok(named) => {
+            drop(named);
+            *more = unheld;
+            fault
+        }
+        Err(earlier) => {
+            drop(unheld);
+            drop(fault);
+            earlier
         }
     }
 }

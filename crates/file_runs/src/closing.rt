@@ -2,12 +2,13 @@
 ghost use Rattle.std.specs.Prelude.{◌≡◌, IsOk, MatchOption, None, OnOk};
 ghost use Rattle.file_runs.specs.Ends.{fault_of, last_fault};
 
-use crate::saving::save_named;
+use crate::saving::save_held;
 use desk_core::Desk;
-use desk_io::{Detailed, More, Texts, tell_more};
+use desk_io::{Detailed, HeldFile, More, Texts, tell_more};
 use session_protocol::ServeFault;
 use solver_check::{Fault, RunFault};
 use std::alloc::Global;
+use std::fs::File;
 use std::io::{Error, Result as Done};
 use std::rt::Files;
 
@@ -68,23 +69,23 @@ fn with_reason(
     (fault, None)
 }
 
-/// Saves the desk that a session left, where a file for it is named, and lets it go.
+/// Saves the desk that a session left, where a file for it is held, and lets it go.
 ///
 /// # Errors
 ///
 /// The session's fault, or that of the save: where both have one, that of the session is told here.
-pub(crate) fn end_desk<R: Files + AllocGlobal + Eprint>(
+pub(crate) fn end_desk<R: Files<File = File> + AllocGlobal + Drop + Eprint>(
     rt: &R,
     desk: Desk,
     fault: Option<RunFault>,
-    file: Option<&'static str>,
+    held: Option<HeldFile<R>>,
     more: &mut More,
     verbose: bool,
 ) -> Result<(), Fault>
     ensures { OnOk result (fault ≡ None) }
 {
     let mut unsaved = More::none();
-    let saved = save_named(rt, &desk, file, &mut unsaved);
+    let saved = save_held(rt, &desk, held, &mut unsaved);
     drop(desk);
     match saved {
         Ok(()) => {

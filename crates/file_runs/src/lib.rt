@@ -16,5 +16,5 @@ pub use checking::check_files;
 pub use drawing::draw_files;
 pub use faults::ProgramFault;
 pub use opening::open_named;
-pub use saving::save_named;
+pub use saving::save_held;
 pub use serving::serve_streams;

@@ -10,11 +10,13 @@ use crate::faults::ProgramFault;
 use crate::serving::limit_of;
 use desk_cli::{HostWords, ServeWords};
 use desk_core::Desk;
-use desk_io::{Detailed, More, Texts, problem_of, read_named};
+use desk_io::{Detailed, HeldFile, More, Texts, problem_of, read_named, release};
 use single_runs::open_desk;
 use solver_check::{Fault, RunFault};
 use std::alloc::Global;
+use std::fs::File;
 use std::rt::Files;
+use std::time::Clock;
 
 fn is_among(name: &str, names: &[&'static str]) -> bool
     ensures { result ≡ is_among name.now names.now }
@@ -45,22 +47,24 @@ fn open_texts(alloc: Global, texts: Texts<'_>, words: &ServeWords) -> Result<Des
     open_desk(alloc, problem, limit_of(words), texts.journal)
 }
 
-/// The desk of the files that the words name, which is to be shared by the planners of the words.
+/// The desk of the files that the words name, which is to be shared by the planners of the words; and
+/// the file that it is to be saved in, held.
 ///
 /// # Errors
 ///
 /// What the words lack, a file that can't be read, two planners of one name, or the run's fault.
-pub fn open_named<R: Files + AllocGlobal>(
+pub fn open_named<R: Files<File = File> + AllocGlobal + Clock + Clone + Drop>(
     rt: &R,
     words: &HostWords,
     more: &mut More,
-) -> Result<Desk, ProgramFault> {
-    let named = match read_named(rt, &words.desk, more) {
-        Ok(named) => named,
+) -> Result<(Desk, Option<HeldFile<R>>), ProgramFault> {
+    let (named, held) = match read_named(rt, &words.desk, more) {
+        Ok(ready) => ready,
         Err(fault) => return Err(ProgramFault::Desk(fault)),
     };
     if let Some(name) = named_twice(words.names.as_slice()) {
         drop(named);
+        release(held);
         return Err(ProgramFault::NamedTwice { name });
     }
     let texts = named.texts();
@@ -70,7 +74,10 @@ pub fn open_named<R: Files + AllocGlobal>(
     }
     drop(named);
     match opened {
-        Ok(desk) => Ok(desk),
-        Err(fault) => Err(ProgramFault::Desk(Fault::Run(fault))),
+        Ok(desk) => Ok((desk, held)),
+        Err(fault) => {
+            release(held);
+            Err(ProgramFault::Desk(Fault::Run(fault)))
+        }
     }
 }

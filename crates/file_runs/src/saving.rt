@@ -1,75 +1,53 @@
 //! A file that is whole at any moment.
+use atomic_save::{SaveError, SystemFile};
 use desk_core::Desk;
-use desk_io::{More, Noting, folder_of, told};
-use desk_report::Spout;
-use single_runs::save_desk;
-use solver_check::{Fault, RunFault};
-use std::alloc::Global;
-use std::fs;
-use std::fs::OpenFile;
-use std::io::{BufWriter, ErrorKind, Result as Done, Write};
+use desk_io::{HeldFile, More};
+use single_runs::save_journal;
+use solver_check::Fault;
+use std::fs::File;
+use std::io::Error;
 use std::rt::Files;
 
-/// Saves a desk's journal in the file, where one is named: in a new file beside it, which is synced
-/// and then takes its name. So the file is whole at any moment.
+/// Saves a desk's journal in the file that is held, if any. The file is whole at any moment, and it
+/// takes no memory.
 ///
 /// # Errors
 ///
-/// It can't be saved, and why: the file is then as it was, and the new one is gone; or want of
-/// memory.
-pub fn save_named<R: Files + AllocGlobal>(
+/// It can't be saved, and why: the file is then as it was. Where the journal could be written whole, it
+/// is kept in another file.
+pub fn save_held<R: Files<File = File> + AllocGlobal + Drop>(
     rt: &R,
     desk: &Desk,
-    file: Option<&'static str>,
+    held: Option<HeldFile<R>>,
     more: &mut More,
 ) -> Result<(), Fault> {
-    let Some(file) = file else {
+    let Some(held) = held else {
         return Ok(());
     };
-    let Ok(beside) = format!(in rt.alloc(); "{file}.new") else {
-        return Err(Fault::Run(RunFault::OutOfMemory));
+    let HeldFile {
+        file,
+        mut named,
+        temporary,
+    } = held;
+    let (fault, why) = match save_journal(desk, &mut named, temporary) {
+        Ok(()) => return Ok(()),
+        Err(SaveError::NotRenamed) => kept(named, file),
+        Err(_) => (Fault::CannotWrite { file }, named.into_reason()),
     };
-    let saved = save_beside(rt, desk, beside.as_str(), file);
-    told(rt.alloc(), saved, file, more)
-}
-
-// Saves a desk's journal in the file, by way of the new one.
-fn save_beside<R: Files + AllocGlobal>(rt: &R, desk: &Desk, beside: &str, file: &str) -> Done<()> {
-    let opened = fs::create(rt, beside)?;
-    let written = write_whole(rt.alloc(), desk, opened);
-    replace_or_remove(rt, written, beside, file)
-}
-
-// Gives the new file the file's name, and removes it where that fails, or it wasn't written.
-fn replace_or_remove<R: Files>(rt: &R, written: Done<()>, beside: &str, file: &str) -> Done<()> {
-    let replaced = replace(rt, written, beside, file);
-    if replaced.is_err() {
-        let _gone = fs::remove_file(rt, beside);
+    if let Some(why) = why {
+        more.reason(rt.alloc(), &why);
     }
-    replaced
+    Err(fault)
 }
 
-// Gives the new file the file's name, where it was written.
-fn replace<R: Files>(rt: &R, written: Done<()>, beside: &str, file: &str) -> Done<()> {
-    written?;
-    fs::rename(rt, beside, file)?;
-    fs::open(rt, folder_of(file))?.sync_all()
-}
-
-// Writes the journal, to the disk.
-fn write_whole<F: Write + OpenFile + Drop>(alloc: Global, desk: &Desk, opened: F) -> Done<()> {
-    let Ok(writer) = BufWriter::new(alloc, opened) else {
-        return Err(ErrorKind::OutOfMemory.into());
-    };
-    let mut sink = Spout::new(Noting::new(writer));
-    let saved = save_desk(desk, &mut sink);
-    let (mut writer, why) = sink.into_inner().into_parts();
-    if saved.is_err() {
-        return Err(match why {
-            Some(why) => why,
-            None => ErrorKind::WriteZero.into(),
-        });
+// The journal that couldn't get the file's name: the fault, and the system's reason.
+fn kept<R: Files<File = File> + AllocGlobal + Drop>(
+    named: SystemFile<R>,
+    file: &'static str,
+) -> (Fault, Option<Error>) {
+    let (kept, why) = named.into_kept();
+    match kept {
+        Some(kept) => (Fault::Kept { file, kept }, why),
+        None => (Fault::CannotWrite { file }, why),
     }
-    writer.flush()?;
-    writer.get_ref().sync_all()
 }

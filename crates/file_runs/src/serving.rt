@@ -7,16 +7,18 @@ ghost use Rattle.file_runs.specs.Words.{SitsFrom};
 use crate::closing::{end_desk, fault_of, note_end, outcome_of};
 use desk_cli::ServeWords;
 use desk_core::{Desk, Limit, MOST_ENTRIES};
-use desk_io::{Answers, Lines, More, Outlet, Prompting, Texts, read_named, send_last};
+use desk_io::{Answers, Lines, More, Outlet, Prompting, Texts, read_named, release, send_last};
 use desk_report::Spout;
 use session_protocol::ServeFault;
 use single_runs::serve_desk;
 use solver_check::{Fault, RunFault};
 use std::alloc::Global;
 use std::cell::RefCell;
+use std::fs::File;
 use std::io;
 use std::io::{BufWriter, Read, Write};
 use std::rt::Files;
+use std::time::Clock;
 
 /// Serves a session from standard input to standard output, as the words ask for, and saves the
 /// desk's journal where they ask for it. What was answered before a fault has gone out, and is
@@ -26,66 +28,77 @@ use std::rt::Files;
 ///
 /// What the words lack, a file that can't be read or written, the run's fault, or that of the save;
 /// where both have one, that of the run is told here.
-pub fn serve_streams<R: Files + AllocGlobal + Print + Eprint + Input>(
+pub fn serve_streams<
+    R: Files<File = File> + AllocGlobal + Clock + Clone + Drop + Print + Eprint + Input,
+>(rt: &R, words: &ServeWords, typed: bool, more: &mut More, verbose: bool) -> Result<(), Fault> {
+    let (named, held) = match read_named(rt, words, more) {
+        Ok(ready) => ready,
+        Err(fault) => return Err(fault),
+    };
+    let (desk, fault) = serve_typed(rt, named.texts(), words, typed, more);
+    drop(named);
+    match desk {
+        Some(desk) => end_desk(rt, desk, fault, held, more, verbose),
+        None => {
+            release(held);
+            outcome_of(fault)
+        }
+    }
+}
+
+// Serves a session from standard input to standard output, and hands back the desk, where one was
+// opened, and the session's fault. Who types it is told what to type.
+fn serve_typed<R: AllocGlobal + Print + Eprint + Input>(
     rt: &R,
+    texts: Texts<'_>,
     words: &ServeWords,
     typed: bool,
     more: &mut More,
-    verbose: bool,
-) -> Result<(), Fault> {
-    let named = match read_named(rt, words, more) {
-        Ok(named) => named,
-        Err(fault) => return Err(fault),
-    };
+) -> (Option<Desk>, Option<RunFault>) {
     // (lent, since standard input has its buffer in itself)
     let (mut reader, output) = (rt.reader(), io::writer(rt));
     let input = Prompting::new(rt, &mut reader, typed, words.prompt());
-    let ended = serve_between(rt, named.texts(), words, input, output, more, verbose);
-    drop(named);
-    ended
+    serve_between(rt.alloc(), texts, words, input, output, more)
 }
 
-// Serves a session from a reader to a writer, both buffered. What was answered goes out before more
-// is read, and at the end.
-fn serve_between<R: Files + AllocGlobal + Eprint, I: Read + Drop, O: Write + Drop>(
-    rt: &R,
+// Serves a session from a reader to a writer, both buffered, and hands back the desk, where one was
+// opened, and the session's fault. What was answered goes out before more is read, and at the end.
+fn serve_between<I: Read + Drop, O: Write + Drop>(
+    alloc: Global,
     texts: Texts<'_>,
     words: &ServeWords,
     input: I,
     output: O,
     more: &mut More,
-    verbose: bool,
-) -> Result<(), Fault> {
-    match BufWriter::new(rt.alloc(), output) {
-        Ok(buffered) => serve_buffered(rt, texts, words, input, buffered, more, verbose),
+) -> (Option<Desk>, Option<RunFault>) {
+    match BufWriter::new(alloc, output) {
+        Ok(buffered) => serve_buffered(alloc, texts, words, input, buffered, more),
         Err(_) => {
             drop(input);
-            let fault = Some(RunFault::OutOfMemory);
-            outcome_of(note_end(rt.alloc(), fault, (Ok(()), None), texts, more))
+            (None, Some(RunFault::OutOfMemory))
         }
     }
 }
 
 // Serves a session from a reader to a writer in a buffer, which goes out at the end.
-fn serve_buffered<R: Files + AllocGlobal + Eprint, I: Read + Drop, O: Write + Drop>(
-    rt: &R,
+fn serve_buffered<I: Read + Drop, O: Write + Drop>(
+    alloc: Global,
     texts: Texts<'_>,
     words: &ServeWords,
     input: I,
     buffered: BufWriter<O>,
     more: &mut More,
-    verbose: bool,
-) -> Result<(), Fault> {
+) -> (Option<Desk>, Option<RunFault>) {
     let outlet = RefCell::new(Outlet::new(buffered));
-    let ended = serve_lines(rt.alloc(), texts, words, input, &outlet);
+    let ended = serve_lines(alloc, texts, words, input, &outlet);
     let last = send_last(&outlet);
     drop(outlet);
     match ended {
         Ok((desk, ended)) => {
-            let fault = note_end(rt.alloc(), fault_of(ended), last, texts, more);
-            end_desk(rt, desk, fault, words.save, more, verbose)
+            let fault = note_end(alloc, fault_of(ended), last, texts, more);
+            (Some(desk), fault)
         }
-        Err(fault) => outcome_of(note_end(rt.alloc(), Some(fault), last, texts, more)),
+        Err(fault) => (None, note_end(alloc, Some(fault), last, texts, more)),
     }
 }
 

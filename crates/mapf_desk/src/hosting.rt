@@ -8,13 +8,15 @@ use crate::print_line;
 use crate::statuses::{RunEnd, answered};
 use desk_cli::HostWords;
 use desk_core::Desk;
-use desk_io::{More, Pipes};
-use file_runs::{ProgramFault, open_named, save_named};
+use desk_io::{HeldFile, More, Pipes, release};
+use file_runs::{ProgramFault, open_named, save_held};
 use shared_runs::{Fault, HostEnd, HostFault, Outcome, RunFault, host_planners};
+use std::fs::File;
 use std::rt::Files;
 use std::sync::Wait;
 use std::thread;
 use std::thread::Threads;
+use std::time::Clock;
 
 /// Hosts planners of other processes on one desk, as the words ask for, and the operator at standard
 /// input and output, until all their inputs have ended; saves the desk's journal where they ask for
@@ -23,42 +25,48 @@ use std::thread::Threads;
 /// # Errors
 ///
 /// What the words lack, a file that can't be read or written, the run's fault, or that of the save.
-pub fn host_files<R: Files + AllocGlobal + Print + Threads + Wait + Sync>(
+pub fn host_files<
+    R: Files<File = File> + AllocGlobal + Clock + Clone + Drop + Print + Threads + Wait + Sync,
+>(
     rt: &R,
     host: &HostRuntime,
     words: &HostWords,
     stages: bool,
     more: &mut More,
 ) -> Result<RunEnd, ProgramFault> {
-    let desk = match open_named(rt, words, more) {
-        Ok(desk) => desk,
+    let (desk, held) = match open_named(rt, words, more) {
+        Ok(opened) => opened,
         Err(fault) => return Err(fault),
     };
     let Ok(pipes) = Pipes::new(rt.alloc(), host, words.names.as_slice(), stages) else {
         drop(desk);
+        release(held);
         return Err(out_of_memory());
     };
     let end = match host_all(rt, desk, &pipes, words) {
         Ok(end) => end,
-        Err(fault) => return Err(ProgramFault::Host(fault)),
+        Err(fault) => {
+            release(held);
+            return Err(ProgramFault::Host(fault));
+        }
     };
-    let ended = end_hosted(rt, &end, words, more);
+    let ended = end_hosted(rt, &end, held, more);
     drop(end);
     ended
 }
 
-// Saves the desk's journal where the words ask for it, and prints whether the audit's report is that
+// Saves the desk's journal where a file for it is held, and prints whether the audit's report is that
 // of the desk.
-fn end_hosted<R: Files + AllocGlobal + Print>(
+fn end_hosted<R: Files<File = File> + AllocGlobal + Drop + Print>(
     rt: &R,
     end: &HostEnd,
-    words: &HostWords,
+    held: Option<HeldFile<R>>,
     more: &mut More,
 ) -> Result<RunEnd, ProgramFault>
     ensures { IfOk result (λ run. IfOk end.now.same (λ same.
         run ≡ host_end (is_err end.now.operator || list_any (λ ended. is_err ended) end.now.planners.items) same)) }
 {
-    match save_named(rt, &end.desk, words.desk.save, more) {
+    match save_held(rt, &end.desk, held, more) {
         Ok(()) => {}
         Err(fault) => return Err(ProgramFault::Desk(fault)),
     }

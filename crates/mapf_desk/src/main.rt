@@ -18,14 +18,28 @@ use hosting::host_files;
 use shared_runs::{Fault, RunFault};
 use statuses::{RunEnd, answered, status_of};
 use std::env;
+use std::fs::File;
 use std::io::{Error, ErrorKind, IsTerminal};
 use std::process::ExitCode;
 use std::rt::Files;
 use std::sync::Wait;
 use std::thread::Threads;
+use std::time::Clock;
 
 // Does what the words ask for. Where it is wanted, stages are told.
-fn obey<R: Files + AllocGlobal + Print + Eprint + Input + Threads + Wait + Sync>(
+fn obey<
+    R: Files<File = File>
+        + AllocGlobal
+        + Clock
+        + Clone
+        + Drop
+        + Print
+        + Eprint
+        + Input
+        + Threads
+        + Wait
+        + Sync,
+>(
     rt: &R,
     runtime: &HostRuntime,
     words: &Words,

@@ -89,6 +89,12 @@ pub enum Fault {
     /// The desk's journal can't be saved in a file, which is then as it was.
     #[error("can't write {}", Shown(*.file))]
     CannotWrite { file: &'static str },
+    /// Another session is to save its journal in that file.
+    #[error("can't write {file}: in use")]
+    InUse { file: &'static str },
+    /// The file can't be replaced by the desk's journal, which is whole in another one.
+    #[error("can't write {file}: the journal is in {kept}")]
+    Kept { file: &'static str, kept: String },
     #[error("{0}")]
     Run(RunFault),
 }
