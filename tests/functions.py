@@ -59,9 +59,9 @@ def owner_of(line, module, types):
     if len(parts) == 1:
         places = types.get(name, [module])
         return Owner([*(module if module in places else places[0]), name], False)
-    # (what an impl of `From<T>` is called has the name of T in it)
+    # (what an impl of `From<T>` or `NamedFile<T>` is called has the name of T in it)
     of = re.search(r"<(?:\w+::)*(\w+)", parts[0])
-    return Owner([*module, name + head(parts[0]) + (of[1] if of and head(parts[0]) == "From" else "")], True)
+    return Owner([*module, name + head(parts[0]) + (of[1] if of and head(parts[0]) in ("From", "NamedFile") else "")], True)
 
 
 def body_of(lines, first, indent):

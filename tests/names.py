@@ -61,7 +61,7 @@ def planted():
             if line.startswith("new: "):
                 yield path.parts[-3], path.stem, line
     for name, file, _, text, _ in [*wrong_bodies.BODIES, *wrong_bodies.READERS]:
-        for crate in (switch.RUNS, switch.FILES, switch.READERS):
+        for crate in (switch.RUNS, switch.FILES, switch.SAVES, switch.READERS):
             if (CRATES / crate / "src" / file).exists():
                 yield crate, name, text
 
@@ -78,7 +78,7 @@ def foreign():
 def lost():
     """What is said of wrong bodies of the program, and of readers of words, whose text doesn't stand once in their file."""
     for name, file, text, _, _ in [*wrong_bodies.BODIES, *wrong_bodies.READERS]:
-        for crate in (switch.PROGRAM, switch.RUNS, switch.FILES, switch.READERS):
+        for crate in (switch.PROGRAM, switch.RUNS, switch.FILES, switch.SAVES, switch.READERS):
             path = CRATES / crate / "src" / file
             if path.exists():
                 try:

@@ -11,7 +11,7 @@ import tempfile
 import time
 
 TOP = os.path.dirname(os.path.dirname(os.path.abspath(__file__)))
-PROGRAM, RUNS, FILES, READERS = "mapf_desk", "file_runs", "desk_io", "desk_cli"
+PROGRAM, RUNS, FILES, SAVES, READERS = "mapf_desk", "file_runs", "desk_io", "atomic_save", "desk_cli"
 WRONG, TOLD = "MAPF_DESK_WRONG", "MAPF_DESK_TOLD"
 BEGIN, END = "‹", "›"
 
@@ -98,7 +98,7 @@ def copy(top):
     shutil.copytree(f"{TOP}/crates", f"{top}/crates", ignore=skip)
     shutil.copy2(f"{TOP}/HANDLES", top)
     lines = read(f"{TOP}/crates.txt").splitlines()
-    write(f"{top}/crates.txt", "".join(f"{it} os\n" if it.split(":")[0] in (PROGRAM, RUNS, FILES, READERS) else f"{it}\n" for it in lines))
+    write(f"{top}/crates.txt", "".join(f"{it} os\n" if it.split(":")[0] in (PROGRAM, RUNS, FILES, SAVES, READERS) else f"{it}\n" for it in lines))
     source = f"{top}/crates/{PROGRAM}/src"
     shutil.copy2(f"{top}/crates/demo_texts/src/telling.rt", f"{source}/read_as.rt")
     text = read(f"{source}/main.rt")

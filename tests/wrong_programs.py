@@ -62,7 +62,7 @@ def outcomes(names):
     bodies, readers = ([it for it in table if not names or it[0] in names] for table in (BODIES, READERS))
     with tempfile.TemporaryDirectory(prefix="desk-") as top:
         switch.copy(top)
-        for crate, root in ((switch.PROGRAM, "main.rt"), (switch.RUNS, "lib.rt"), (switch.FILES, "lib.rt")):
+        for crate, root in ((switch.PROGRAM, "main.rt"), (switch.RUNS, "lib.rt"), (switch.FILES, "lib.rt"), (switch.SAVES, "lib.rt")):
             switch.plant(top, crate, root, BODIES)
         switch.plant(top, switch.READERS, "lib.rt", READERS)
         program = f"{top}/program"

@@ -6,7 +6,7 @@ import signal
 import subprocess
 import time
 
-from .running import PATIENCE, Planner, bytes_of, put, remove, run, start, want
+from .running import PATIENCE, Planner, bytes_of, is_run, put, remove, run, start, want
 from .texts import JOURNAL, ONE_ENTRY
 
 LAST = re.compile(rb"^end (\d+)\n\Z", re.MULTILINE)
@@ -30,8 +30,15 @@ def killed():
         planner.process.send_signal(how)
         want("the end", planner.end(), (-how, b""))
         want("the file", bytes_of("kept"), JOURNAL)
-    want("whether a new one is left", os.path.exists("kept.new"), False)
+    want("what is left", left(), [".kept.0.mapf-new"])
+    is_run(["serve", "--map", "m", "--save", "kept"], b"", (0, "", ""))
+    want("what is left behind the next session", left(), [])
     remove("kept")
+
+
+def left():
+    """The temporary files of `kept`."""
+    return [it for it in os.listdir() if it.startswith(".kept.")]
 
 
 def is_whole(file):
@@ -56,7 +63,7 @@ def killed_while_saving():
         process.kill()
         process.wait(PATIENCE)
         is_whole("kept")
-    remove("kept", "kept.new")
+    remove("kept", *left())
 
 
 def room_for(size):
@@ -69,7 +76,7 @@ def room_for(size):
 
 
 def killed_within_a_write():
-    """The new journal is broken off at one of its bytes: the file is the one before; the next save replaces the rest."""
+    """The new journal is broken off at one of its bytes: the file is the one before; the next session removes the rest."""
     words = ["serve", "--map", "m", "--journal", "kept", "--save", "kept"]
     for size in (0, 1, 30, len(ONE_ENTRY), len(ONE_ENTRY) + 10):
         put("kept", ONE_ENTRY)
@@ -77,10 +84,10 @@ def killed_within_a_write():
         want("what it does", (status, said, complained), (-signal.SIGXFSZ, "version 2\n", ""))
         want("the file", bytes_of("kept"), ONE_ENTRY)
         whole = ONE_ENTRY.replace(b"end 1", b"entry 0 1 0 1\ndrop 0\nend 2")
-        want("the new file", bytes_of("kept.new"), whole[:size])
+        want("the temporary file", bytes_of(".kept.0.mapf-new"), whole[:size])
         want("what the next one does", run(words, b"drop 0\n"), (0, "version 2\n", ""))
         want("the file", bytes_of("kept"), whole)
-        want("whether a new one is left", os.path.exists("kept.new"), False)
+        want("what is left", left(), [])
     remove("kept")
 
 

@@ -1,6 +1,7 @@
 """What a session saves, and what is left where a save fails."""
 import os
 import resource
+import shutil
 import signal
 
 from .running import Planner, bytes_of, is_answered, is_fault, is_run, put, remove, run, want
@@ -54,7 +55,11 @@ def not_saved_where_no_session_begins():
     want("the file", bytes_of("kept"), JOURNAL)
     is_fault(["serve", "--map", "map_octile", "--save", "never"], "map: not octile")
     is_fault(["serve", "--save", "never"], "map: not octile")
-    left = [it for it in ("never", "never.new", "kept.new") if os.path.exists(it)]
+    is_fault(["serve", "--map", "none", "--save", "never"], "can't read none")
+    is_fault(["host", "--map", "none", "--save", "never", "nobody"], "can't read none")
+    is_fault(["host", "--map", "map_octile", "--save", "never", "nobody"], "map: not octile")
+    is_fault(["host", "--map", "m", "--save", "never", "twice", "twice"], "a planner named twice, twice")
+    left = [it for it in os.listdir() if it == "never" or "mapf" in it]
     want("the other files", left, [])
     remove("kept")
 
@@ -106,7 +111,7 @@ def not_saved_on_a_full_disk():
     words = ["serve", "--map", "m", "--save", "kept"]
     is_fault(words, "can't write kept", ADD, "version 1\n", preexec_fn=small_disk)
     want("the file", bytes_of("kept"), JOURNAL)
-    want("whether a new one is left", os.path.exists("kept.new"), False)
+    want("what is left", [it for it in os.listdir() if "mapf" in it], [])
     _, _, complained = run([*words, "-v"], ADD, preexec_fn=small_disk)
     large, full = "  File too large (os error 27)\n", "  No space left on device (os error 28)\n"
     want("standard error", complained, "mapf_desk: can't write kept\n" + large)
@@ -124,29 +129,28 @@ def not_saved_where_the_file_became_a_folder():
     planner = Planner("serve", "--map", "m", "--save", "folder")
     planner.ask(ADD, b"version 1\n")
     os.mkdir("folder")
-    want("the end", planner.end_all(), (2, b"", b"mapf_desk: can't write folder\n"))
-    want("whether a new one is left", os.path.exists("folder.new"), False)
-    os.rmdir("folder")
+    want("the end", planner.end_all(), (2, b"", b"mapf_desk: can't write folder: the journal is in folder.0.mapf-kept\n"))
+    want("the journal", bytes_of("folder.0.mapf-kept"), ONE_ENTRY)
+    os.rmdir("folder"), remove("folder.0.mapf-kept")
 
 
 def not_saved_where_the_folder_went():
     os.mkdir("folder")
     planner = Planner("serve", "--map", "m", "--save", "folder/desk", "-v")
     planner.ask(ADD, b"version 1\n")
-    os.rmdir("folder")
+    shutil.rmtree("folder")
     more = b"  No such file or directory (os error 2)\n"
     want("the end", planner.end_all(), (2, b"", b"mapf_desk: can't write folder/desk\n" + more))
 
 
 def saved_in_place_of_a_link():
-    """The saved file is a new one: a link is gone, what it named is as it was, and a new file left before is replaced."""
-    put("named", JOURNAL), put("desk.new", b"left behind, and longer than what is saved in its place: " * 9)
+    """The saved file is a new one: a link is gone, and what it named is as it was."""
+    put("named", JOURNAL)
     os.symlink("named", "desk")
     is_answered(["serve", "--map", "m", "--save", "desk"], ADD, "version 1\n")
     want("whether it is a link", os.path.islink("desk"), False)
     want("the journal", bytes_of("desk"), ONE_ENTRY)
     want("what the link named", bytes_of("named"), JOURNAL)
-    want("whether a new one is left", os.path.exists("desk.new"), False)
     remove("named", "desk")
 
 

@@ -2,7 +2,7 @@
 
 The session sets a filter on its own calls as it starts (seccomp, of Linux 5.5 and later): each that makes, writes,
 syncs, names or removes a file waits until this script lets it go on. The calls of the save are those from the one on
-that makes the new file.
+that makes the temporary file, but for what is written on standard output and standard error.
 """
 import ctypes
 import errno
@@ -25,6 +25,7 @@ RECEIVE, ANSWER, GO_ON = 0xC0502100, 0xC0182101, 1
 
 SAVED = ONE_ENTRY.replace(b"end 1", b"entry 0 1 0 1\ndrop 0\nend 2")
 SAVE = ["make", "write", "sync", "rename", "sync"]
+TEMPORARY, KEPT = ".kept.0.mapf-new", "kept.0.mapf-kept"
 WORDS = ["serve", "--map", "m", "--journal", "kept", "--save", "kept", "-v"]
 
 
@@ -85,8 +86,11 @@ class Stepped:
                 return
             notice = bytearray(80)
             fcntl.ioctl(self.told, RECEIVE, notice)
-            number, _, _, call = struct.unpack_from("QIIi", notice)
-            yield number, CALLS[call]
+            number, _, _, call, _, _, first = struct.unpack_from("QIIiIQQ", notice)
+            if CALLS[call] == "write" and first in (1, 2):
+                self.answer(number)
+            else:
+                yield number, CALLS[call]
 
     def answer(self, number, refused=0):
         reply = struct.pack("QqiI", number, 0, -refused, 0 if refused else GO_ON)
@@ -121,35 +125,48 @@ def calls_of_a_save():
     want("the calls", seen, SAVE)
     want("the end", ended, (0, b"version 2\n", b""))
     want("the file", bytes_of("kept"), SAVED)
-    want("whether a new one is left", os.path.exists("kept.new"), False)
+    want("what is left", left(), [])
     remove("kept")
 
 
+def left():
+    """The temporary file, and the one that is kept, where they are there."""
+    return [it for it in (TEMPORARY, KEPT) if os.path.exists(it)]
+
+
 def killed_before_each_call():
-    """The file is the journal before or after, whole, and is read; the next save replaces what is left."""
+    """The file is the journal before or after, whole, and is read; the next session removes what is left."""
     for at, call in enumerate(SAVE):
         seen, (status, out, complained) = step(at)
         want("the calls", seen, SAVE[: at + 1])
-        want("the end", (status, out, complained), (-9, b"version 2\n", b""))
+        want("the end", (status, out, complained), (-9, b"" if at == 0 else b"version 2\n", b""))
         want(f"the file before the call {call}", bytes_of("kept"), SAVED if at > SAVE.index("rename") else ONE_ENTRY)
-        want("whether a new one is left", os.path.exists("kept.new"), 0 < at <= SAVE.index("rename"))
+        want("what is left", left(), [TEMPORARY] if 0 < at <= SAVE.index("rename") else [])
         is_whole("kept")
         put("kept", ONE_ENTRY)
         is_run(WORDS, b"drop 0\n", (0, "version 2\n", ""))
         want("the file", bytes_of("kept"), SAVED)
-        want("whether a new one is left", os.path.exists("kept.new"), False)
+        want("what is left", left(), [])
     remove("kept")
 
 
+# What is done behind a call that is refused, where the fault says that the journal is, and whether there was a session.
+REFUSED = [([], "", False), (["remove"], "", True), (["remove"], "", True), (["make", "rename"], f": the journal is in {KEPT}", True), ([], "", True)]
+
+
 def refused_at_each_call():
-    """A save whose call is refused is told, and leaves the file as it was and no new one; the last call comes too late for that."""
-    for at, call in enumerate(SAVE):
+    """A save whose call is refused is told. It leaves the file as it was, and where the journal is whole it is kept; the last call comes
+    too late for that, and the first one before any line is read."""
+    for at, (call, (does, told, served)) in enumerate(zip(SAVE, REFUSED)):
         seen, ended = step(at, errno.EIO)
-        want("the end", ended, (2, b"version 2\n", b"mapf_desk: can't write kept\n  Input/output error (os error 5)\n"))
-        behind = [it for it in seen[at + 1 :] if it != "write"]  # (the fault is written on standard error)
-        want("the calls", (seen[: at + 1], behind), (SAVE[: at + 1], ["remove"] if at else []))
+        fault = f"mapf_desk: can't write kept{told}\n  Input/output error (os error 5)\n".encode()
+        want("the end", ended, (2, b"version 2\n" if served else b"", fault))
+        want("the calls", (seen[: at + 1], seen[at + 1 :]), (SAVE[: at + 1], does))
         want(f"the file behind the call {call}", bytes_of("kept"), SAVED if at == len(SAVE) - 1 else ONE_ENTRY)
-        want("whether a new one is left", os.path.exists("kept.new"), False)
+        want("what is left", left(), [KEPT] if told else [])
+        if told:
+            want("the journal that is kept", bytes_of(KEPT), SAVED)
+        remove(KEPT)
     remove("kept")
 
 
@@ -162,7 +179,7 @@ def a_writer_that_fails():
         taken = []
         for number, call in session.calls():
             if call == "remove":
-                taken.append(bytes_of("kept.new"))
+                taken.append(bytes_of(TEMPORARY))
             session.answer(number)
         want("the end", session.end(), (2, b"", b"mapf_desk: can't write kept\n  File too large (os error 27)\n"))
         want(f"what is taken of {room} bytes", taken, [SECOND[:room]])
