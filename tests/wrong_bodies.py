@@ -97,7 +97,7 @@ BODIES = [
     ("temporary_file_of_another_written_over", "system.rt", "new_file(&self.rt, path.as_str(), self.mode())", "fs::create(&self.rt, path.as_str())", "files_of_others"),
     ("permissions_not_kept", "system.rt", "‹&self.permissions› {\n            if file", "{ let none: &Option<Permissions> = &None; none }", "permissions_stay"),
     ("memory_for_a_save_at_its_end", "saving.rt", "save_journal(desk, &mut named, temporary)",
-     "match Vec::<u8>::with_capacity(rt.alloc(), 8192) { Ok(_room) => save_journal(desk, &mut named, temporary), Err(_) => Err(SaveError::NotWritten) }",
+     "match Vec::<u8>::with_capacity(rt.alloc(), 1 << 26) { Ok(_room) => save_journal(desk, &mut named, temporary), Err(_) => Err(SaveError::NotWritten) }",
      "saved_with_no_page_more"),
     ("journal_not_kept", "saving.rt", "Err(SaveError::NotRenamed) => ‹kept(named, file)›", "(Fault::CannotWrite { file }, named.into_reason())", "kept_beside_a_folder"),
     ("journal_kept_where_it_is_removed", "system.rt", "is_renamed_anew(&self.rt, self.temporary.as_str(), self.kept.as_str())", "false",

@@ -53,14 +53,12 @@ def not_saved_where_no_session_begins():
     is_fault(["serve", "--map", "m", "--scen", "s", "--agents", "1", "--journal", "journal_line", "--save", "kept"], "journal: bad line 3")
     is_fault(["serve", "--save", "kept"], "map: bad size", FILES["map_size"])
     want("the file", bytes_of("kept"), JOURNAL)
-    is_fault(["serve", "--map", "map_octile", "--save", "never"], "map: not octile")
-    is_fault(["serve", "--save", "never"], "map: not octile")
-    is_fault(["serve", "--map", "none", "--save", "never"], "can't read none")
-    is_fault(["host", "--map", "none", "--save", "never", "nobody"], "can't read none")
-    is_fault(["host", "--map", "map_octile", "--save", "never", "nobody"], "map: not octile")
-    is_fault(["host", "--map", "m", "--save", "never", "twice", "twice"], "a planner named twice, twice")
-    left = [it for it in os.listdir() if it == "never" or "mapf" in it]
-    want("the other files", left, [])
+    for words, fault in ((["serve", "--map", "map_octile"], "map: not octile"), (["serve"], "map: not octile"),
+                         (["serve", "--map", "none"], "can't read none"),
+                         (["host", "--map", "none", "nobody"], "can't read none"), (["host", "--map", "map_octile", "nobody"], "map: not octile"),
+                         (["host", "--map", "m", "twice", "twice"], "a planner named twice, twice")):
+        is_fault([words[0], "--save", "never", *words[1:]], fault)
+        want(f"what {words} leave", [it for it in os.listdir() if it == "never" or "mapf" in it], [])
     remove("kept")
 
 
