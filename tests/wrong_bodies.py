@@ -163,7 +163,7 @@ BODIES = [
     ("journal_of_a_hosted_desk_dropped", "opening.rt", "texts.journal", "None", "plain_files"),
     # Pictures
     ("agents_of_a_picture_need_no_scenario", "drawing.rt", "words.agents.is_some() && words.scen.is_none()", "false", "draw_faults"),
-    ("journal_of_a_picture_taken_for_paths", "drawing.rt", "words.paths.is_some()", "true", "draw_faults"),
+    ("journal_of_a_picture_taken_for_paths", "drawing.rt", "if ‹paths.is_some()›", "true", "draw_faults"),
     ("paths_of_a_picture_dropped", "drawing.rt", "words.journal.or(words.paths)", "words.journal", "draw_forms_of_paths"),
     ("time_of_a_picture_dropped", "drawing.rt", "words.at.map(Step::new)", "None", "pictures_by_chance"),
     ("all_agents_shown", "drawing.rt", "shown: ‹words.shown›", "None", "draw_some_agents"),
@@ -172,6 +172,17 @@ BODIES = [
     ("line_of_a_picture_untold", "details.rt", "line_of(alloc, texts.journal, paths_line(*why))", "None", "draw_faults"),
     ("picture_left_in_the_buffer", "drawing.rt", "finish(alloc, ended, texts, writer, more)",
      "{ let _left = (writer.into_inner(), &more); ended }", "draw_full_device"),
+    ("kinds_of_a_picture_dropped", "drawing.rt", "kinds: ‹words.kinds›", "None", "draw_colours"),
+    # Pages
+    ("agents_of_a_page_need_no_scenario", "paging.rt", "words.agents.is_some() && words.scen.is_none()", "false", "page_faults"),
+    ("paths_of_a_page_dropped", "paging.rt", "words.journal.or(words.paths)", "words.journal", "page_forms_of_paths"),
+    ("agents_of_a_page_dropped", "paging.rt", "problem_of(texts, ‹words.agents›", "None", "page_usual_words"),
+    ("pages_in_mode_stay", "paging.rt", "problem_of(texts, words.agents, ‹words.mode›", "plan_table::Mode::Stay", "page_by_chance"),
+    ("title_of_a_page_dropped", "paging.rt", "words.title.unwrap_or(words.map)", "words.map", "page_by_chance"),
+    ("kind_of_a_page_dropped", "paging.rt", "kinds: ‹words.kinds›", "desk_report::Kinds { edge: false, ..words.kinds }", "page_by_chance"),
+    ("script_of_a_page_cut", "paging.rt", "script: ‹SCRIPT›", "&SCRIPT[1..]", "page_usual_words"),
+    ("looks_of_a_page_cut", "paging.rt", "looks: ‹LOOKS›", "&LOOKS[1..]", "page_usual_words"),
+    ("page_left_in_the_buffer", "paging.rt", "finish(alloc, ended, texts, writer, more)", "{ let _left = (writer.into_inner(), &more); ended }", "page_faults"),
 ]
 
 # Those of the readers of words: a line of words as it is told then, and how tests/words.txt has it.
@@ -218,4 +229,10 @@ READERS = [
      "draw --map m --agents-shown 5-4 => draw map=m, and not refused ValueValidation"),
     ("signs_not_looked_at", "mistakes.rt", "has_sign(inner, argument.name)", "false",
      "serve --limit +2 => serve, and not refused ValueValidation"),
+    ("kinds_of_a_picture_unread", "reading.rt", "kinds: ‹kinds_asked(matches)›", "None",
+     "draw --map m --solves edge => draw map=m, and not draw map=m solves=edge"),
+    ("map_taken_for_the_title", "pages.rt", 'title: ‹matches.get_str("title")›', 'matches.get_str("map")',
+     "page --map m => page map=m title=m, and not page map=m"),
+    ("paths_taken_for_the_journal_of_a_page", "pages.rt", 'journal: ‹matches.get_str("journal")›', 'matches.get_str("paths")',
+     "page --map m --paths p => page map=m journal=p paths=p, and not page map=m paths=p"),
 ]

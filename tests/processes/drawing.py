@@ -1,7 +1,8 @@
 """The word `draw`: solvers' paths and journals, agents that aren't shown, its size and time, its faults, the pictures of docs/."""
 import random
 
-from .fleets import Fleet
+from .fleets import Fleet, verdict
+from .plain import ASKED
 from .pictures import SVG, are_marked, drawn, group, reported, routes, title
 from .running import TOP, Wrong, bytes_of, is_answered, is_fault, processor_time, put, remove, run, second, want
 
@@ -92,6 +93,23 @@ def some_agents():
             want(name, [list(it.itertext()) for it in group(part, name)], [list(it.itertext()) for it in group(whole, name)])
 
 
+def colours():
+    """The heading has the colour of the verdict for the kinds that are named, and for all kinds where none is."""
+    chance, seen = random.Random(31), set()
+    for _ in range(200):
+        fleet = Fleet(chance)
+        put("scene", fleet.map.encode()), put("edits", fleet.journal("stay").encode())
+        words = ("--map", "scene", "--journal", "edits")
+        report = run(["audit", *words])[1]
+        for kinds in ([], chance.sample(sorted(ASKED), chance.randint(1, 4))):
+            found = {it.get("class") for it in group(drawn(*words, *(["--solves", *kinds] if kinds else []))[0], "key") if it.get("class") in ("good", "bad")}
+            right = verdict(report, kinds or ASKED)
+            want(f"the colour for {kinds}", found, {"good" if right == "yes" else "bad"})
+            seen.add((bool(kinds), right))
+    remove("scene", "edits")
+    want("what was seen", seen, {(some, right) for some in (True, False) for right in ("yes", "no")})
+
+
 def walk(chance, side, steps):
     x, y = chance.randrange(side), chance.randrange(side)
     cells = [(x, y)]
@@ -169,7 +187,7 @@ def is_whole(ground, scene, words, file):
 def tests():
     for row in WHOLE:
         yield f"draw_{row[1]} {row[2]}".rstrip(), lambda row=row: is_whole(*row)
-    for test in (faults, full_device, forms_of_paths, agents_of_a_scenario, some_agents, large_map, pictures_of_docs):
+    for test in (faults, full_device, forms_of_paths, agents_of_a_scenario, some_agents, colours, large_map, pictures_of_docs):
         yield f"draw_{test.__name__}", test
     # With a fifth of the cells closed there are 39,511 blocked visits, and on the smallest map 29,382 entries, each with its mark.
     for closed, side in ((0, 256), (0.1, 256), (0.2, 256), (0, 128), (0, 100)):

@@ -101,9 +101,10 @@ def goes_along(motion, path):
 
 
 def moves(picture, lines, paths, leaves):
-    """Each agent goes along its path, a step in 0.4 seconds; each entry lights up at its time."""
-    begins = [it.find(f"{SVG}set").get("begin") for it in times(picture) for _ in it.findall(f"{SVG}use")]
-    want("the times of entries", begins, [seconds(time_of(it)) for it in lines[0]])
+    """Each agent goes along its path, a step in 0.4 seconds; each entry is lit for the step of its time."""
+    sets = [it.find(f"{SVG}set") for it in times(picture) for _ in it.findall(f"{SVG}use")]
+    want("the times of entries", [it.get("begin") for it in sets], [seconds(time_of(it)) for it in lines[0]])
+    want("how long entries are lit", {(it.get("dur"), it.get("fill")) for it in sets} <= {(seconds(1), None)}, True)
     for number, (part, path) in enumerate(zip(group(picture, "agents"), paths, strict=True)):
         motion, gone = part.find(f".//{SVG}animateMotion"), part.find(f".//{SVG}set")
         want("who starts where", (title(part), place(part.find(f".//{SVG}use"))), (f"agent {number}", path[0]))

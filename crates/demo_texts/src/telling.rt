@@ -1,7 +1,7 @@
 //! What words are read as, in a line. What is as it is where no word names it is left out.
 use clap::Error;
 use desk_cli::{
-    Asked, AuditWords, CheckWords, DrawWords, DrillWords, HostWords, ServeWords, Words,
+    Asked, AuditWords, CheckWords, DrawWords, DrillWords, HostWords, PageWords, ServeWords, Words,
 };
 use desk_report::Kinds;
 use grid_cells::Agent;
@@ -41,6 +41,7 @@ fn put_words(text: &mut String, words: &Words) -> Result<(), AllocError> {
         Words::Host(host) => put_host(text, host),
         Words::Check(check) => put_check(text, check),
         Words::Draw(draw) => put_draw(text, draw),
+        Words::Page(page) => put_page(text, page),
     }
 }
 
@@ -126,7 +127,23 @@ fn put_draw(text: &mut String, words: &DrawWords) -> Result<(), AllocError> {
     put_file(text, "journal", words.journal)?;
     put_file(text, "paths", words.paths)?;
     put_given(text, "at", words.at)?;
-    put_shown(text, words.shown)
+    put_shown(text, words.shown)?;
+    match words.kinds {
+        Some(kinds) => put_all_kinds(text, kinds),
+        None => Ok(()),
+    }
+}
+
+fn put_page(text: &mut String, words: &PageWords) -> Result<(), AllocError> {
+    text.push_str("page")?;
+    put_file(text, "map", Some(words.map))?;
+    put_file(text, "scen", words.scen)?;
+    put_given(text, "agents", words.agents)?;
+    put_mode(text, words.mode)?;
+    put_file(text, "journal", words.journal)?;
+    put_file(text, "paths", words.paths)?;
+    put_kinds(text, words.kinds)?;
+    put_file(text, "title", words.title)
 }
 
 fn put_shown(text: &mut String, shown: Option<(Agent, Agent)>) -> Result<(), AllocError> {
@@ -153,12 +170,17 @@ fn put_form(text: &mut String, form: Option<Form>) -> Result<(), AllocError> {
     }
 }
 
-// The kinds, in the order of a report's entries; none where they are those of the classical problem.
+// The kinds; none where they are those of the classical problem.
 fn put_kinds(text: &mut String, kinds: Kinds) -> Result<(), AllocError> {
     let others = kinds.edge || kinds.follow || kinds.cycle;
     if kinds.vertex && kinds.swap && !others {
         return Ok(());
     }
+    put_all_kinds(text, kinds)
+}
+
+// The kinds, in the order of a report's entries.
+fn put_all_kinds(text: &mut String, kinds: Kinds) -> Result<(), AllocError> {
     put_kind(text, "vertex", kinds.vertex)?;
     put_kind(text, "edge", kinds.edge)?;
     put_kind(text, "follow", kinds.follow)?;

@@ -1,6 +1,7 @@
 -- What the words ask for, by what the parser found in them (this project's choice).
 use Rattle.std.specs.Prelude.{◌≡◌, ℕ, List, [], option_map, unwrap_or, codes}
 use Rattle.std.specs.Option.{option_copied}
+use Rattle.session_lines.specs.Kinds.{named_kinds}
 use Rattle.clap.specs.Matches.{first_value, matched_of, raw_values}
 use Rattle.clap.specs.declared.parser.matches.Found.{Found}
 use Rattle.desk_cli.specs.Values.{number_given, texts_given, texts_in, mode_named, form_named, kinds_named}
@@ -10,8 +11,9 @@ use Rattle.desk_cli.specs.declared.words.DrillWords.{DrillWords}
 use Rattle.desk_cli.specs.declared.words.HostWords.{HostWords}
 use Rattle.desk_cli.specs.declared.words.CheckWords.{CheckWords}
 use Rattle.desk_cli.specs.declared.words.DrawWords.{DrawWords}
+use Rattle.desk_cli.specs.declared.words.PageWords.{PageWords}
 use Rattle.desk_cli.specs.declared.words.Words.{Words}
-use Rattle.desk_cli.specs.declared.words.Words.TheVariants.{Version, Serve, Audit, Drill, Host, Check, Draw}
+use Rattle.desk_cli.specs.declared.words.Words.TheVariants.{Version, Serve, Audit, Drill, Host, Check, Draw, Page}
 
 -- a session's desk
 pub record AsksToServe (found : Found) (words : ServeWords) : Type 0 where
@@ -63,6 +65,17 @@ pub record AsksToDraw (found : Found) (words : DrawWords) : Type 0 where
   pub journal : option_copied words.journal ≡ first_value found (codes "journal")
   pub paths : option_copied words.paths ≡ first_value found (codes "paths")
   pub at : words.at ≡ number_given found (codes "at")
+  pub kinds : words.kinds ≡ option_map named_kinds (option_map raw_values (matched_of found (codes "solves")))
+
+pub record AsksToPage (found : Found) (words : PageWords) : Type 0 where
+  pub map : words.map.now ≡ unwrap_or (first_value found (codes "map")) []
+  pub scen : option_copied words.scen ≡ first_value found (codes "scen")
+  pub agents : words.agents ≡ number_given found (codes "agents")
+  pub mode : words.mode ≡ mode_named (first_value found (codes "mode"))
+  pub journal : option_copied words.journal ≡ first_value found (codes "journal")
+  pub paths : option_copied words.paths ≡ first_value found (codes "paths")
+  pub kinds : words.kinds ≡ kinds_named (option_map raw_values (matched_of found (codes "solves")))
+  pub title : option_copied words.title ≡ first_value found (codes "title")
 
 -- what the word of that name asks for
 abbrev pub AsksFor : List ℕ → Found → Words → Type 0
@@ -73,3 +86,4 @@ AsksFor name found (Drill words) = (name ≡ codes "drill") × AsksToDrill found
 AsksFor name found (Host words) = (name ≡ codes "host") × AsksToHost found words
 AsksFor name found (Check words) = (name ≡ codes "check") × AsksToCheck found words
 AsksFor name found (Draw words) = (name ≡ codes "draw") × AsksToDraw found words
+AsksFor name found (Page words) = (name ≡ codes "page") × AsksToPage found words

@@ -1,12 +1,14 @@
 //! The program's words, as data, and as their parser takes them.
 use crate::arguments::{Argument, parsed};
 use crate::helping::{
-    ABOUT, AUDIT_HELP, CHECK_HELP, DRAW_HELP, DRILL_HELP, HOST_HELP, PROGRAM_HELP, SERVE_HELP,
+    ABOUT, AUDIT_HELP, CHECK_HELP, DRAW_HELP, DRILL_HELP, HOST_HELP, PAGE_HELP, PROGRAM_HELP,
+    SERVE_HELP,
 };
 use crate::options::{
     AGENTS, AGENTS_OF_A_PICTURE, AGENTS_OF_PATHS, AT, FORM, JOURNAL, JOURNAL_OF_A_PICTURE,
     JOURNAL_OF_AN_AUDIT, LIMIT, MAP, MAP_OR_INPUT, MODE, NAMES, NEEDED_PATHS, PATHS, QUIET, SAVE,
-    SCEN, SCEN_OF_PATHS, SCRIPTS, SHOWN, SOLVES, VERBOSE, VERBOSE_DRILL, VERSION, WAIT, WORKERS,
+    SCEN, SCEN_OF_PATHS, SCRIPTS, SHOWN, SOLVES, SOLVES_OF_A_PICTURE, TITLE, VERBOSE,
+    VERBOSE_DRILL, VERSION, WAIT, WORKERS,
 };
 use clap::Command;
 use std::alloc::{AllocError, Global};
@@ -26,7 +28,7 @@ const PROGRAM: Word = Word {
     arguments: &[VERSION, VERBOSE],
 };
 
-const WORDS: [Word; 6] = [
+const WORDS: [Word; 7] = [
     Word {
         name: "serve",
         about: "Serves one planner's session from standard input to standard output",
@@ -100,6 +102,23 @@ const WORDS: [Word; 6] = [
             PATHS,
             AT,
             SHOWN,
+            SOLVES_OF_A_PICTURE,
+            VERBOSE,
+        ],
+    },
+    Word {
+        name: "page",
+        about: "Prints a page that plays plans in a browser, with all that the report of them lists",
+        help: PAGE_HELP,
+        arguments: &[
+            MAP,
+            SCEN,
+            AGENTS_OF_A_PICTURE,
+            MODE,
+            JOURNAL_OF_A_PICTURE,
+            PATHS,
+            SOLVES,
+            TITLE,
             VERBOSE,
         ],
     },

@@ -22,8 +22,8 @@ pub(crate) const PROGRAM_HELP: &str = "\
 serve answers a planner's lines, one by one; audit makes a report from scratch, in threads; drill
 runs planners' scripts at once over one shared desk, and audits what they leave; host shares a desk
 among planners that are programs of their own; check gives a verdict on the paths that a solver
-wrote; draw makes a picture for a browser. With no words, mapf_desk is mapf_desk serve: a map stands
-first on standard input, and a session follows it.
+wrote; draw makes a picture for a browser, and page a page that plays the plans there. With no words,
+mapf_desk is mapf_desk serve: a map stands first on standard input, and a session follows it.
 
 Three lines of a session, and what they are answered:
   agent 0 0,0 2,0            version 1
@@ -118,13 +118,26 @@ pub(crate) const DRAW_HELP: &str = "\
 The picture is one SVG on standard output, of the scene that audit makes of a journal, or check of a
 solver's paths. Each conflict and each visit to a closed cell that the report lists is marked where
 it is, and the mark's title is the report's line. Without --at the agents move, 0.4 seconds a step,
-and each conflict lights up at its time. With --agents-shown the other agents and their paths aren't
-drawn; what the report lists is marked all the same.
+and each conflict is lit for the step of its time. With --agents-shown the other agents and their
+paths aren't drawn; what the report lists is marked all the same. With --solves the heading has the
+colour of the verdict that check gives for these kinds.
 
 Statuses: 0 done; 2 a fault, told on standard error.
 
 Example:
   mapf_desk draw --map demo/corridor.map --paths demo/corridor.paths > corridor.svg";
+
+pub(crate) const PAGE_HELP: &str = "\
+The page is one HTML file on standard output, which loads nothing: of the scene that audit makes of a
+journal, or check of a solver's paths, and of its report. In a browser it plays the plans, steps and
+zooms; a click on a line of the report goes to its time and place, and one on an agent shows its path
+and what it meets. The verdict is that of check for the kinds of --solves; conflicts of other kinds
+are shown where they are asked for there.
+
+Statuses: 0 done; 2 a fault, told on standard error.
+
+Example:
+  mapf_desk page --map demo/corridor.map --paths demo/corridor.meeting > corridor.html";
 
 /// What is said of a range of agents that is none.
 pub(crate) const RANGE_MISTAKE: &str =

@@ -6,6 +6,7 @@ mod commands;
 mod helping;
 mod mistakes;
 mod options;
+mod pages;
 mod ranges;
 mod reading;
 mod values;
@@ -14,5 +15,5 @@ mod words;
 pub use helping::{SESSION_PROMPT, VERSION};
 pub use reading::read_words;
 pub use words::{
-    Asked, AuditWords, CheckWords, DrawWords, DrillWords, HostWords, ServeWords, Words,
+    Asked, AuditWords, CheckWords, DrawWords, DrillWords, HostWords, PageWords, ServeWords, Words,
 };

@@ -141,6 +141,19 @@ pub(crate) const SOLVES: Argument = Argument {
     ..FILE
 };
 
+/// Without kinds the heading's colour goes by all of them.
+pub(crate) const SOLVES_OF_A_PICTURE: Argument = Argument {
+    help: "The kinds of conflicts that the heading's colour goes by; all where none is named",
+    ..SOLVES
+};
+
+pub(crate) const TITLE: Argument = Argument {
+    name: "title",
+    value: Value::Text("T"),
+    help: "The page's title; the map's file where it isn't given",
+    ..FILE
+};
+
 pub(crate) const QUIET: Argument = Argument {
     name: "quiet",
     help: "Print how many conflicts of each kind there are, and no line for each",

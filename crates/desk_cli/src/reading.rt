@@ -6,8 +6,11 @@ ghost use Rattle.desk_cli.specs.Asked.{AsksFor, AsksToAudit, AsksToCheck, AsksTo
 
 use crate::commands::command;
 use crate::mistakes::{mistake_in, refused};
+use crate::pages::page_words;
 use crate::ranges::range_of;
-use crate::values::{form_given, kinds_given, mode_given, number_given, text_given, texts_given};
+use crate::values::{
+    form_given, kinds_asked, kinds_given, mode_given, number_given, text_given, texts_given,
+};
 use crate::words::{
     Asked, AuditWords, CheckWords, DrawWords, DrillWords, HostWords, ServeWords, Words,
 };
@@ -114,6 +117,7 @@ fn draw_words(matches: &ArgMatches<'static>) -> DrawWords
         paths: matches.get_str("paths"),
         at: number_given(matches, "at"),
         shown: range_of(text_given(matches, "agents-shown")),
+        kinds: kinds_asked(matches),
     }
 }
 
@@ -144,6 +148,8 @@ fn named_words(alloc: Global, name: &str, inner: &ArgMatches<'static>) -> Result
         Ok(Words::Check(check_words(inner)))
     } else if name == "draw" {
         Ok(Words::Draw(draw_words(inner)))
+    } else if name == "page" {
+        Ok(Words::Page(page_words(inner)))
     } else if name == "audit" {
         Ok(Words::Audit(audit_words(inner)))
     } else {

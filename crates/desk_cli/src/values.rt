@@ -120,6 +120,16 @@ fn named_kinds(words: &[&str]) -> Kinds
     }
 }
 
+/// The kinds of conflicts that an option names, where it stands.
+pub(crate) fn kinds_asked(matches: &ArgMatches<'static>) -> Option<Kinds>
+    ensures { result ≡ option_map named_kinds (option_map raw_values (matched_of (found_of matches.now) (codes "solves"))) }
+{
+    match matches.get_strs("solves") {
+        Some(named) => Some(named_kinds(named)),
+        None => None,
+    }
+}
+
 /// The kinds of conflicts that count.
 pub(crate) fn kinds_given(matches: &ArgMatches<'static>) -> Kinds
     ensures { result ≡ kinds_named (option_map raw_values (matched_of (found_of matches.now) (codes "solves"))) }

@@ -17,6 +17,7 @@ pub enum Words {
     Host(HostWords),
     Check(CheckWords),
     Draw(DrawWords),
+    Page(PageWords),
 }
 
 /// The words of `serve`.
@@ -123,6 +124,26 @@ pub struct DrawWords {
     pub at: Option<u32>,
     /// The least and the greatest of the agents that are drawn.
     pub shown: Option<(Agent, Agent)>,
+    /// The conflicts that the heading's colour goes by, if they are named.
+    pub kinds: Option<Kinds>,
+}
+
+/// The words of `page`.
+#[derive(Drop)]
+pub struct PageWords {
+    pub map: &'static str,
+    pub scen: Option<&'static str>,
+    /// How many agents the scenario gives, 0 to 8,192; without it, as many as there are paths.
+    pub agents: Option<u32>,
+    pub mode: Mode,
+    /// The file of a journal that is committed first; none beside paths.
+    pub journal: Option<&'static str>,
+    /// The file of the paths; none beside a journal.
+    pub paths: Option<&'static str>,
+    /// The conflicts that count.
+    pub kinds: Kinds,
+    /// The page's title; without it, the map's file.
+    pub title: Option<&'static str>,
 }
 
 /// What the words come to.

@@ -35,9 +35,9 @@ opening_text symbol spot = joined (codes "<use href='#" ∷ symbol ∷ codes "' 
 unfoldable pub mark_text : Fleet → Conflict → List ℕ
 mark_text fleet entry = opening_text (symbol_of entry) (spot_of fleet entry) ++ entry_line entry ++ codes "</title></use>"
 
--- the beginning of a group of marks of one time: in a moving picture they are lit from then on
+-- the beginning of a group of marks of one time: in a moving picture they are lit for the 0.4 seconds of its step
 abbrev pub group_text : Bool → Bool → ℕ → List ℕ
-group_text true lit time = joined (codes "<g><set attributeName='opacity' to='1' begin='" ∷ seconds_text time ∷ codes "s'/>\n" ∷ [])
+group_text true lit time = joined (codes "<g><set attributeName='opacity' to='1' begin='" ∷ seconds_text time ∷ codes "s' dur='0.4s'/>\n" ∷ [])
 group_text false true time = codes "<g class='lit'>\n"
 group_text false false time = codes "<g>\n"
 

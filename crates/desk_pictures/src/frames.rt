@@ -1,6 +1,7 @@
 ghost use Rattle.std.specs.Prelude.{◌≡◌};
 ghost use Rattle.desk_pictures.specs.Marks.{is_at, moves, class_text};
 
+use desk_report::Kinds;
 use grid_cells::{Agent, Step};
 
 /// What a picture shows of a scene.
@@ -11,6 +12,8 @@ pub struct Frame {
     /// The least and the greatest of the agents that are drawn; without them all are. The entries of
     /// the report are marked all the same.
     pub shown: Option<(Agent, Agent)>,
+    /// The kinds of conflicts that the heading's colour goes by; without them all kinds are.
+    pub kinds: Option<Kinds>,
 }
 
 impl Frame {

@@ -8,7 +8,7 @@ use crate::counts::{put_rows, put_totals};
 use crate::frames::Frame;
 use crate::pieces::{Piece, Written, put_filled, put_letters};
 use crate::sheet::Sheet;
-use desk_report::{Report, Sink};
+use desk_report::{Kinds, Report, Sink};
 use plan_table::{Mode, Plans};
 use scene_edits::Scene;
 
@@ -37,8 +37,25 @@ fn unfinished(report: &Report) -> u64 {
     lines.iter().filter(|line| !line.finished).count() as u64
 }
 
-// What is wrong, in one line.
-fn put_verdict<W: Sink>(sink: &mut W, report: &Report) -> Written
+const ALL_KINDS: Kinds = Kinds {
+    vertex: true,
+    edge: true,
+    follow: true,
+    swap: true,
+    cycle: true,
+};
+
+// The class of the heading: whether the plans solve the problem for the kinds.
+fn heading_class(report: &Report, kinds: Option<Kinds>) -> &'static [u8] {
+    if report.solves(kinds.unwrap_or(ALL_KINDS)) {
+        b"good"
+    } else {
+        b"bad"
+    }
+}
+
+// What is wrong, in two lines.
+fn put_verdict<W: Sink>(sink: &mut W, report: &Report, kinds: Option<Kinds>) -> Written
     ensures ok { OnOk result (Grows (W.held sink.old) (W.held sink.new)) }
     ensures broken { W.broken sink.new ≡ (W.broken sink.old || is_err result) }
 {
@@ -51,12 +68,15 @@ fn put_verdict<W: Sink>(sink: &mut W, report: &Report) -> Written
             b"<text class='good' y='60'>no conflicts, all at their goals</text>\n",
         );
     }
+    let class = heading_class(report, kinds);
     put_filled(
         sink,
-        b"<text class='bad' y='60'>conflicts: ~, blocked: ~</text><text class='bad' y='86'>not at their goals: ~</text>\n",
+        b"<text class='~' y='60'>conflicts: ~, blocked: ~</text><text class='~' y='86'>not at their goals: ~</text>\n",
         &[
+            Piece::Text(class),
             Piece::Number(conflicts),
             Piece::Number(blocked),
+            Piece::Text(class),
             Piece::Number(unfinished),
         ],
     )
@@ -142,7 +162,7 @@ pub(crate) fn put_legend<W: Sink>(
         &[Piece::Number(u64::from(sheet.across) + 64)],
     )?;
     put_scene(sink, b"<text class='head' y='22'>", scene, b"</text>\n")?;
-    put_verdict(sink, report)?;
+    put_verdict(sink, report, frame.kinds)?;
     put_time(sink, frame, scene.plans())?;
     put_rows(sink, report)?;
     put_totals(sink, report)?;

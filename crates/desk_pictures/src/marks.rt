@@ -42,7 +42,7 @@ fn put_mark<W: Sink>(sink: &mut W, scene: &Scene, entry: &Conflict) -> Written
     put_all(sink, b"</title></use>")
 }
 
-// The beginning of a group of marks of the time. In a moving picture they are lit from then on.
+// The beginning of a group of marks of the time. In a moving picture they are lit for a step.
 fn put_group<W: Sink>(sink: &mut W, moving: bool, lit: bool, time: Step) -> Written
     ensures ok { OnOk result (Appends (W.held sink.old) (W.held sink.new) (group_text moving lit time)) }
     ensures broken { W.broken sink.new ≡ (W.broken sink.old || is_err result) }
@@ -56,7 +56,7 @@ fn put_group<W: Sink>(sink: &mut W, moving: bool, lit: bool, time: Step) -> Writ
     let pieces = [
         Piece::Text(b"<g><set attributeName='opacity' to='1' begin='"),
         Piece::Seconds(time.number()),
-        Piece::Text(b"s'/>\n"),
+        Piece::Text(b"s' dur='0.4s'/>\n"),
     ];
     put_pieces(sink, &pieces)
 }

@@ -45,7 +45,7 @@ fn put_corners<W: Sink>(sink: &mut W, scene: &Scene, ring: &[Agent], time: Step)
     Ok(())
 }
 
-// The end of a ring's line: in a moving picture it is lit from its time on.
+// The end of a ring's line: in a moving picture it is lit for the step of its time.
 fn put_end<W: Sink>(sink: &mut W, frame: &Frame, time: Step) -> Written
     ensures ok { OnOk result (Grows (W.held sink.old) (W.held sink.new)) }
     ensures broken { W.broken sink.new ≡ (W.broken sink.old || is_err result) }
@@ -58,7 +58,7 @@ fn put_end<W: Sink>(sink: &mut W, frame: &Frame, time: Step) -> Written
     }
     put_filled(
         sink,
-        b"z'><set attributeName='opacity' to='1' begin='~s'/></path>\n",
+        b"z'><set attributeName='opacity' to='1' begin='~s' dur='0.4s'/></path>\n",
         &[Piece::Seconds(time.number())],
     )
 }

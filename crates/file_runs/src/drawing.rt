@@ -2,7 +2,7 @@
 ghost use Rattle.std.specs.Prelude.{◌≡◌, [], IfErr, OnOk, unwrap_or};
 ghost use Rattle.single_runs.specs.Draws.{Draws, FailsDraw};
 ghost use Rattle.solver_check.specs.Opens.{bytes_of};
-ghost use Rattle.file_runs.specs.Words.{courses_of};
+ghost use Rattle.file_runs.specs.Words.{courses_in, courses_of};
 
 use crate::faults::ProgramFault;
 use desk_cli::DrawWords;
@@ -20,14 +20,14 @@ use std::sync::Wait;
 use std::thread::Threads;
 
 /// How many threads make the report.
-const WORKERS: u32 = 4;
+pub(crate) const WORKERS: u32 = 4;
 
-// The text that tells where agents go, by the word that names its file.
-fn courses_of<'t>(words: &DrawWords, text: Option<&'t [u8]>) -> Courses<'t>
-    ensures { result ≡ courses_of words.now text.entry }
+/// The text that tells where agents go: a solver's paths where these are named, and else a journal.
+pub(crate) fn courses_of<'t>(paths: Option<&'static str>, text: Option<&'t [u8]>) -> Courses<'t>
+    ensures { result ≡ courses_in paths text.entry }
 {
     match text {
-        Some(paths) if words.paths.is_some() => Courses::Solver(paths),
+        Some(text) if paths.is_some() => Courses::Solver(text),
         journal => Courses::Journal(journal),
     }
 }
@@ -93,17 +93,19 @@ fn draw_onto<T: Threads + Wait, W: Sink>(
 {
     let frame = frame_of(words);
     let problem = problem_of(texts, words.agents, words.mode);
-    let courses = courses_of(words, texts.journal);
+    let courses = courses_of(words.paths, texts.journal);
     run_draw(rt, alloc, problem, courses, &frame, WORKERS, writer)
 }
 
-// The time of the picture, and the agents in it.
+// The time of the picture, the agents in it, and the kinds that its heading goes by.
 fn frame_of(words: &DrawWords) -> Frame
     ensures at { result.at ≡ words.now.at }
     ensures shown { result.shown ≡ words.now.shown }
+    ensures kinds { result.kinds ≡ words.now.kinds }
 {
     Frame {
         at: words.at.map(Step::new),
         shown: words.shown,
+        kinds: words.kinds,
     }
 }

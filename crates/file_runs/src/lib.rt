@@ -1,4 +1,4 @@
-//! Runs over files: the words `serve`, `audit`, `check` and `draw`, what is saved of a desk, and the
+//! Runs over files: the words `serve`, `audit`, `check`, `draw` and `page`, what is saved of a desk, and the
 //! desk that planners are to share.
 #![tactic(auto)]
 
@@ -8,6 +8,7 @@ mod closing;
 mod drawing;
 mod faults;
 mod opening;
+mod paging;
 mod saving;
 mod serving;
 
@@ -16,5 +17,6 @@ pub use checking::check_files;
 pub use drawing::draw_files;
 pub use faults::ProgramFault;
 pub use opening::open_named;
+pub use paging::page_files;
 pub use saving::save_held;
 pub use serving::serve_streams;

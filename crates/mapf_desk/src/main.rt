@@ -1,5 +1,6 @@
 //! The program: a desk that serves a planner's session over files and standard streams, audits,
-//! drills planners that share it, checks the paths that a solver wrote, and draws pictures.
+//! drills planners that share it, checks the paths that a solver wrote, draws pictures, and makes pages
+//! that play plans.
 #![tactic(auto)]
 
 ghost use Rattle.std.specs.Prelude.{◌≡◌, ◌≢◌, ◌⊎◌, IfErr, IfOk};
@@ -13,7 +14,7 @@ mod statuses;
 use desk_cli::{Asked, VERSION, Words, read_words};
 use desk_io::{FAULT, More, tell, tell_more, tell_served};
 use drilling::drill_files;
-use file_runs::{ProgramFault, audit_files, check_files, draw_files, serve_streams};
+use file_runs::{ProgramFault, audit_files, check_files, draw_files, page_files, serve_streams};
 use hosting::host_files;
 use shared_runs::{Fault, RunFault};
 use statuses::{RunEnd, answered, status_of};
@@ -74,6 +75,10 @@ fn obey<
             Err(fault) => Err(fault),
         },
         Words::Draw(draw) => match draw_files(rt, draw, stages, more) {
+            Ok(()) => Ok(RunEnd::Yes),
+            Err(fault) => Err(fault),
+        },
+        Words::Page(page) => match page_files(rt, page, stages, more) {
             Ok(()) => Ok(RunEnd::Yes),
             Err(fault) => Err(fault),
         },
