@@ -155,7 +155,7 @@
   const state = {
     now: 0, step: 0, playing: false, speed: 4, loop: false, before: 0, toldAt: 0,
     kinds: new Set(SHOWN.filter(doesCount)), from: null, to: null, allPaths: false,
-    picked: null, chosen: null, listed: [], scale: 1, left: 0, top: 0,
+    picked: null, chosen: null, listed: [], rows: {}, scale: 1, left: 0, top: 0,
     isFitted: true, isStale: true, isDue: false, frames: 0, look: {}, ground: null,
   };
 
@@ -386,17 +386,18 @@
     pen.globalAlpha = 1;
   }
 
-  function useFont(weight, size, align) {
-    pen.font = weight + ' ' + size + 'px system-ui, sans-serif';
-    pen.textAlign = align;
-    pen.textBaseline = 'middle';
+  // Writes a text round a point of the map, so many pixels high.
+  function write(text, x, y, weight, pixels, colour) {
+    pen.setTransform(ratio(), 0, 0, ratio(), 0, 0);
+    Object.assign(pen, { font: weight + ' ' + pixels + 'px system-ui, sans-serif', textAlign: 'center', textBaseline: 'middle', fillStyle: colour });
+    pen.fillText(text, (x - state.left) * state.scale, (y - state.top) * state.scale);
+    useCells(pen);
   }
 
   // The agent's number on its body.
   function drawNumber(one) {
-    useFont(600, sizeOf(12, 0.36), 'center');
-    pen.fillStyle = state.look['t' + (one.agent.number % COLOURS)];
-    pen.fillText(String(one.agent.number), one.spot[0] + 0.5, one.spot[1] + 0.53);
+    const colour = state.look['t' + (one.agent.number % COLOURS)];
+    write(String(one.agent.number), one.spot[0] + 0.5, one.spot[1] + 0.53, 600, Math.max(12, 0.36 * state.scale), colour);
   }
 
   // A thin line from each agent that rests away from its goal to that goal.
@@ -443,16 +444,15 @@
     const isNear = (other) => Math.abs(other.spot[0] - one.spot[0]) < 1 && Math.abs(other.spot[1] - one.spot[1]) < 1;
     const above = marked.slice(0, index).filter(isNear).length;
     const size = sizeOf(13, 0.3);
-    useFont(700, size, 'left');
     const text = String(one.agent.number);
+    const across = (text.length * 0.62 + 0.5) * size;
     const x = one.spot[0] + 0.5 + sizeOf(9, 0.55);
     const y = one.spot[1] + 0.5 - sizeOf(8, 0.45) - above * size * 1.4;
     pen.beginPath();
-    pen.rect(x - size * 0.25, y - size * 0.65, pen.measureText(text).width + size * 0.5, size * 1.3);
+    pen.rect(x, y - size * 0.65, across, size * 1.3);
     fill(state.look.panel);
     stroke(pen, colourOf(one.agent), 2, 0);
-    pen.fillStyle = state.look.ink;
-    pen.fillText(text, x, y);
+    write(text, x + across / 2, y, 700, size * state.scale, state.look.ink);
   }
 
   // The middle of a finding's cells.
@@ -527,10 +527,8 @@
   }
 
   function redraw() {
-    if (!state.isDue) {
-      state.isDue = true;
-      requestAnimationFrame(tick);
-    }
+    if (!state.isDue) { requestAnimationFrame(tick); }
+    state.isDue = true;
   }
 
   // ---- Time ----
@@ -620,29 +618,31 @@
   }
 
   function rowOf(finding, index) {
-    const isNow = finding.time === state.step && finding.kind !== 'unfinished';
-    const isChosen = finding === state.chosen;
-    const row = make('div', { className: 'row' + (isNow ? ' now' : '') + (isChosen ? ' chosen' : ''), id: 'row-' + index, title: finding.line },
-      make('i', {}, 't ' + finding.time), make('i', {}, NAMES[finding.kind] || finding.kind), rowText(finding));
-    const told = { role: 'option', 'aria-selected': isChosen, 'aria-posinset': index + 1, 'aria-setsize': state.listed.length };
-    Object.keys(told).forEach((name) => row.setAttribute(name, told[name]));
-    row.style.top = index * ROW + 'px';
-    row.addEventListener('click', () => chooseFinding(finding));
+    const fields = { id: 'row-' + index, title: finding.line, style: 'top:' + index * ROW + 'px', onclick: () => chooseFinding(finding) };
+    const row = make('div', fields, make('i', {}, 't ' + finding.time), make('i', {}, NAMES[finding.kind] || finding.kind), rowText(finding));
+    const told = { role: 'option', 'aria-posinset': index + 1, 'aria-setsize': state.listed.length };
+    Object.entries(told).forEach((pair) => row.setAttribute(...pair));
     return row;
   }
 
-  // The rows of the list that are in sight.
+  function markRow(row, finding) {
+    const isNow = finding.time === state.step && finding.kind !== 'unfinished';
+    row.className = 'row' + (isNow ? ' now' : '') + (finding === state.chosen ? ' chosen' : '');
+    row.setAttribute('aria-selected', finding === state.chosen);
+  }
+
+  // The rows of the list that are in sight, made anew where they aren't those of before.
   function tellRows() {
     const list = element('list');
     const from = Math.max(0, Math.floor(list.scrollTop / ROW) - 4);
-    const to = Math.min(state.listed.length, from + Math.ceil(list.clientHeight / ROW) + 8);
-    const rows = [];
-    for (let index = from; index < to; index += 1) { rows.push(rowOf(state.listed[index], index)); }
-    element('rows').replaceChildren(...rows);
-    const at = state.chosen === null ? -1 : state.listed.indexOf(state.chosen);
-    if (at >= from && at < to) {
-      list.setAttribute('aria-activedescendant', 'row-' + at);
-    } else { list.removeAttribute('aria-activedescendant'); }
+    const shown = state.listed.slice(from, from + Math.ceil(list.clientHeight / ROW) + 8);
+    if (state.rows.from !== from || state.rows.listed !== state.listed || state.rows.many !== shown.length) {
+      state.rows = { from, listed: state.listed, many: shown.length };
+      element('rows').replaceChildren(...shown.map((finding, index) => rowOf(finding, from + index)));
+    }
+    Array.from(element('rows').children).forEach((row, index) => markRow(row, shown[index]));
+    const at = shown.indexOf(state.chosen);
+    list.setAttribute('aria-activedescendant', at < 0 ? '' : 'row-' + (from + at));
   }
 
   // Goes to the finding's time and cell, and marks who is in it.
@@ -803,7 +803,7 @@
   function fieldOf(id) { return element(id).value === '' ? null : Number(element(id).value); }
 
   // Does it where the field's value changes.
-  function onChange(id, act) { element(id).addEventListener('input', act); }
+  function onChange(id, act) { ['input', 'change'].forEach((kind) => element(id).addEventListener(kind, act)); }
 
   function pickByNumber() {
     const number = fieldOf('agent');
