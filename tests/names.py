@@ -16,8 +16,8 @@ from pathlib import Path
 sys.dont_write_bytecode = True
 
 import switch
-import wrong_bodies
 from program import TOPICS
+from wrong_body import BY_TESTS, refused_by_proofs, refused_by_tests
 from wrong_functions import libraries
 
 HERE = Path(__file__).resolve().parent
@@ -55,15 +55,12 @@ def stands(name, names):
 
 
 def planted():
-    """The texts that wrong bodies plant in libraries, each with its crate and the wrong body's name; those in the program may name all below it."""
-    for path in own_files("*/must-fail/*.edit"):
-        for line in path.read_text().splitlines():
-            if line.startswith("new: "):
-                yield path.parts[-3], path.stem, line
-    for name, file, _, text, _ in [*wrong_bodies.BODIES, *wrong_bodies.READERS]:
-        for crate in (switch.RUNS, switch.FILES, switch.SAVES, switch.READERS):
-            if (CRATES / crate / "src" / file).exists():
-                yield crate, name, text
+    """The texts that wrong bodies plant, each with its crate and the wrong body's name; the program's main crate may name all below it."""
+    for crate in sorted(CRATES.iterdir()):
+        tested = refused_by_tests(crate.name) if crate.name != switch.PROGRAM else []
+        for body in [*refused_by_proofs(crate), *tested]:
+            for _, _, text in body.pairs:
+                yield crate.name, body.name, text
 
 
 def foreign():
@@ -76,15 +73,16 @@ def foreign():
 
 
 def lost():
-    """What is said of wrong bodies of the program, and of readers of words, whose text doesn't stand once in their file."""
-    for name, file, text, _, _ in [*wrong_bodies.BODIES, *wrong_bodies.READERS]:
-        for crate in (switch.PROGRAM, switch.RUNS, switch.FILES, switch.SAVES, switch.READERS):
-            path = CRATES / crate / "src" / file
-            if path.exists():
-                try:
-                    switch.place(path.read_text(), text, file)
-                except ValueError as why:
-                    yield f"{name}: {why}"
+    """What is said of wrong bodies that tests refuse whose text doesn't stand once in their file, or that stand where none is planted."""
+    for path in own_files(f"*/{BY_TESTS}/*.edit"):
+        if path.parts[-4] not in switch.CRATES:
+            yield f"{path.stem} stands in {path.parts[-4]}, where tests try none"
+    for body in refused_by_tests(*switch.CRATES):
+        for file, text, _ in body.pairs:
+            try:
+                switch.place((CRATES / body.crate / file).read_text(), text, file)
+            except ValueError as why:
+                yield f"{body.name}: {why}"
 
 
 def main():

@@ -8,6 +8,7 @@ from pathlib import Path
 
 from functions import functions_of, without_bodies
 from twins import Twin, twin_of
+from wrong_body import refused_by_proofs
 
 PARTS = ("src", "specs", "proofs")
 # (one hole for all: the checker prints the goal of each)
@@ -21,21 +22,10 @@ pub {name}_spec : {{M : Type 1}} → statement M
 
 
 class Edit:
-    """A wrong body: a file of must-fail, with what it changes. Where that is no function, a line 'refused at: ' names one."""
+    """A wrong body that the checker refuses, with the functions that it changes."""
 
-    def __init__(self, file):
-        self.name, self.pairs, self.paths, path, old = file.stem, [], [], None, None
-        for line in file.read_text().split("\n"):
-            if line.startswith("file: "):
-                path = line.removeprefix("file: ").strip()
-            elif line.startswith("refused at: "):
-                self.paths.append(tuple(line.removeprefix("refused at: ").split("::")))
-            elif line.startswith("old: "):
-                old = line.removeprefix("old: ")
-            elif line.startswith("new:"):
-                self.pairs.append((path, old, line.removeprefix("new:").removeprefix(" ")))
-        if not self.pairs or not all(it[0] and it[0].startswith("src/") and it[1] for it in self.pairs):
-            raise SystemExit(f"{file}: a wrong body changes a file of src/, by lines 'file: ', 'old: ' and 'new: '")
+    def __init__(self, body):
+        self.name, self.pairs, self.paths = body.name, body.pairs, list(body.places)
 
     def find(self, texts, functions):
         """Finds the functions that it changes, and whether it changes functions alone; then others may stand beside it."""
@@ -137,11 +127,11 @@ def rounds_of(folder):
     """Copies of the crate in that folder, which hold all its wrong bodies."""
     texts = {str(it.relative_to(folder)): it.read_text() for it in sorted(folder.glob("src/**/*.rt"))}
     functions, copies = functions_of(folder), []
-    for file in sorted(folder.glob("must-fail/*.edit")):
-        edit = Edit(file)
+    for body in refused_by_proofs(folder):
+        edit = Edit(body)
         edit.find(texts, functions)
         if edit.changed(texts) is None or not edit.paths:
-            raise SystemExit(f"{file}: an old text doesn't stand in its file once, or in no function, and no line 'refused at: ' names one")
+            raise SystemExit(f"{folder.name}/{body.name}: an old text doesn't stand in its file once, or in no function, and no line 'refused at: ' names one")
         if not any(it.take(edit) for it in copies):
             copies.append(Copy(folder, texts, functions))
             copies[-1].take(edit)

@@ -10,8 +10,12 @@ import subprocess
 import tempfile
 import time
 
+from wrong_body import refused_by_tests
+
 TOP = os.path.dirname(os.path.dirname(os.path.abspath(__file__)))
-PROGRAM, RUNS, FILES, SAVES, READERS = "mapf_desk", "file_runs", "desk_io", "atomic_save", "desk_cli"
+PROGRAM, READERS = "mapf_desk", "desk_cli"
+# The crates that have wrong bodies which tests refuse, the program and what stands below it.
+CRATES = (PROGRAM, "file_runs", "desk_io", "atomic_save", READERS)
 WRONG, TOLD = "MAPF_DESK_WRONG", "MAPF_DESK_TOLD"
 BEGIN, END = "‹", "›"
 
@@ -70,8 +74,9 @@ def place(text, old, file):
 def planted(text, bodies, file):
     """The text with the wrong bodies, each behind its switch; those of one place stand one behind the other."""
     places = {}
-    for name, _, old, new, _ in bodies:
-        places.setdefault(place(text, old, file), []).append((name, new))
+    for body in bodies:
+        for _, old, new in body.pairs:
+            places.setdefault(place(text, old, file), []).append((body.name, new))
     end = len(text)
     for (at, to), wrong in sorted(places.items(), reverse=True):
         if to > end:
@@ -81,15 +86,14 @@ def planted(text, bodies, file):
     return text
 
 
-def plant(top, crate, root, bodies):
-    """Plants in a crate the wrong bodies of its files; its root file gets the module of the switch."""
-    source = f"{top}/crates/{crate}/src"
-    bodies = [it for it in bodies if os.path.exists(f"{source}/{it[1]}")]
-    for file in sorted({it[1] for it in bodies}):
-        write(f"{source}/{file}", planted(read(f"{source}/{file}"), [it for it in bodies if it[1] == file], file))
-    write(f"{source}/switch.rt", SWITCH)
-    text = read(f"{source}/{root}")
-    write(f"{source}/{root}", text.replace("\nmod ", "\nmod switch;\nmod ", 1))
+def plant(top, crate):
+    """Plants in a crate the wrong bodies that tests refuse; its root file gets the module of the switch."""
+    folder, bodies = f"{top}/crates/{crate}", refused_by_tests(crate)
+    for file in sorted({path for it in bodies for path, _, _ in it.pairs}):
+        write(f"{folder}/{file}", planted(read(f"{folder}/{file}"), [it for it in bodies if it.pairs[0][0] == file], file))
+    write(f"{folder}/src/switch.rt", SWITCH)
+    root = f"{folder}/src/{'main' if crate == PROGRAM else 'lib'}.rt"
+    write(root, read(root).replace("\nmod ", "\nmod switch;\nmod ", 1))
 
 
 def copy(top):
@@ -98,7 +102,7 @@ def copy(top):
     shutil.copytree(f"{TOP}/crates", f"{top}/crates", ignore=skip)
     shutil.copy2(f"{TOP}/HANDLES", top)
     lines = read(f"{TOP}/crates.txt").splitlines()
-    write(f"{top}/crates.txt", "".join(f"{it} os\n" if it.split(":")[0] in (PROGRAM, RUNS, FILES, SAVES, READERS) else f"{it}\n" for it in lines))
+    write(f"{top}/crates.txt", "".join(f"{it} os\n" if it.split(":")[0] in CRATES else f"{it}\n" for it in lines))
     source = f"{top}/crates/{PROGRAM}/src"
     shutil.copy2(f"{top}/crates/demo_texts/src/telling.rt", f"{source}/read_as.rt")
     text = read(f"{source}/main.rt")

@@ -1,7 +1,7 @@
 #!/usr/bin/env python3
 """Runs wrong bodies of the program, each with the test that is to refuse it: a test of tests/program.py, or a line of words.
 
-wrong_programs.py [NAME..]     all of wrong_bodies.py, or those
+wrong_programs.py [NAME..]     all of crates/*/must-fail/by-tests, or those
 All stand in one build that isn't proved, each behind a switch (switch.py). The right program, which is that build with
 no switch on, has to pass the same tests; each wrong one has to fail at its own.
 The last line is 'N passed, M failed'; status 1 where one failed.
@@ -15,7 +15,7 @@ import time
 sys.dont_write_bytecode = True
 
 import switch
-from wrong_bodies import BODIES, READERS
+from wrong_body import refused_by_tests
 
 PATIENCE = "20"  # seconds that one run of the program may take
 
@@ -37,34 +37,35 @@ def told(program, line, wrong=""):
 
 def right_program(program, bodies):
     """The tests that the right program fails, each with why."""
-    for test in dict.fromkeys(it[4] for it in bodies):
+    for test in dict.fromkeys(it.test for it in bodies):
         last, said = tried(program, [test])
         yield f"the right program at {test}", "passes", None if last == "1 passed, 0 failed" else said or last
 
 
 def wrong_programs(program, bodies):
-    for name, _, _, _, test in bodies:
-        last, said = tried(program, [test], name)
-        yield name, f"refused by {test}", None if last == "0 passed, 1 failed" else f"{test} says {last} {said}"
+    for it in bodies:
+        last, said = tried(program, [it.test], it.name)
+        yield it.name, f"refused by {it.test}", None if last == "0 passed, 1 failed" else f"{it.test} says {last} {said}"
 
 
 def wrong_readers(program, readers):
     lines = switch.read(f"{switch.TOP}/tests/words.txt").splitlines()
-    for name, _, _, _, line in readers:
-        words, _, rest = line.partition(" => ")
+    for it in readers:
+        words, _, rest = it.test.partition(" => ")
         wrong, _, right = rest.partition(", and not ")
-        found = told(program, words), told(program, words, name), f"{words} => {right}" in lines
-        yield name, f"refused by {words!r}", None if found == (right, wrong, True) else f"{words!r} is told as {found}"
+        found = told(program, words), told(program, words, it.name), f"{words} => {right}" in lines
+        yield it.name, f"refused by {words!r}", None if found == (right, wrong, True) else f"{words!r} is told as {found}"
 
 
 def outcomes(names):
     """Builds the wrong bodies, and gives for each what was tried, its end, and why it is another, if it is."""
-    bodies, readers = ([it for it in table if not names or it[0] in names] for table in (BODIES, READERS))
+    wanted = [it for it in refused_by_tests(*switch.CRATES) if not names or it.name in names]
+    readers = [it for it in wanted if it.crate == switch.READERS]
+    bodies = [it for it in wanted if it.crate != switch.READERS]
     with tempfile.TemporaryDirectory(prefix="desk-") as top:
         switch.copy(top)
-        for crate, root in ((switch.PROGRAM, "main.rt"), (switch.RUNS, "lib.rt"), (switch.FILES, "lib.rt"), (switch.SAVES, "lib.rt")):
-            switch.plant(top, crate, root, BODIES)
-        switch.plant(top, switch.READERS, "lib.rt", READERS)
+        for crate in switch.CRATES:
+            switch.plant(top, crate)
         program = f"{top}/program"
         why = switch.build(top, program)
         yield "the build", "made", why
