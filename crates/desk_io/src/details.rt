@@ -6,9 +6,10 @@ use crate::faulty_paths::{cells_of, ends_of};
 use bench_reader::{MapFault, ScenFault};
 use desk_commits::{Refusal, ReplayFault};
 use desk_report::Spout;
+use journal_text::{JournalFault, entry_text};
 use path_files::{Form, PathsFault};
 use plan_table::Mode;
-use session_protocol::{JournalFault, entry_text, put_refusal};
+use session_protocol::put_refusal;
 use solver_check::{CheckFault, Problem, RunFault, letter_of};
 use std::alloc::{AllocError, Global};
 

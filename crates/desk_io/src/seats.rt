@@ -3,8 +3,10 @@ ghost use Rattle.std.specs.Prelude.{None};
 ghost use Rattle.solver_check.specs.Seats.{Sits};
 
 use crate::doors::{Doors, Stage};
+use crate::patience::Patient;
 use crate::prompting::Prompting;
 use crate::sittings::sit_between;
+use crate::steady::Steady;
 use desk_cli::SESSION_PROMPT;
 use desk_commits::Counter;
 use session_protocol::ServeFault;
@@ -13,6 +15,7 @@ use std::alloc::{AllocError, Global};
 use std::fs::OpenOptions;
 use std::io;
 use std::io::IsTerminal;
+use std::rt::Stderr;
 use std::sync::Wait;
 
 /// The seats of the operator, 0, and of the planners from 1 on.
@@ -47,15 +50,22 @@ impl<'a> Pipes<'a> {
         })
     }
 
+    // What is told goes to standard error.
+    pub(crate) fn errors(&self) -> Steady<'_, HostRuntime, Stderr> {
+        Steady::new(self.host, self.host.stderr())
+    }
+
     // Serves the operator.
     fn operate<C: Counter>(&self, alloc: Global, counter: &mut C) -> Outcome
         ensures { Sits C.counting None counter.old counter.new result }
     {
+        let errors = self.errors();
         // (lent, since standard input has its buffer in itself)
         let mut reader = self.host.reader();
         let typed = self.host.stdin().is_terminal();
-        let input = Prompting::new(self.host, &mut reader, typed, SESSION_PROMPT);
-        let output = io::writer(self.host);
+        let prompting = Prompting::new(&errors, &mut reader, typed, SESSION_PROMPT);
+        let input = Patient::new(self.host, prompting);
+        let output = Patient::new(self.host, io::writer(self.host));
         let ended = sit_between(alloc, counter, input, output, false);
         self.tell("operator", &ended);
         ended
@@ -90,27 +100,28 @@ impl<'a> Pipes<'a> {
             return Err(SeatFault::NeverCame);
         }
         if self.stages {
-            let _told = eprintln!(self.host; "mapf_desk: {}: has come", doors.name);
+            let _told = eprintln!(self.errors(); "mapf_desk: {}: has come", doors.name);
         }
         sit_between(alloc, counter, input, output, true)
     }
 
     // Tells how a session ended: its fault, and how many lines it had where that is wanted.
     fn tell(&self, name: &str, ended: &Outcome) {
+        let errors = self.errors();
         match ended {
             Err(SeatFault::Session(ServeFault::ReadFailed, None)) => {
-                let _told = eprintln!(self.host; "mapf_desk: {name}: ended within a line");
+                let _told = eprintln!(errors; "mapf_desk: {name}: ended within a line");
             }
             Err(SeatFault::Session(fault, Some(why))) => {
-                let _told = eprintln!(self.host; "mapf_desk: {name}: {fault}: {why}");
+                let _told = eprintln!(errors; "mapf_desk: {name}: {fault}: {why}");
             }
             Err(fault) => {
-                let _told = eprintln!(self.host; "mapf_desk: {name}: {fault}");
+                let _told = eprintln!(errors; "mapf_desk: {name}: {fault}");
             }
             Ok(lines) => {
                 if self.stages {
                     let what = if *lines == 1 { "line" } else { "lines" };
-                    let _told = eprintln!(self.host; "mapf_desk: {name}: {lines} {what}");
+                    let _told = eprintln!(errors; "mapf_desk: {name}: {lines} {what}");
                 }
             }
         }

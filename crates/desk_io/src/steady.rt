@@ -9,7 +9,7 @@ use std::time::Clock;
 
 /// A runtime, beside its standard error. What is printed goes out in one piece, where there is memory
 /// for that.
-#[derive(Drop)]
+#[derive(Clone, Drop)]
 pub struct Steady<'a, R, E> {
     pub(crate) rt: &'a R,
     errors: E,

@@ -26,7 +26,7 @@ impl Pipes<'_> {
         }
         for doors in &self.doors {
             if doors.is_awaited(rt) {
-                let _told = eprintln!(self.host; "mapf_desk: {}: hasn't come yet", doors.name);
+                let _told = eprintln!(self.errors(); "mapf_desk: {}: hasn't come yet", doors.name);
             }
         }
     }
