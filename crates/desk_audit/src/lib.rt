@@ -3,12 +3,14 @@
 
 mod adding;
 mod audits;
+mod bounds;
 mod entries;
 mod faults;
 mod gates;
 mod lines;
 mod movers;
 mod parts;
+mod piece_bounds;
 mod sightings;
 mod tables;
 mod threads;

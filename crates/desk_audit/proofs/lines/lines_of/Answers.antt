@@ -11,6 +11,7 @@ loop-rank-preserved c =
     record {
       long = c.in_ok-bound.ensures.len ∙ c.loop-rank.invariant.long;
       bounds = c.in_ok-bound.ensures.bounds;
+      room = c.in_ok-bound.ensures.room;
       lines = rw (c.in_ok-push.ensures.items, range_push c.args.plans.now.rows c.args.from c.loop-rank.rank entry (omega arith) c.entry_at-entry.ensures)
           (EachOf-push (IsLine c.args.grid.now) _ _ entry c.line.result c.loop-rank.invariant.lines (c.line.ensures (c.in_ok-bound.ensures.bound entry c.entry_at-entry.ensures)));
     }

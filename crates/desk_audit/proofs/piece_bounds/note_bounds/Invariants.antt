@@ -1,6 +1,6 @@
 use Rattle.std.proofs.Common.{◌≡◌, length}
 use Rattle.desk_audit.specs.Parts.{HasBounds}
-use Rattle.desk_audit.proofs.lines.note_bounds.Given as goal
+use Rattle.desk_audit.proofs.piece_bounds.note_bounds.Given as goal
 
 abbrev pub invariant-loop-rank : goal.invariant-loop-rank
 invariant-loop-rank l = record {

@@ -1,8 +1,8 @@
 use Rattle.std.proofs.Common.{◌≡◌, ◌+◌, ◌-◌, ℕ, ◌∙◌, arith}
 use Rattle.plan_table.proofs.Fleets.{row_here}
 use Rattle.desk_audit.proofs.Bounding.{bounds_set}
-use Rattle.desk_audit.proofs.lines.note_bounds.Goals as goal
-use Rattle.desk_audit.proofs.lines.note_bounds.Goals.{then-place-len+then-eq, then-place-len+else-eq, else-place-len}
+use Rattle.desk_audit.proofs.piece_bounds.note_bounds.Goals as goal
+use Rattle.desk_audit.proofs.piece_bounds.note_bounds.Goals.{then-place-len+then-eq, then-place-len+else-eq, else-place-len}
 
 pub bound_by-requires-clause-on_map : goal.bound_by-requires-clause-on_map
 bound_by-requires-clause-on_map c =
