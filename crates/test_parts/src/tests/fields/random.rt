@@ -1,10 +1,10 @@
-//! Random changes of small maps, and a breadth-first search after each.
+//! Random changes of small maps, and searches breadth-first and by A* after each.
 ghost use Rattle.std.specs.Prelude.{◌≡◌};
 ghost use Rattle.grid_cells.specs.Size.{Holds};
 
 use super::build::change;
-use crate::tests::build::{at, open_map};
-use goal_fields::{Field, PlainField};
+use crate::tests::build::open_map;
+use goal_fields::{AStar, Field, PlainField};
 use grid_cells::{Cell, Grid, Size};
 use std::alloc::Global;
 use std::process::Abort;
@@ -26,7 +26,20 @@ fn changes(before: Option<u32>, after: Option<u32>) -> u64 {
     u64::from(grew) + u64::from(came)
 }
 
-// Looks at all distances by breadth-first search, and adds up what has changed since those before, in
+// The distance by A*, which is the same the other way.
+fn searched(rt: &impl Abort, alloc: Global, grid: &Grid, start: Cell, goal: Cell) -> Option<u32>
+    requires start { Holds grid.now.size start }
+    requires goal { Holds grid.now.size goal }
+{
+    let mut search = AStar::new(alloc, grid).expect(rt, "memory");
+    let back = search.distance(goal, start).expect(rt, "memory");
+    let forth = search.distance(start, goal).expect(rt, "memory");
+    drop(search);
+    assert!(rt; back == forth);
+    forth
+}
+
+// Looks at all distances by breadth-first search and by A*, and adds up what has changed since those before, in
 // whose place it puts them.
 fn compare(
     rt: &impl Abort,
@@ -44,8 +57,9 @@ fn compare(
     let mut count = 0u64;
     for y in 0..size.height() {
         for x in 0..size.width() {
-            let cell = at(rt, x, y);
+            let cell = size.cell(x, y).expect(rt, "a cell");
             let distance = plain.distance(cell);
+            assert!(rt; searched(rt, alloc, grid, cell, goal) == distance);
             assert!(rt; field.distance(cell) == distance);
             let old = before.get(all.len()).copied().unwrap_or(None);
             count = count.saturating_add(changes(old, distance));
