@@ -24,7 +24,7 @@ pub(crate) const WORKERS: u32 = 4;
 
 /// The text that tells where agents go: a solver's paths where these are named, and else a journal.
 pub(crate) fn courses_of<'t>(paths: Option<&'static str>, text: Option<&'t [u8]>) -> Courses<'t>
-    ensures { result ≡ courses_in paths text.entry }
+    ensures { result ≡ courses_in paths.entry text.entry }
 {
     match text {
         Some(text) if paths.is_some() => Courses::Solver(text),
