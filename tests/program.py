@@ -12,15 +12,15 @@ import tempfile
 
 sys.dont_write_bytecode = True
 
-from processes import answers, arrivals, bounds, chances, checks, demos, drawing, drills, edited_maps, edited_paths, faults, faulty_edits, fleets, held_files
+from processes import answers, arrivals, bounds, chances, checks, demos, drawing, drills, edges, edited_maps, edited_paths, faults, faulty_edits, fleets, held_files
 from processes import growths, growths_of_hosts, growths_of_runs, hosting, journals, kills, lines, long_paths, map_texts, measured, memory, parts, paths
 from processes import pages, pictures, readings, saving, sessions, stepping, streams, telling, windows, words, worked
 from processes.running import PATIENCE, TOP, Program, Wrong, put
 from processes.texts import FILES
 
 TOPICS = (faults, words, answers, telling, map_texts, edited_maps, faulty_edits, parts, arrivals, sessions, journals, checks, paths, edited_paths,
-          long_paths, readings, fleets, measured, pictures, drawing, pages, hosting, windows, drills, chances, saving, held_files, kills, stepping, streams,
-          lines, memory,
+          long_paths, readings, fleets, measured, pictures, drawing, pages, hosting, edges, windows, drills, chances, saving, held_files, kills, stepping,
+          streams, lines, memory,
           growths, growths_of_hosts, growths_of_runs, bounds, demos, worked)
 
 

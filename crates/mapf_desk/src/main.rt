@@ -12,7 +12,7 @@ mod hosting;
 mod statuses;
 
 use desk_cli::{Asked, VERSION, Words, read_words};
-use desk_io::{FAULT, More, tell, tell_more, tell_served};
+use desk_io::{FAULT, More, Steady, fill_standard, tell, tell_more, tell_served};
 use drilling::drill_files;
 use file_runs::{ProgramFault, audit_files, check_files, draw_files, page_files, serve_streams};
 use hosting::host_files;
@@ -126,9 +126,13 @@ fn tell_unread<R: Eprint>(rt: &R, why: Error) -> ExitCode
     }
 }
 
-fn main(rt: HostRuntime) -> ExitCode {
-    let alloc = rt.alloc();
-    let given: Vec<String> = match env::args(&rt) {
+fn main(host: HostRuntime) -> ExitCode {
+    let rt = Steady::new(&host, host.stderr());
+    if let Err(why) = fill_standard(&host) {
+        return tell(&rt, why);
+    }
+    let alloc = host.alloc();
+    let given: Vec<String> = match env::args(&host) {
         Err(why) => return tell_unread(&rt, why),
         Ok(args) => match args.collect(alloc) {
             Err(_) => return tell(&rt, RunFault::OutOfMemory),
@@ -141,14 +145,8 @@ fn main(rt: HostRuntime) -> ExitCode {
         Asked::NoMemory => return tell(&rt, RunFault::OutOfMemory),
     };
     let mut more = More::none();
-    let status = match obey(
-        &rt,
-        &rt,
-        &words,
-        &mut more,
-        verbose,
-        rt.stderr().is_terminal(),
-    ) {
+    let terminal = host.stderr().is_terminal();
+    let status = match obey(&rt, &host, &words, &mut more, verbose, terminal) {
         Ok(end) => status_of(end),
         Err(fault) => tell_more(&rt, &fault, &more, verbose),
     };

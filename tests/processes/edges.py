@@ -1,0 +1,110 @@
+"""The edge to the system: descriptors that are closed, streams that don't wait."""
+import fcntl
+import os
+import subprocess
+import threading
+import time
+
+from .running import PATIENCE, Program, bytes_of, put, remove, start, want
+
+
+def with_files(names, given):
+    """Planners whose inputs are files of those lines."""
+    for name in names:
+        put(f"{name}.in", given)
+
+
+def without_files(names):
+    remove(*(f"{name}.{end}" for name in names for end in ("in", "out")))
+
+
+def closed_descriptors():
+    """Standard streams that are closed at the start are taken for /dev/null: no file gets the place of one."""
+    names = ["east", "west"]
+    for closed in ("<&-", "<&- >&-", "<&- >&- 2>&-", ">&-", "2>&-"):
+        with_files(names, b"version\nversion")
+        shell = f'exec "$0" host --map m --save kept {" ".join(names)} {closed}'
+        ran = subprocess.run(["sh", "-c", shell, Program.path], capture_output=True, stdin=subprocess.DEVNULL, timeout=PATIENCE)
+        want(f"the status with {closed}", ran.returncode, 2)
+        want(f"standard output with {closed}", ran.stdout, b"" if ">&-" in closed.replace("2>&-", "") else b"audit same\n")
+        faults = [] if "2>&-" in closed else [b"mapf_desk: %s: ended within a line" % name.encode() for name in names]
+        want(f"standard error with {closed}", sorted(ran.stderr.splitlines()), faults)
+        want(f"the answers with {closed}", [bytes_of(f"{name}.out") for name in names], [b"version 0\n"] * 2)
+        want(f"the journal with {closed}", bytes_of("kept"), b"journal 2\nmode stay\nend 0\n")
+        remove("kept")
+    without_files(names)
+
+
+def unwaiting(end):
+    """An end of a pipe at which nobody waits: what would wait is told so."""
+    fcntl.fcntl(end, fcntl.F_SETFL, fcntl.fcntl(end, fcntl.F_GETFL) | os.O_NONBLOCK)
+    return end
+
+
+def heard_slowly(end, heard, delay=0.2):
+    """Hears all that comes, from a while later on."""
+    time.sleep(delay)
+    while piece := os.read(end, 65536):
+        heard.append(piece)
+
+
+def streams_that_do_not_wait(words, given, status, out, err, input=unwaiting):
+    """Standard output and error that don't wait are waited for, and so is standard input, where it is one that doesn't."""
+    pipes = [os.pipe() for _ in range(3)]
+    (hears, feeds), outs, errs = pipes
+    process = start(words, stdin=input(hears), stdout=unwaiting(outs[1]), stderr=unwaiting(errs[1]))
+    for end in (hears, outs[1], errs[1]):
+        os.close(end)
+    said, complained = [], []
+    threads = [threading.Thread(target=heard_slowly, args=it) for it in ((outs[0], said), (errs[0], complained))]
+    for thread in threads:
+        thread.start()
+    time.sleep(0.1)
+    for at in range(0, len(given), 65536):
+        os.write(feeds, given[at : at + 65536])
+    os.close(feeds)
+    for thread in threads:
+        thread.join(PATIENCE)
+    want("the status", process.wait(PATIENCE), status)
+    want("standard output", b"".join(said), out)
+    want("standard error", b"".join(complained), err)
+    for end in (outs[0], errs[0]):
+        os.close(end)
+
+
+MANY = 30000  # lines whose answers fill a pipe some times over
+
+
+def serve_on_streams_that_do_not_wait():
+    streams_that_do_not_wait(["serve", "--map", "m"], b"version\n" * MANY, 0, b"version 0\n" * MANY, b"", input=lambda end: end)
+
+
+def host_on_streams_that_do_not_wait():
+    with_files(["east"], b"")
+    streams_that_do_not_wait(["host", "--map", "m", "east"], b"version\n" * MANY, 0, b"version 0\n" * MANY + b"audit same\n", b"")
+    without_files(["east"])
+
+
+def faults_on_an_error_stream_that_does_not_wait():
+    """What is told is told whole, though standard error is full for a while."""
+    hears, tells = os.pipe()
+    unwaiting(tells)
+    filled = 0
+    try:
+        while True:
+            filled += os.write(tells, b"." * 4096)
+    except BlockingIOError:
+        pass
+    process = start(["host", "--map", "m", "gone"], stdin=subprocess.DEVNULL, stderr=tells)
+    os.close(tells)
+    heard = []
+    heard_slowly(hears, heard)
+    os.close(hears)
+    want("standard error", b"".join(heard)[filled:], b"mapf_desk: gone: can't open its input: No such file or directory (os error 2)\n")
+    want("the end", (process.communicate(timeout=PATIENCE)[0], process.returncode), (b"audit same\n", 2))
+
+
+def tests():
+    for test in (closed_descriptors, serve_on_streams_that_do_not_wait, host_on_streams_that_do_not_wait,
+                 faults_on_an_error_stream_that_does_not_wait):
+        yield test.__name__, test
