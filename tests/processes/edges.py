@@ -41,7 +41,7 @@ def unwaiting(end):
     return end
 
 
-def heard_slowly(end, heard, delay=0.2):
+def heard_slowly(end, heard, delay=2):
     """Hears all that comes, from a while later on."""
     time.sleep(delay)
     while piece := os.read(end, 65536):
