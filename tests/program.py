@@ -1,5 +1,5 @@
 #!/usr/bin/env python3
-"""Runs the built program as its users do: words, files, pipes and devices. docs/FORMATS.md says what is right.
+"""Runs the built program as its users do: words, files, pipes and devices. docs/CLI.md and docs/PROTOCOL.md say what is right.
 
 program.py [PROGRAM [TEST..]]     the program that `rt ci` or `./desk --prove` built where none is named; those tests alone
 The tests stand in processes/, by topic. The last line is 'N passed, M failed'; status 1 where one failed.
@@ -12,7 +12,7 @@ import tempfile
 
 sys.dont_write_bytecode = True
 
-from processes import answers, arrivals, bounds, chances, checks, demos, drawing, drills, edges, edited_maps, edited_paths, faults, faulty_edits, fleets, held_files
+from processes import answers, arrivals, bounds, chances, checks, demos, documented, drawing, drills, edges, edited_maps, edited_paths, faults, faulty_edits, fleets, held_files
 from processes import growths, growths_of_hosts, growths_of_runs, hosting, journals, kills, lines, long_paths, map_texts, measured, memory, parts, paths
 from processes import pages, pictures, readings, saving, sessions, stepping, streams, telling, windows, words, worked
 from processes.running import PATIENCE, TOP, Program, Wrong, put
@@ -21,7 +21,7 @@ from processes.texts import FILES
 TOPICS = (faults, words, answers, telling, map_texts, edited_maps, faulty_edits, parts, arrivals, sessions, journals, checks, paths, edited_paths,
           long_paths, readings, fleets, measured, pictures, drawing, pages, hosting, edges, windows, drills, chances, saving, held_files, kills, stepping,
           streams, lines, memory,
-          growths, growths_of_hosts, growths_of_runs, bounds, demos, worked)
+          growths, growths_of_hosts, growths_of_runs, bounds, demos, documented, worked)
 
 
 LONGEST = 10 * PATIENCE  # seconds that one test may take, of as many runs as it has

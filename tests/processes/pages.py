@@ -19,7 +19,7 @@ def part(name):
 
 
 def page_of(title, kinds, mode, scene, report):
-    """The page, as docs/FORMATS.md says."""
+    """The page, as docs/CLI.md says."""
     style, body, script = map(part, ("style.css", "body.html", "page.js"))
     asked = "".join(f" {it}" for it in ASKED if it in kinds)
     return (f"<!doctype html>\n<html lang='en'>\n<head>\n<meta charset='utf-8'>\n<title>{html.escape(title, quote=False)}</title>\n"

@@ -1,4 +1,4 @@
-"""The words of watches, edits and questions, by docs/FORMATS.md, and what a session's line asks for."""
+"""The words of watches, edits and questions, by docs/PROTOCOL.md, and what a session's line asks for."""
 from .plain_words import cell_of, number, words_of
 
 SLOTS = {

@@ -1,4 +1,4 @@
-"""What the lines of a session are answered, by docs/FORMATS.md, as far as that hangs on no agent and no path."""
+"""What the lines of a session are answered, by docs/PROTOCOL.md, as far as that hangs on no agent and no path."""
 from .plain_forms import asked_by
 from .plain_texts import labelled
 from .plain_words import lines_of, words_of

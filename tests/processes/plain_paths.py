@@ -1,4 +1,4 @@
-"""A plain reader of files of paths, by docs/FORMATS.md."""
+"""A plain reader of files of paths, by docs/FILES.md."""
 from .plain_words import BLANKS, Fault, cell_of, number, words_of
 
 MOST_AGENTS, MOST_CELLS = 8192, 131072

@@ -1,4 +1,4 @@
-"""Plain readers of maps, scenarios and journals, by docs/FORMATS.md."""
+"""Plain readers of maps, scenarios and journals, by docs/FILES.md."""
 import functools
 
 from .plain_forms import EDITS, WATCHES, fits

@@ -1,4 +1,4 @@
-"""Lines, words and numbers of docs/FORMATS.md, for plain readers: slow, and with nothing of the program's."""
+"""Lines, words and numbers of docs/FILES.md, for plain readers: slow, and with nothing of the program's."""
 import re
 
 BLANKS = b" \t\r"

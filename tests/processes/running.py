@@ -1,4 +1,4 @@
-"""How the program is started, and how what it did is compared with what docs/FORMATS.md says."""
+"""How the program is started, and how what it did is compared with what the pages of docs/ say."""
 import contextlib
 import os
 import resource
