@@ -119,27 +119,27 @@ def time_of_a_large_audit():
 
 
 def turn(number):
-    """Agent 0 gets a path of one cell, or back its long one; the lines and their answers. Each ninth reading is a whole report."""
+    """Agent 0 gets a path of one cell, or back its long one, and the report is read; the lines, and how their answers begin."""
     last = 64 * (number % 2)
-    lines = "path 0" + " 0,0 1,0" * (last // 2) + " 0,0\nsolves vertex edge follow swap cycle\n" + "report\n" * (number % 9 == 0)
-    report = f"version {number + 3}\nagents 4096\nagent 0 settle {last} goal yes bound 0 gap {last}\n{OTHERS}" * (number % 9 == 0)
-    return lines, f"version {number + 3}\nsolves no\n{report}"
+    lines = "path 0" + " 0,0 1,0" * (last // 2) + " 0,0\nreport\n"
+    return lines, f"version {number + 3}\nversion {number + 3}\nagents 4096\nagent 0 settle {last} goal yes bound 0 gap {last}\n".encode()
 
 
 def ten_thousand_readings():
-    """Ten thousand commits of one agent's path among 4,096, each with a reading behind it.
+    """Ten thousand commits of one agent's path among 4,096, each with a whole report behind it: some 2 GB, in ten times the time of a run at most.
 
-    The wrong body report_over_all_pairs isn't done in the time that a run has.
+    The wrong body report_over_all_pairs isn't done in that time.
     """
     put_fleet()
     put("turns", "".join(turn(number)[0] for number in range(10000)).encode())
     with open("turns", "rb") as turns:
         process = start(["serve", "--map", "wide", "--journal", "fleet", "--limit", "10002"], stdin=turns)
-    clock = threading.Timer(PATIENCE, process.kill)
+    clock, others = threading.Timer(10 * PATIENCE, process.kill), OTHERS.encode()
     clock.start()
     for number in range(10000):
-        wanted = turn(number)[1].encode()
-        want(f"the answers of turn {number}", process.stdout.read(len(wanted)), wanted)
+        first = turn(number)[1]
+        want(f"the first answers of turn {number}", process.stdout.read(len(first)), first)
+        want(f"whether turn {number} goes on as the others do", process.stdout.read(len(others)) == others, True)
     rest = process.communicate()
     clock.cancel()
     want("the end", (process.returncode, *rest), (0, b"", b""))
