@@ -1,43 +1,77 @@
 -- What a drill comes to, from what its parts have done.
-use Rattle.std.specs.Prelude.{◌↔◌, IsTrue}
+use Rattle.std.specs.Prelude.{◌↔◌, IsTrue, All, Any, slice_index_or}
 use Rattle.std.specs.Global.{Global}
-use Rattle.std.proofs.Common.{◌≡◌, ◌⊎◌, ℕ, ◌+◌, ◌<◌, ◌≤◌, Bool, List, [], length, Vec, Option, inl, inr, refl, sym, ap, subst, ◌∙◌}
+use Rattle.std.proofs.Common.{◌≡◌, ◌⊎◌, ⊎_elim, ℕ, zero, suc, ◌+◌, ◌<◌, ◌≤◌, Bool, false, List, [], length, Vec, Option, arith, inl, inr, refl, sym, ap, subst, ◌∙◌}
 use Rattle.plan_table.specs.declared.tracks.Mode.{Mode}
 use Rattle.scene_edits.specs.Scene.{SceneState}
 use Rattle.desk_report.specs.Bytes.{AppendsFront}
 use Rattle.desk_report.specs.Report.{IsReportOf}
 use Rattle.desk_report.specs.declared.reports.Report.{Report}
-use Rattle.desk_commits.specs.State.{DeskState, opening}
+use Rattle.desk_commits.specs.Entries.{Entry}
+use Rattle.desk_commits.specs.Questions.{Shows}
+use Rattle.desk_commits.specs.Replays.{IsLegal}
+use Rattle.desk_commits.specs.State.{DeskState, opening, after}
 use Rattle.desk_commits.specs.declared.answers.Reading.{Reading}
 use Rattle.desk_commits.specs.declared.limits.TheConstants.{MOST_ENTRIES}
 use Rattle.desk_shared.specs.Calls.{IsFirst}
-use Rattle.desk_shared.specs.Passes.{PassState, Held, Sharing, AreOfPlanners, own_of}
+use Rattle.desk_shared.specs.Laws.{HasEachNumber}
+use Rattle.desk_shared.specs.Passes.{PassState, Held, Sharing, Owns, MayGive, HasJust, AreOfPlanners, own_of, version_at}
+use Rattle.desk_shared.proofs.Alone.{alone_finds_what_it_saw_holds}
 use Rattle.shared_runs.specs.DrillFaults.{FailsDrill, FailsUnwritten}
-use Rattle.shared_runs.specs.Drills.{AreServed, ComesTo, HasGathered, HasServed, IsEnd, drill_text, texts_of}
+use Rattle.shared_runs.specs.Drills.{AreJoined, AreOfEntries, AreServed, ComesTo, HasGathered, HasServed, IsEnd, drill_text, texts_of}
 use Rattle.solver_check.specs.Opens.{Opens}
 use Rattle.shared_runs.specs.declared.drilling.TheConstants.{MOST_SCRIPTS}
 use Rattle.solver_check.specs.declared.faults.RunFault.{RunFault}
 use Rattle.solver_check.specs.declared.faults.RunFault.TheVariants.{OutOfMemory, PassLost, TooManyScripts, WriteFailed}
 use Rattle.shared_runs.proofs.ScriptSessions.{texts_length}
 
+-- the operator's pass and the scripts', which were joined into it, have each number of the desk
+each_number : (pass : PassState) (scripts : List (List ℕ)) → pass.planners ≡ length scripts + 1 → pass.planner ≡ 0 → AreJoined 1 (length scripts) pass.past → HasEachNumber pass
+each_number pass scripts all zeroth joined zero below = inl (sym zeroth)
+each_number pass scripts all zeroth joined (suc number) below = inr (inr (joined (suc number) (omega arith) (omega (arith, all, below))))
+
+-- so the last reading, and the desk as it was closed, are of what the first pass had seen
+ends_at : (pass : PassState) (reading : Reading) (desk : DeskState) → HasEachNumber pass → All (HasJust pass.made) pass.past → IsEnd pass reading desk → AreOfEntries pass.start pass.made reading desk
+ends_at pass reading desk each kept is =
+    let read = is.read in
+    let same = is.shown.same in
+    let on = is.shown.goes_on in
+    let seen : read.made ≡ pass.made = alone_finds_what_it_saw_holds pass read.made each kept on in
+    let each_then : HasEachNumber read = λ number below.
+    ⊎_elim (λ (own : number ≡ pass.planner). inl (own ∙ sym same.planner))
+    (λ rest. ⊎_elim (λ (give : MayGive pass number). inr (inl (ap (λ (u : List Bool). slice_index_or u number false) same.unused ∙ give)))
+    (λ joined. inr (inr (subst (Any (λ (numbered : ℕ × List Entry). numbered.0 ≡ number)) (sym same.past) joined))) rest)
+    (each number (subst (λ (n : ℕ). number < n) same.shared below)) in
+    let kept_then : All (HasJust read.made) read.past = subst (All (HasJust read.made)) (sym same.past) on.past in
+    let found : is.closed.found ≡ read.made = alone_finds_what_it_saw_holds read is.closed.found each_then kept_then is.closed.goes_on in
+    record {
+      legal = subst (IsLegal pass.start) seen on.legal;
+      within = subst (λ (made : List Entry). version_at pass.start made ≤ pass.start.limit) seen on.within;
+      shown = subst (λ (made : List Entry). Shows (after pass.start made) reading) seen is.shown.answered;
+      closed = is.closed.desk_is ∙ ap (λ (start : DeskState). after start is.closed.found) same.start ∙ ap (after pass.start) (found ∙ seen);
+    }
+
 pub comes_to : (map : List ℕ) (scen : Option (List ℕ)) (agents : ℕ) (mode : Mode) (scripts : List (Vec ℕ Global)) (planners : ℕ) (scene : SceneState) (shared : Sharing) (began : PassState) (first : Held) (reading : Reading) (desk : DeskState) (audited : Report) (same : Bool)
-    → Opens map scen agents mode scene → planners ≡ length scripts + 1 → IsFirst (opening scene MOST_ENTRIES) planners began → HasGathered began first.known → HasServed shared began.start first.known 1 (texts_of scripts)
-    → IsEnd shared first reading desk → IsReportOf desk.scene.grid desk.scene.mode desk.scene.rows audited → IsTrue same ↔ (reading.report ≡ audited) → ComesTo map scen agents mode (texts_of scripts) reading same
-comes_to map scen agents mode scripts planners scene shared began first reading desk audited same opens many is gathered served ended told answer =
+    → Opens map scen agents mode scene → planners ≡ length scripts + 1 → IsFirst (opening scene MOST_ENTRIES) planners began → Owns shared first → HasGathered began first.known → HasServed shared began.start first.known 1 (texts_of scripts)
+    → IsEnd first.known reading desk → IsReportOf desk.scene.grid desk.scene.mode desk.scene.rows audited → IsTrue same ↔ (reading.report ≡ audited) → ComesTo map scen agents mode (texts_of scripts) reading same
+comes_to map scen agents mode scripts planners scene shared began first reading desk audited same opens many is owned gathered served ended told answer =
     let planner : first.known.planner ≡ 0 = gathered.planner ∙ is.planner in
+    let begins : first.known.start ≡ opening scene MOST_ENTRIES = gathered.start ∙ is.start in
     let all : first.known.planners ≡ length (texts_of scripts) + 1 = gathered.planners ∙ is.shared ∙ many ∙ ap (λ (n : ℕ). n + 1) (sym (texts_length scripts)) in
+    let each : HasEachNumber first.known = each_number first.known (texts_of scripts) all planner served.0 in
     record {
       scene = scene;
       opens = opens;
       shared = shared;
       first = first;
-      begins = gathered.start ∙ is.start;
+      owned = owned;
+      begins = begins;
       planner = planner;
       none_own = subst (λ (n : ℕ). own_of n first.known.made ≡ []) planner gathered.none_own;
       numbered = subst (λ (n : ℕ). AreOfPlanners n first.known.made) all gathered.numbered;
       served = subst (λ (start : DeskState). AreServed shared start first.known.made 1 (texts_of scripts)) is.start served.1;
       desk = desk;
-      ended = ended;
+      ended = subst (λ (start : DeskState). AreOfEntries start first.known.made reading desk) begins (ends_at first.known reading desk each gathered.kept ended);
       audited = audited;
       told = told;
       answer = answer;

@@ -14,7 +14,8 @@ use Rattle.desk_commits.specs.Replays.{IsLegal}
 use Rattle.desk_commits.specs.Questions.{Shows}
 use Rattle.desk_commits.specs.declared.answers.Reading.{Reading}
 use Rattle.desk_commits.specs.declared.limits.TheConstants.{MOST_ENTRIES}
-use Rattle.desk_shared.specs.Passes.{PassState, Held, Sharing, Owns, own_of, AreOfPlanners, HasJust, GoesOn}
+use Rattle.desk_shared.specs.Passes.{PassState, Held, Sharing, Owns, own_of, version_at, AreOfPlanners, HasJust}
+use Rattle.desk_shared.specs.Calls.{AsksBy, IsClosed}
 use Rattle.session_protocol.specs.Answer.{answering}
 use Rattle.session_protocol.specs.Session.{Serves, is_write_failed}
 use Rattle.session_protocol.specs.declared.bounds.ServeFault.{ServeFault}
@@ -92,30 +93,33 @@ same_line false = line_text (codes "audit" ∷ codes "differs" ∷ [])
 abbrev pub drill_text : Reading → Bool → List ℕ
 drill_text reading same = reported_text reading.version reading.report ++ same_line same
 
--- the last reading through a pass of the shared desk, and the desk at the end of its sharing: the reading is of a journal that goes on from what the pass had seen, and begins the desk's
-pub record IsEnd (shared : Sharing) (pass : Held) (reading : Reading) (desk : DeskState) : Type 0 where
-  pub owned : Owns shared pass
-  pub entries : List Entry
-  pub goes_on : GoesOn pass.known entries
-  pub shown : Shows (after pass.known.start entries) reading
-  pub at_close : List Entry
-  pub seen : IsPrefix entries at_close
-  pub legal : IsLegal pass.known.start at_close
-  pub closed : desk ≡ after pass.known.start at_close
+-- the last reading through a pass of the shared desk, and the desk at the end of its sharing: the reading is of a journal that goes on from what the pass had seen, and the desk's goes on from that one
+pub record IsEnd (pass : PassState) (reading : Reading) (desk : DeskState) : Type 0 where
+  pub read : PassState
+  pub shown : AsksBy pass (λ state. Shows state reading) read
+  pub closed : IsClosed read desk
 
--- what a drill comes to: every script was served on one shared desk, that of the scene. The first pass has then seen all the scripts' commits and no others: none of its own, 0, and each of one of the scripts' planners. The reading is through it, and the audit is of the desk as it was closed
+-- the reading, and the desk at the end of its sharing, are of these entries and of no others
+pub record AreOfEntries (start : DeskState) (entries : List Entry) (reading : Reading) (desk : DeskState) : Type 0 where
+  pub legal : IsLegal start entries
+  pub within : version_at start entries ≤ start.limit
+  pub shown : Shows (after start entries) reading
+  pub closed : desk ≡ after start entries
+
+-- what a drill comes to: every script was served on one shared desk, that of the scene. The first pass has then seen all the scripts' commits and no others: none of its own, 0, and each of one of the scripts' planners. The reading, through it, and the desk as it was closed are of just these, and the audit is of that desk
 pub record ComesTo (map : List ℕ) (scen : Option (List ℕ)) (agents : ℕ) (mode : Mode) (scripts : List (List ℕ)) (reading : Reading) (same : Bool) : Type 0 where
   pub scene : SceneState
   pub opens : Opens map scen agents mode scene
   pub shared : Sharing
   pub first : Held
+  pub owned : Owns shared first
   pub begins : first.known.start ≡ opening scene MOST_ENTRIES
   pub planner : first.known.planner ≡ 0
   pub none_own : own_of 0 first.known.made ≡ []
   pub numbered : AreOfPlanners (length scripts + 1) first.known.made
   pub served : AreServed shared (opening scene MOST_ENTRIES) first.known.made 1 scripts
   pub desk : DeskState
-  pub ended : IsEnd shared first reading desk
+  pub ended : AreOfEntries (opening scene MOST_ENTRIES) first.known.made reading desk
   pub audited : Report
   pub told : IsReportOf desk.scene.grid desk.scene.mode desk.scene.rows audited
   pub answer : IsTrue same ↔ (reading.report ≡ audited)

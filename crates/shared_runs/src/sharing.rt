@@ -43,7 +43,7 @@ pub(crate) fn end_sharing<R: Wait>(
     mut first: Pass,
 ) -> Result<(Reading, Desk), RunFault>
     requires { Owns shared first }
-    ensures ended { IfOk result (λ end. IsEnd shared first end.0 end.1) }
+    ensures ended { IfOk result (λ end. IsEnd first.known end.0 end.1) }
     ensures refused { IfErr result (λ fault. (fault ≡ RunFault.OutOfMemory) ⊎ (fault ≡ RunFault.PassLost)) }
 {
     let reading = match shared.reading(rt, &mut first) {
