@@ -11,5 +11,6 @@ mod indexes;
 mod refusal_lines;
 mod reports;
 mod rows;
+mod runs;
 mod scenes;
 mod shared;
