@@ -1,2 +1,3 @@
 pub mod WholeLines
 pub mod Texts
+pub mod FaultyLines

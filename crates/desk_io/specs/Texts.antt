@@ -1,5 +1,13 @@
 -- Which file's bytes a text is (this project's choice).
-use Rattle.std.specs.Prelude.{◌≡◌, ℕ, List, Option, Some, None, option_map}
+use Rattle.std.specs.Prelude.{◌≡◌, ◌⊎◌, ℕ, ◌<◌, List, Any, Option, Some, None, Vec, option_map}
+use Rattle.std.specs.Option.{option_copied}
+use Rattle.std.specs.Borrow.{Bor}
+use Rattle.std.specs.List.{AllZip}
+use Rattle.std.specs.Global.{Global}
+use Rattle.solver_check.specs.declared.faults.Fault.{Fault}
+use Rattle.solver_check.specs.declared.faults.Fault.TheVariants.{AgentsWithoutScen, CannotRead, CannotWrite, InUse, Run}
+use Rattle.solver_check.specs.declared.faults.RunFault.TheVariants.{OutOfMemory}
+use Rattle.desk_cli.specs.declared.words.ServeWords.{ServeWords}
 use Rattle.desk_io.specs.declared.named.Named.{Named}
 
 -- the bytes are those that are told of the file
@@ -19,3 +27,39 @@ pub record AreTexts (holds : List ℕ → Option (List ℕ)) (map scen journal :
   pub map_text : IsText holds map (option_map (λ b. b.items) named.map)
   pub scen_text : IsText holds scen (option_map (λ b. b.items) named.scen)
   pub journal_text : IsText holds journal (option_map (λ b. b.items) named.journal)
+
+-- the texts are those of these files, in their order
+abbrev pub AreTold : (List ℕ → Option (List ℕ)) → List (Bor (List ℕ)) → List (Vec ℕ Global) → Type 0
+AreTold holds = AllZip (λ file bytes. IsTold (holds file.now) bytes.items)
+
+-- the system tells the bytes of no file
+abbrev pub untold : List ℕ → Option (List ℕ)
+untold file = None
+
+-- why a file of that name isn't read: it is told, or memory was wanting
+abbrev pub IsUnread : List ℕ → Fault → Type 0
+IsUnread file (CannotRead unread) = unread.now ≡ file
+IsUnread file (Run why) = why ≡ OutOfMemory
+IsUnread file other = ⊥
+
+-- why one of the files that are named isn't read
+abbrev pub IsUnreadOf : (map scen journal : Option (List ℕ)) → Fault → Type 0
+IsUnreadOf map scen journal fault = (file : List ℕ) × ((map ≡ Some file) ⊎ ((scen ≡ Some file) ⊎ (journal ≡ Some file))) × IsUnread file fault
+
+-- why a file of that name isn't held: it is told, or memory was wanting
+abbrev pub IsUnheld : List ℕ → Fault → Type 0
+IsUnheld file (InUse unheld) = unheld.now ≡ file
+IsUnheld file (CannotWrite unheld) = unheld.now ≡ file
+IsUnheld file (Run why) = why ≡ OutOfMemory
+IsUnheld file other = ⊥
+
+-- agents are asked for, and no scenario that has their tasks
+abbrev pub LacksScen : ServeWords → Type 0
+LacksScen words = (0 < words.agents) × (words.scen ≡ None)
+
+-- why the files of `serve` aren't read: the words lack a scenario, or a file isn't read, or the one to save in isn't held
+abbrev pub IsUnready : ServeWords → Fault → Type 0
+IsUnready words AgentsWithoutScen = LacksScen words
+IsUnready words fault =
+    IsUnreadOf (option_copied words.map) (option_copied words.scen) (option_copied words.journal) fault
+    ⊎ ((file : List ℕ) × (option_copied words.save ≡ Some file) × IsUnheld file fault)

@@ -1,5 +1,6 @@
 //! What more is known of a run's fault, by the texts that it is about.
 ghost use Rattle.std.specs.Prelude.{◌≡◌, ◌≤◌, [], string_len, unwrap_or};
+ghost use Rattle.desk_io.specs.FaultyLines.{line_in_map, line_in_scen};
 ghost use Rattle.solver_check.specs.Opens.{bytes_of};
 
 use crate::faulty_paths::{cells_of, ends_of};
@@ -107,7 +108,9 @@ fn paths_line(why: PathsFault) -> Option<usize> {
 }
 
 // The line that a map's fault is about, counted from 1.
-fn map_line(why: MapFault) -> Option<usize> {
+fn map_line(why: MapFault) -> Option<usize>
+    ensures { result ≡ line_in_map why }
+{
     match why {
         MapFault::NotOctile => Some(1),
         MapFault::BadHeader { line } | MapFault::ExtraLine { line } => Some(line),
@@ -118,7 +121,9 @@ fn map_line(why: MapFault) -> Option<usize> {
 }
 
 // The line that a scenario's fault is about, counted from 1.
-fn scen_line(why: ScenFault) -> Option<usize> {
+fn scen_line(why: ScenFault) -> Option<usize>
+    ensures { result ≡ line_in_scen why }
+{
     match why {
         ScenFault::BadVersion => Some(1),
         ScenFault::FieldCount { line }

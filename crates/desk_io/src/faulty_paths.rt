@@ -1,4 +1,8 @@
 //! What more is known of a solver's path that isn't taken: the cells for which it isn't.
+ghost use Rattle.std.specs.Prelude.{◌≡◌, [], Ok, IfSome, unwrap_or};
+ghost use Rattle.path_files.specs.Texts.{paths_of};
+ghost use Rattle.solver_check.specs.Opens.{bytes_of};
+
 use crate::details::Texts;
 use bench_reader::{read_map, read_scen};
 use grid_cells::{Agent, Cell};
@@ -23,7 +27,9 @@ impl fmt::Display for Spelled {
 }
 
 // The paths of the texts.
-fn spelled_by(alloc: Global, texts: Texts<'_>) -> Option<SolverPaths> {
+fn spelled_by(alloc: Global, texts: Texts<'_>) -> Option<SolverPaths>
+    ensures { IfSome result (λ paths. paths_of texts.entry.form (unwrap_or (bytes_of texts.entry.journal) []) ≡ Ok paths) }
+{
     read_paths(alloc, texts.journal?, texts.form).ok()
 }
 

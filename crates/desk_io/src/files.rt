@@ -1,7 +1,7 @@
 //! The bytes of files.
-ghost use Rattle.std.specs.Prelude.{ℕ, List, Option, None, IfOk, option_map};
+ghost use Rattle.std.specs.Prelude.{◌≡◌, ◌⊎◌, ℕ, List, Option, Some, None, IfErr, IfOk, Any, option_map};
 ghost use Rattle.std.specs.Option.{option_copied};
-ghost use Rattle.desk_io.specs.Texts.{IsTold, IsText};
+ghost use Rattle.desk_io.specs.Texts.{AreTold, IsTold, IsText, IsUnread};
 
 use crate::telling::More;
 use solver_check::{Fault, MOST_BYTES, RunFault};
@@ -21,7 +21,8 @@ pub trait Folder {
     ///
     /// The file can't be opened or read, or has more than `MOST_BYTES` bytes; or want of memory.
     fn bytes(&self, file: &'static str, more: &mut More) -> Result<Vec<u8>, Fault>
-        ensures { IfOk result (λ bytes. IsTold (holds self.now file.now) bytes.items) };
+        ensures read { IfOk result (λ bytes. IsTold (holds self.now file.now) bytes.items) }
+        ensures unread { IfErr result (IsUnread file.now) };
 }
 
 /// The system's files.
@@ -73,7 +74,8 @@ pub fn named_bytes<F: Folder>(
     file: Option<&'static str>,
     more: &mut More,
 ) -> Result<Option<Vec<u8>>, Fault>
-    ensures { IfOk result (λ bytes. IsText (F.holds folder.now) (option_copied file.entry) (option_map (λ b. b.items) bytes)) }
+    ensures read { IfOk result (λ bytes. IsText (F.holds folder.now) (option_copied file.entry) (option_map (λ b. b.items) bytes)) }
+    ensures unread { IfErr result (λ fault. (name : List ℕ) × (option_copied file.entry ≡ Some name) × IsUnread name fault) }
 {
     match file {
         None => Ok(None),
@@ -94,7 +96,10 @@ pub fn all_bytes<F: Folder>(
     folder: &F,
     files: &[&'static str],
     more: &mut More,
-) -> Result<Vec<Vec<u8>>, Fault> {
+) -> Result<Vec<Vec<u8>>, Fault>
+    ensures read { IfOk result (λ all. AreTold (F.holds folder.now) files.now all.items) }
+    ensures unread { IfErr result (λ fault. (fault ≡ Fault.Run RunFault.OutOfMemory) ⊎ Any (λ file. IsUnread file.now fault) files.now) }
+{
     let mut all = Vec::new(alloc);
     for file in files {
         let bytes = match folder.bytes(file, more) {

@@ -1,4 +1,8 @@
 //! A file that is to be written, looked at and held before.
+ghost use Rattle.std.specs.Prelude.{◌≡◌, ℕ, List, Some, IfErr, IfOk, option_map};
+ghost use Rattle.std.specs.Option.{option_copied};
+ghost use Rattle.desk_io.specs.Texts.{IsUnheld};
+
 use crate::telling::More;
 use atomic_save::{HoldError, NamedFile, SystemFile, SystemTemporary, hold};
 use solver_check::{Fault, RunFault};
@@ -42,7 +46,10 @@ pub fn hold_named<R: Files<File = File> + AllocGlobal + Clock + Clone + Drop>(
     rt: &R,
     file: Option<&'static str>,
     more: &mut More,
-) -> Result<Option<HeldFile<R>>, Fault> {
+) -> Result<Option<HeldFile<R>>, Fault>
+    ensures held { IfOk result (λ held. option_map (λ file. file.file.now) held ≡ option_copied file.entry) }
+    ensures unheld { IfErr result (λ fault. (name : List ℕ) × (option_copied file.entry ≡ Some name) × IsUnheld name fault) }
+{
     let Some(file) = file else {
         return Ok(None);
     };

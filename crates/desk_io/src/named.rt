@@ -1,8 +1,8 @@
 //! The files that the words name.
-ghost use Rattle.std.specs.Prelude.{◌≡◌, None, IfOk, option_map};
+ghost use Rattle.std.specs.Prelude.{◌≡◌, ◌⊎◌, None, Err, IfErr, IfOk, option_map};
 ghost use Rattle.std.specs.Option.{option_copied};
 ghost use Rattle.solver_check.specs.Opens.{bytes_of};
-ghost use Rattle.desk_io.specs.Texts.{AreTexts};
+ghost use Rattle.desk_io.specs.Texts.{AreTexts, IsUnreadOf, IsUnready, LacksScen, untold};
 
 use crate::details::Texts;
 use crate::files::{Folder, System, named_bytes};
@@ -60,7 +60,10 @@ pub fn read_files<R: Files + AllocGlobal>(
     scen: Option<&'static str>,
     journal: Option<&'static str>,
     more: &mut More,
-) -> Result<Named, Fault> {
+) -> Result<Named, Fault>
+    ensures read { IfOk result (AreTexts untold (option_copied map.entry) (option_copied scen.entry) (option_copied journal.entry)) }
+    ensures unread { IfErr result (IsUnreadOf (option_copied map.entry) (option_copied scen.entry) (option_copied journal.entry)) }
+{
     read_from(&System(rt), map, scen, journal, more)
 }
 
@@ -76,7 +79,8 @@ pub fn read_from<F: Folder>(
     journal: Option<&'static str>,
     more: &mut More,
 ) -> Result<Named, Fault>
-    ensures { IfOk result (AreTexts (F.holds folder.now) (option_copied map.entry) (option_copied scen.entry) (option_copied journal.entry)) }
+    ensures read { IfOk result (AreTexts (F.holds folder.now) (option_copied map.entry) (option_copied scen.entry) (option_copied journal.entry)) }
+    ensures unread { IfErr result (IsUnreadOf (option_copied map.entry) (option_copied scen.entry) (option_copied journal.entry)) }
 {
     let map = match named_bytes(folder, map, more) {
         Ok(map) => map,
@@ -110,7 +114,12 @@ pub fn read_named<R: Files<File = File> + AllocGlobal + Clock + Clone + Drop>(
     rt: &R,
     words: &ServeWords,
     more: &mut More,
-) -> Result<(Named, Option<HeldFile<R>>), Fault> {
+) -> Result<(Named, Option<HeldFile<R>>), Fault>
+    ensures asked { LacksScen words.now → result ≡ Err Fault.AgentsWithoutScen }
+    ensures read { IfOk result (λ ready. AreTexts untold (option_copied words.now.map) (option_copied words.now.scen) (option_copied words.now.journal) ready.0) }
+    ensures held { IfOk result (λ ready. option_map (λ file. file.file.now) ready.1 ≡ option_copied words.now.save) }
+    ensures unready { IfErr result (IsUnready words.now) }
+{
     if words.agents > 0 && words.scen.is_none() {
         return Err(Fault::AgentsWithoutScen);
     }
@@ -127,7 +136,11 @@ fn read_held<R: Files<File = File> + AllocGlobal + Drop>(
     words: &ServeWords,
     held: Option<HeldFile<R>>,
     more: &mut More,
-) -> Result<(Named, Option<HeldFile<R>>), Fault> {
+) -> Result<(Named, Option<HeldFile<R>>), Fault>
+    ensures read { IfOk result (λ ready. AreTexts untold (option_copied words.now.map) (option_copied words.now.scen) (option_copied words.now.journal) ready.0) }
+    ensures held { IfOk result (λ ready. ready.1 ≡ held) }
+    ensures unread { IfErr result (IsUnreadOf (option_copied words.now.map) (option_copied words.now.scen) (option_copied words.now.journal)) }
+{
     match read_files(rt, words.map, words.scen, words.journal, more) {
         Ok(named) => Ok((named, held)),
         Err(fault) => {
@@ -144,7 +157,9 @@ fn first_fault<R: Files + AllocGlobal>(
     fault: Fault,
     unheld: More,
     more: &mut More,
-) -> Fault {
+) -> Fault
+    ensures { (result ≡ fault) ⊎ IsUnreadOf (option_copied words.now.map) (option_copied words.now.scen) (option_copied words.now.journal) result }
+{
     match read_files(rt, words.map, words.scen, words.journal, more) {
         Ok(named) => {
             drop(named);

@@ -1,5 +1,7 @@
 //! Streams that would block, which are waited for: a pipe or a terminal that other programs share with
 //! this one may be told by them not to wait (O_NONBLOCK).
+ghost use Rattle.std.specs.Prelude.{◌≡◌, ◌↔◌, IsTrue};
+
 use std::io::{ErrorKind, Read, Result, Write};
 use std::thread;
 use std::time::{Clock, Duration};
@@ -8,7 +10,9 @@ use std::time::{Clock, Duration};
 const PAUSE: u64 = 2;
 
 /// Whether the stream would block, and is to be tried again: then a moment has passed.
-pub(crate) fn waits<R: Clock>(clock: &R, kind: ErrorKind) -> bool {
+pub(crate) fn waits<R: Clock>(clock: &R, kind: ErrorKind) -> bool
+    ensures { IsTrue result ↔ (kind ≡ ErrorKind.WouldBlock) }
+{
     let blocks = kind == ErrorKind::WouldBlock;
     if blocks {
         thread::sleep(clock, Duration::from_millis(PAUSE));
@@ -24,7 +28,9 @@ pub struct Patient<'a, R: Clock, S> {
 }
 
 impl<'a, R: Clock, S> Patient<'a, R, S> {
-    pub fn new(clock: &'a R, stream: S) -> Patient<'a, R, S> {
+    pub fn new(clock: &'a R, stream: S) -> Patient<'a, R, S>
+        ensures { result.stream ≡ stream }
+    {
         Patient { clock, stream }
     }
 }

@@ -1,5 +1,5 @@
 //! The program's runtime, whose standard output and error are waited for where they would block.
-ghost use Rattle.std.specs.Prelude.{◌≤◌, IfOk, length};
+ghost use Rattle.std.specs.Prelude.{◌≡◌, ◌≤◌, IfOk, length};
 
 use crate::patience::waits;
 use std::alloc::AllocGlobal;
@@ -16,7 +16,10 @@ pub struct Steady<'a, R, E> {
 }
 
 impl<'a, R, E> Steady<'a, R, E> {
-    pub fn new(rt: &'a R, errors: E) -> Steady<'a, R, E> {
+    pub fn new(rt: &'a R, errors: E) -> Steady<'a, R, E>
+        ensures rt { result.rt.now ≡ rt.now }
+        ensures errors { result.errors ≡ errors }
+    {
         Steady { rt, errors }
     }
 }

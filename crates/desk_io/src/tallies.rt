@@ -1,4 +1,6 @@
 //! How the lines of a drill's scripts were answered, counted while the scripts are served.
+ghost use Rattle.std.specs.Prelude.{◌≡◌, IfOk, length};
+
 use session_protocol::is_acceptance;
 use solver_check::{Hearing, Shown};
 use std::alloc::{AllocError, Global};
@@ -57,7 +59,9 @@ pub struct Tallies {
 
 impl Tallies {
     /// Nothing is counted yet, of so many scripts.
-    pub fn new(alloc: Global, scripts: usize) -> Result<Tallies, AllocError> {
+    pub fn new(alloc: Global, scripts: usize) -> Result<Tallies, AllocError>
+        ensures { IfOk result (λ tallies. length tallies.each.items ≡ scripts) }
+    {
         let mut each = Vec::new(alloc);
         for _ in 0..scripts {
             each.push(Tally::new())?;

@@ -1,0 +1,27 @@
+-- The line of a text that a fault is about, counted from 1 (this project's choice).
+use Rattle.std.specs.Prelude.{ℕ, ◌+◌, ◌-◌, ◌^◌, Option, Some, None, min}
+use Rattle.bench_reader.specs.declared.maps.MapFault.{MapFault}
+use Rattle.bench_reader.specs.declared.maps.MapFault.TheVariants as map
+use Rattle.bench_reader.specs.declared.scens.ScenFault.{ScenFault}
+use Rattle.bench_reader.specs.declared.scens.ScenFault.TheVariants as scen
+
+-- a row, counted from 0, stands behind the four lines of the map's header; so far as a line can be counted
+abbrev pub line_of_row : ℕ → ℕ
+line_of_row row = min (row + 5) (2 ^ 64 - 1)
+
+abbrev pub line_in_map : MapFault → Option ℕ
+line_in_map map.NotOctile = Some 1
+line_in_map (map.BadHeader line) = Some line
+line_in_map (map.ShortRow row) = Some (line_of_row row)
+line_in_map (map.LongRow row) = Some (line_of_row row)
+line_in_map (map.BadLetter row col) = Some (line_of_row row)
+line_in_map (map.ExtraLine line) = Some line
+line_in_map other = None
+
+abbrev pub line_in_scen : ScenFault → Option ℕ
+line_in_scen scen.BadVersion = Some 1
+line_in_scen (scen.FieldCount line) = Some line
+line_in_scen (scen.BadNumber line field) = Some line
+line_in_scen (scen.SizeMismatch line) = Some line
+line_in_scen (scen.OutOfMap line field) = Some line
+line_in_scen scen.OutOfMemory = None
