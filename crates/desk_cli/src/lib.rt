@@ -2,18 +2,20 @@
 #![tactic(auto)]
 
 mod arguments;
+mod asking;
 mod commands;
 mod helping;
 mod mistakes;
 mod options;
 mod pages;
+mod picture_options;
 mod ranges;
 mod reading;
 mod values;
 mod words;
 
+pub use asking::read_words;
 pub use helping::{SESSION_PROMPT, VERSION};
-pub use reading::read_words;
 pub use words::{
     Asked, AuditWords, CheckWords, DrawWords, DrillWords, HostWords, PageWords, ServeWords, Words,
 };

@@ -1,8 +1,8 @@
 //! The options and files of the program's words.
 use crate::arguments::{Argument, Value};
 
-// A file that may be left out.
-const FILE: Argument = Argument {
+/// A file that may be left out.
+pub(crate) const FILE: Argument = Argument {
     name: "",
     short: None,
     value: Value::Text("F"),
@@ -58,11 +58,6 @@ pub(crate) const AGENTS_OF_PATHS: Argument = Argument {
     ..AGENTS
 };
 
-pub(crate) const AGENTS_OF_A_PICTURE: Argument = Argument {
-    help: "How many agents the scenario gives, from 0 to 8192; where it isn't given as many as there are paths, else 0",
-    ..AGENTS_OF_PATHS
-};
-
 pub(crate) const MODE: Argument = Argument {
     name: "mode",
     value: Value::OneOf("M", &["stay", "disappear"]),
@@ -90,12 +85,6 @@ pub(crate) const JOURNAL_OF_AN_AUDIT: Argument = Argument {
     ..JOURNAL
 };
 
-pub(crate) const JOURNAL_OF_A_PICTURE: Argument = Argument {
-    excluded: &["paths"],
-    help: "A journal, whose entries are committed before the picture",
-    ..JOURNAL
-};
-
 pub(crate) const SAVE: Argument = Argument {
     name: "save",
     help: "Where the journal is saved at the end of the session, in place of one that is there",
@@ -113,20 +102,6 @@ pub(crate) const NEEDED_PATHS: Argument = Argument {
     ..PATHS
 };
 
-pub(crate) const AT: Argument = Argument {
-    name: "at",
-    value: Value::Number("T", 0, u32::MAX),
-    help: "The time of a still picture, in steps; without it the agents move",
-    ..FILE
-};
-
-pub(crate) const SHOWN: Argument = Argument {
-    name: "agents-shown",
-    value: Value::Text("A-B"),
-    help: "The agents that are drawn, as 0-9; all where it isn't given",
-    ..FILE
-};
-
 pub(crate) const FORM: Argument = Argument {
     name: "form",
     value: Value::OneOf("FORM", &["time", "agent", "session"]),
@@ -138,19 +113,6 @@ pub(crate) const SOLVES: Argument = Argument {
     name: "solves",
     value: Value::SomeOf("KIND", &["vertex", "edge", "follow", "swap", "cycle"]),
     help: "The kinds of conflicts that count; vertex and swap where none is named",
-    ..FILE
-};
-
-/// Without kinds the heading's colour goes by all of them.
-pub(crate) const SOLVES_OF_A_PICTURE: Argument = Argument {
-    help: "The kinds of conflicts that the heading's colour goes by; all where none is named",
-    ..SOLVES
-};
-
-pub(crate) const TITLE: Argument = Argument {
-    name: "title",
-    value: Value::Text("T"),
-    help: "The page's title; the map's file where it isn't given",
     ..FILE
 };
 

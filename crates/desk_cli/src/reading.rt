@@ -1,20 +1,16 @@
-//! What the program's words ask for.
+//! What each word of the program asks for, by what was matched behind it.
 ghost use Rattle.std.specs.Prelude.{◌≡◌, IfOk, codes, unwrap_or};
 ghost use Rattle.clap.specs.Matches.{found_of};
 ghost use Rattle.desk_cli.specs.Values.{mode_named, number_given};
 ghost use Rattle.desk_cli.specs.Asked.{AsksFor, AsksToAudit, AsksToCheck, AsksToDraw, AsksToDrill, AsksToHost, AsksToServe};
 
-use crate::commands::command;
-use crate::mistakes::{mistake_in, refused};
 use crate::pages::page_words;
 use crate::ranges::range_of;
 use crate::values::{
     form_given, kinds_asked, kinds_given, mode_given, number_given, text_given, texts_given,
 };
-use crate::words::{
-    Asked, AuditWords, CheckWords, DrawWords, DrillWords, HostWords, ServeWords, Words,
-};
-use clap::{ArgMatches, Error};
+use crate::words::{AuditWords, CheckWords, DrawWords, DrillWords, HostWords, ServeWords, Words};
+use clap::ArgMatches;
 use plan_table::Mode;
 use std::alloc::{AllocError, Global};
 
@@ -121,8 +117,8 @@ fn draw_words(matches: &ArgMatches<'static>) -> DrawWords
     }
 }
 
-// What is asked for where no word names it.
-fn usual_words() -> ServeWords
+/// What is asked for where no word names it.
+pub(crate) fn usual_words() -> ServeWords
     ensures { result ≡ record { map = None; scen = None; agents = 0; limit = 100000; mode = Mode.Stay; journal = None; save = None } }
 {
     ServeWords {
@@ -136,8 +132,16 @@ fn usual_words() -> ServeWords
     }
 }
 
-// What is asked for by the word of that name.
-fn named_words(alloc: Global, name: &str, inner: &ArgMatches<'static>) -> Result<Words, AllocError>
+/// What is asked for by the word of that name.
+///
+/// # Errors
+///
+/// Want of memory.
+pub(crate) fn named_words(
+    alloc: Global,
+    name: &str,
+    inner: &ArgMatches<'static>,
+) -> Result<Words, AllocError>
     ensures { IfOk result (AsksFor name.now (found_of inner.now)) }
 {
     if name == "drill" {
@@ -154,64 +158,5 @@ fn named_words(alloc: Global, name: &str, inner: &ArgMatches<'static>) -> Result
         Ok(Words::Audit(audit_words(inner)))
     } else {
         Ok(Words::Serve(serve_words(inner)))
-    }
-}
-
-// The version is told whatever else is asked for, as help is.
-fn words_of(alloc: Global, matches: &ArgMatches<'static>) -> Result<Words, AllocError> {
-    if matches.get_flag("version") {
-        return Ok(Words::Version);
-    }
-    match matches.subcommand() {
-        Some((name, inner)) => named_words(alloc, name, inner),
-        None => Ok(Words::Serve(usual_words())),
-    }
-}
-
-// Whether more is to be told: the flag stands before the word or behind it.
-fn is_verbose(matches: &ArgMatches<'static>) -> bool {
-    matches.get_flag("verbose")
-        || match matches.subcommand() {
-            Some((_, inner)) => inner.get_flag("verbose"),
-            None => false,
-        }
-}
-
-// What the words that were matched ask for.
-fn asked_of(alloc: Global, matches: &ArgMatches<'static>) -> Asked {
-    if let Some((name, inner)) = matches.subcommand() {
-        match mistake_in(alloc, name, inner) {
-            Ok(None) => (),
-            Ok(Some(mistake)) => return refused(alloc, mistake.as_str()),
-            Err(_) => return Asked::NoMemory,
-        }
-    }
-    match words_of(alloc, matches) {
-        Ok(words) => Asked::For {
-            words,
-            verbose: is_verbose(matches),
-        },
-        Err(_) => Asked::NoMemory,
-    }
-}
-
-// The words as their parser matches them; none where memory is short.
-fn matched<'a>(alloc: Global, words: &'a [String]) -> Option<Result<ArgMatches<'a>, Error>> {
-    match command(alloc) {
-        Ok(command) => Some(command.try_get_matches_from(words)),
-        Err(_) => None,
-    }
-}
-
-/// What the program's words, its name first, ask for; they stay as long as it runs.
-pub fn read_words(alloc: Global, words: &'static [String]) -> Asked {
-    match matched(alloc, words) {
-        Some(Ok(matches)) => {
-            let asked = asked_of(alloc, &matches);
-            drop(matches);
-            asked
-        }
-        Some(Err(error)) => Asked::Refused(error),
-        None => Asked::NoMemory,
     }
 }

@@ -1,3 +1,5 @@
+ghost use Rattle.std.specs.Prelude.{◌≡◌, MatchOption};
+
 use crate::helping::{MAP_PROMPT, SESSION_PROMPT};
 use clap::Error;
 use grid_cells::Agent;
@@ -39,7 +41,9 @@ pub struct ServeWords {
 
 impl ServeWords {
     /// What is told a person who is to type the session, and the map before it where none is named.
-    pub fn prompt(&self) -> &'static str {
+    pub fn prompt(&self) -> &'static str
+        ensures { MatchOption self.now.map (result.now ≡ MAP_PROMPT.now) (λ map. result.now ≡ SESSION_PROMPT.now) }
+    {
         match self.map {
             None => MAP_PROMPT,
             Some(_) => SESSION_PROMPT,

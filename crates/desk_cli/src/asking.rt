@@ -1,0 +1,66 @@
+//! What the program's words ask for.
+use crate::commands::command;
+use crate::mistakes::{mistake_in, refused};
+use crate::reading::{named_words, usual_words};
+use crate::words::{Asked, Words};
+use clap::{ArgMatches, Error};
+use std::alloc::{AllocError, Global};
+
+// The version is told whatever else is asked for, as help is.
+fn words_of(alloc: Global, matches: &ArgMatches<'static>) -> Result<Words, AllocError> {
+    if matches.get_flag("version") {
+        return Ok(Words::Version);
+    }
+    match matches.subcommand() {
+        Some((name, inner)) => named_words(alloc, name, inner),
+        None => Ok(Words::Serve(usual_words())),
+    }
+}
+
+// Whether more is to be told: the flag stands before the word or behind it.
+fn is_verbose(matches: &ArgMatches<'static>) -> bool {
+    matches.get_flag("verbose")
+        || match matches.subcommand() {
+            Some((_, inner)) => inner.get_flag("verbose"),
+            None => false,
+        }
+}
+
+// What the words that were matched ask for.
+fn asked_of(alloc: Global, matches: &ArgMatches<'static>) -> Asked {
+    if let Some((name, inner)) = matches.subcommand() {
+        match mistake_in(alloc, name, inner) {
+            Ok(None) => (),
+            Ok(Some(mistake)) => return refused(alloc, mistake.as_str()),
+            Err(_) => return Asked::NoMemory,
+        }
+    }
+    match words_of(alloc, matches) {
+        Ok(words) => Asked::For {
+            words,
+            verbose: is_verbose(matches),
+        },
+        Err(_) => Asked::NoMemory,
+    }
+}
+
+// The words as their parser matches them; none where memory is short.
+fn matched<'a>(alloc: Global, words: &'a [String]) -> Option<Result<ArgMatches<'a>, Error>> {
+    match command(alloc) {
+        Ok(command) => Some(command.try_get_matches_from(words)),
+        Err(_) => None,
+    }
+}
+
+/// What the program's words, its name first, ask for; they stay as long as it runs.
+pub fn read_words(alloc: Global, words: &'static [String]) -> Asked {
+    match matched(alloc, words) {
+        Some(Ok(matches)) => {
+            let asked = asked_of(alloc, &matches);
+            drop(matches);
+            asked
+        }
+        Some(Err(error)) => Asked::Refused(error),
+        None => Asked::NoMemory,
+    }
+}
