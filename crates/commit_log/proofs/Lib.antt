@@ -1,0 +1,4 @@
+pub mod Feeds
+pub mod Commits
+pub mod Growing
+pub mod Cuts
