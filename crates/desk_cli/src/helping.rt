@@ -32,7 +32,7 @@ Three lines of a session, and what they are answered:
 
 Statuses: 0 done; 1 the paths that were checked are no solution, or an audit differs; 2 a fault,
 told on standard error in one line, or in two with --verbose where more is known of it.
-All lines, files and faults: docs/FORMATS.md, byte for byte; the rules: docs/RULES.md.
+All lines: docs/PROTOCOL.md; files: docs/FILES.md; words and faults: docs/CLI.md; the rules: docs/RULES.md.
 
 Example:
   printf 'type octile\\nheight 1\\nwidth 3\\nmap\\n...\\nagent 0 0,0 2,0\\nreport\\n' | mapf_desk";
