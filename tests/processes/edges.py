@@ -1,10 +1,12 @@
 """The edge to the system: descriptors that are closed, streams that don't wait."""
+import contextlib
 import fcntl
 import os
 import subprocess
 import threading
 import time
 
+from .growing import unheard
 from .running import PATIENCE, Program, bytes_of, put, remove, start, want
 
 
@@ -41,9 +43,15 @@ def unwaiting(end):
     return end
 
 
-def heard_slowly(end, heard, delay=2):
-    """Hears all that comes, from a while later on."""
-    time.sleep(delay)
+MANY_BYTES = 32768  # as fill half of a pipe
+
+
+def heard_slowly(end, heard, most=0):
+    """Hears all that comes, from a while later on, once so many bytes wait to be taken."""
+    until = time.monotonic() + PATIENCE / 2
+    while unheard(end) < most and time.monotonic() < until:
+        time.sleep(0.05)
+    time.sleep(2)
     while piece := os.read(end, 65536):
         heard.append(piece)
 
@@ -56,12 +64,18 @@ def streams_that_do_not_wait(words, given, status, out, err, input=unwaiting):
     for end in (hears, outs[1], errs[1]):
         os.close(end)
     said, complained = [], []
-    threads = [threading.Thread(target=heard_slowly, args=it) for it in ((outs[0], said), (errs[0], complained))]
+    threads = [threading.Thread(target=heard_slowly, args=it) for it in ((outs[0], said, MANY_BYTES), (errs[0], complained))]
     for thread in threads:
         thread.start()
-    time.sleep(0.1)
-    for at in range(0, len(given), 65536):
-        os.write(feeds, given[at : at + 65536])
+    line = given.index(b"\n") + 1
+    os.write(feeds, given[:line])
+    until = time.monotonic() + PATIENCE
+    while unheard(feeds) and process.poll() is None and time.monotonic() < until:
+        time.sleep(0.01)
+    time.sleep(0.5)  # (meanwhile there is no more to read)
+    with contextlib.suppress(BrokenPipeError):
+        for at in range(line, len(given), 65536):
+            os.write(feeds, given[at : at + 65536])
     os.close(feeds)
     for thread in threads:
         thread.join(PATIENCE)
