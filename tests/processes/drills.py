@@ -119,14 +119,14 @@ def time_of_a_large_audit():
 
 
 def turn(number):
-    """Agent 0 gets a path of one cell, or back its long one, and the report is read; the lines, and how their answers begin."""
+    """Agent 0 gets a path of one cell, or back its long one, a question is asked and the report is read; the lines, and how their answers begin."""
     last = 64 * (number % 2)
-    lines = "path 0" + " 0,0 1,0" * (last // 2) + " 0,0\nreport\n"
-    return lines, f"version {number + 3}\nversion {number + 3}\nagents 4096\nagent 0 settle {last} goal yes bound 0 gap {last}\n".encode()
+    lines = "path 0" + " 0,0 1,0" * (last // 2) + " 0,0\nsolves vertex edge follow swap cycle\nreport\n"
+    return lines, f"version {number + 3}\nsolves no\nversion {number + 3}\nagents 4096\nagent 0 settle {last} goal yes bound 0 gap {last}\n".encode()
 
 
 def ten_thousand_readings():
-    """Ten thousand commits of one agent's path among 4,096, each with a whole report behind it: some 2 GB, in ten times the time of a run at most.
+    """Ten thousand commits of one agent's path among 4,096, each with a question and a whole report behind it: some 2 GB, in ten times the time of a run at most.
 
     The wrong body report_over_all_pairs isn't done in that time.
     """
