@@ -14,3 +14,4 @@ pub mod Turning
 pub mod Mending
 pub mod Named
 pub mod KindOrder
+pub mod KindsApart

@@ -1,16 +1,26 @@
 -- What a ledger keeps: entries in the order in which they are listed (this project's choice).
-use Rattle.std.specs.Prelude.{◌≡◌, ◌≢◌, ◌⊎◌, ◌↔◌, ℕ, List, Contains}
+use Rattle.std.specs.Prelude.{◌≡◌, ◌≢◌, ◌⊎◌, ◌↔◌, ℕ, Bool, true, false, List, Contains}
 use Rattle.std.specs.List.{count_by}
 use Rattle.plan_table.specs.Order.{ComesBefore}
 use Rattle.plan_table.specs.Route.{Fleet}
 use Rattle.mapf_rules.specs.ConflictList.{Stands, kind_of, listing_key}
 use Rattle.mapf_rules.specs.declared.entries.Kind.{Kind}
 use Rattle.mapf_rules.specs.declared.entries.Conflict.{Conflict}
-use Rattle.mapf_rules.specs.contracts.entries.KindPartialEq.TheImpl as kinds
+use Rattle.mapf_rules.specs.declared.entries.Kind.TheVariants.{Vertex, Parked, Edge, Following, Swapping, Cycle}
+
+-- whether two kinds are one
+abbrev pub is_that_kind : Kind → Kind → Bool
+is_that_kind Vertex Vertex = true
+is_that_kind Parked Parked = true
+is_that_kind Edge Edge = true
+is_that_kind Following Following = true
+is_that_kind Swapping Swapping = true
+is_that_kind Cycle Cycle = true
+is_that_kind kind other = false
 
 -- how many entries are of that kind
 abbrev pub many_of : Kind → List Conflict → ℕ
-many_of kind entries = count_by (λ entry. kinds.ghosts.eq (kind_of entry) kind) entries
+many_of kind entries = count_by (λ entry. is_that_kind (kind_of entry) kind) entries
 
 -- an entry is of that kind
 abbrev pub HasKind : Kind → List Conflict → Type 0

@@ -1,5 +1,5 @@
 -- Laws of the definitions of conflicts, costs and visits (consequences of the definitions).
-use Rattle.std.specs.Prelude.{◌≡◌, ◌⊎◌, ◌↔◌, ℕ, ◌+◌, ◌<◌, ◌≤◌, Some, IsSome, List, Contains, Option}
+use Rattle.std.specs.Prelude.{◌≡◌, ◌⊎◌, ◌↔◌, IsTrue, ℕ, ◌+◌, ◌<◌, ◌≤◌, Some, IsSome, List, Contains, Option}
 use Rattle.std.specs.Ordering.{nat_cmp}
 use Rattle.std.specs.Cmp.Lexicographic.{slice_cmp}
 use Rattle.grid_cells.specs.Cell.{Point}
@@ -9,6 +9,8 @@ use Rattle.mapf_rules.specs.ConflictList.{AreConflicts, Stands, listing_key}
 use Rattle.mapf_rules.specs.declared.entries.Conflict.{Conflict}
 use Rattle.mapf_rules.specs.declared.entries.Conflict.TheVariants.{Vertex, Parked, Edge, Following, Swapping, Cycle}
 use Rattle.mapf_rules.specs.contracts.entries.ConflictOrd.TheImpl as order
+use Rattle.mapf_rules.specs.declared.entries.Kind.{Kind}
+use Rattle.mapf_rules.specs.contracts.entries.KindPartialEq.TheImpl as kinds
 use Rattle.grid_cells.specs.Grid.{Chart}
 use Rattle.plan_table.specs.Path.{last_index, IsPath}
 use Rattle.plan_table.specs.declared.plans.Row.{Row}
@@ -19,6 +21,10 @@ use Rattle.mapf_rules.specs.declared.visits.Visit.{Visit}
 -- two entries compare as the numbers do by which they are listed
 abbrev pub EntriesCompareAsListed : Type 0
 EntriesCompareAsListed = (a b : Conflict) → order.ghosts.cmp a b ≡ slice_cmp nat_cmp (listing_key a) (listing_key b)
+
+-- the program's `==` of two kinds is true exactly where they are one
+abbrev pub KindsAreToldApart : Type 0
+KindsAreToldApart = (a b : Kind) → IsTrue (kinds.ghosts.eq a b) ↔ (a ≡ b)
 
 -- a fleet has at most one conflict list
 abbrev pub OneConflictList : Type 0

@@ -1,8 +1,13 @@
-ghost use Rattle.mapf_rules.specs.Laws.{EntriesCompareAsListed, OneConflictList, MeetingsAreTold, SwapIsTwoFollowings, NamedAgentsAreThere, SettlesAtLast, OneVisitList, OneSumAndMakespan};
+ghost use Rattle.mapf_rules.specs.Laws.{EntriesCompareAsListed, KindsAreToldApart, OneConflictList, MeetingsAreTold, SwapIsTwoFollowings, NamedAgentsAreThere, SettlesAtLast, OneVisitList, OneSumAndMakespan};
 
 /// A law: entries compare by the order of their declaration as they are listed.
 pub fn entries_compare_as_listed()
     ensures { EntriesCompareAsListed }
+{}
+
+/// A law: kinds are equal, as the program compares them, exactly where they are one.
+pub fn kinds_are_told_apart()
+    ensures { KindsAreToldApart }
 {}
 
 /// A law: a fleet has at most one conflict list.

@@ -1,5 +1,12 @@
 //! The rules of the field: the conflict entries of a fleet's plans, their costs, and their visits to
 //! closed cells, with plain programs that find them.
+//!
+//! `pairs` has the rules of two agents over a table of plans, `plain` the program over all pairs and
+//! rings. `rings` walks from cell to cell by whoever tells who moves out of one (`Movers` in `movers`:
+//! a table, an index, a sight). There is one order of entries: `Conflict` derives it from the order of
+//! its variants and their fields, and the law `entries_compare_as_listed` says that it is that of
+//! `listing_key`. `sorting` puts entries that were found in any order into it, for the plain program
+//! and for `desk_audit`. `totals` and `search` are the plain programs of costs and blocked visits.
 #![tactic(auto)]
 
 mod entries;
@@ -18,8 +25,9 @@ mod visits;
 pub use entries::{Conflict, Kind, Ring};
 pub use kinds::Kinds;
 pub use laws::{
-    entries_compare_as_listed, meetings_are_told, named_agents_are_there, one_conflict_list,
-    one_sum_and_makespan, one_visit_list, settles_at_last, swap_is_two_followings,
+    entries_compare_as_listed, kinds_are_told_apart, meetings_are_told, named_agents_are_there,
+    one_conflict_list, one_sum_and_makespan, one_visit_list, settles_at_last,
+    swap_is_two_followings,
 };
 pub use movers::{Movers, destination, moves_out};
 pub use offers::offer;
