@@ -7,3 +7,5 @@ pub mod LineText
 pub mod Words
 pub mod EntryText
 pub mod ReportText
+pub mod Changes
+pub mod ChangesText

@@ -20,7 +20,7 @@ pub(crate) trait Listed {
 
 // The lines of what is listed.
 #[tactic(auto, using(crate::proofs::Fronts::fronts))]
-fn put_each<W: Sink, L: Listed>(sink: &mut W, list: &[L]) -> Result<(), WriteFailed>
+pub(crate) fn put_each<W: Sink, L: Listed>(sink: &mut W, list: &[L]) -> Result<(), WriteFailed>
     ensures ok { OnOk result (Appends (W.held sink.old) (W.held sink.new) (flat_map L.line list.now)) }
     ensures err { OnErr result (AppendsFront (W.held sink.old) (W.held sink.new) (flat_map L.line list.now)) }
     ensures broken { W.broken sink.new ≡ (W.broken sink.old || is_err result) }

@@ -1,5 +1,6 @@
 //! The text of a report.
 mod agents;
+mod changes;
 mod cycles;
 mod entries;
 mod listed;
@@ -13,6 +14,7 @@ ghost use Rattle.desk_report.specs.ReportText.{report_text};
 
 use crate::bytes::{Sink, WriteFailed};
 use crate::reports::Report;
+pub use changes::{write_changes, write_trial};
 pub use entries::put_entry;
 use listed::put_list;
 pub use totals::{put_count, put_totals};
