@@ -36,3 +36,8 @@ Refuses desk commit OutOfMemory = IsCurrent desk commit
 abbrev pub Committed : DeskState → Entry → Result ℕ (Refusal × Entry) → DeskState → Type 0
 Committed old commit (Ok version) new = Accepts old commit × (version ≡ version_of old + 1) × (new ≡ grown old commit)
 Committed old commit (Err (refusal, back)) new = Refuses old commit refusal × (back ≡ commit) × (new ≡ old)
+
+-- the trial of a commit: the reason for which it would be refused, or the version that it would make, and an answer of the desk that it would make
+abbrev pub Tries : {X : Type 0} → DeskState → Entry → (DeskState → X → Type 0) → Result (ℕ × X) Refusal → Type 0
+Tries desk commit IsAnswer (Ok (version, answer)) = Accepts desk commit × (version ≡ version_of desk + 1) × IsAnswer (grown desk commit) answer
+Tries desk commit IsAnswer (Err refusal) = Refuses desk commit refusal

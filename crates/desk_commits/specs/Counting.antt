@@ -12,13 +12,15 @@ use Rattle.desk_commits.specs.declared.answers.Refusal.{Refusal}
 use Rattle.desk_commits.specs.declared.answers.Reading.{Reading}
 use Rattle.desk_commits.specs.declared.answers.AskFault.{AskFault}
 
--- the calls of a counter whose values are those of S, each from the value before to the value after
+-- the calls of a counter whose values are those of S, each from the value before to the value after; a question is the
+-- relation of a desk to what may be answered of it
 pub record Counting (S : Type 0) : Type 1 where
   pub planner : S → ℕ
   pub versions : S → ℕ → S → Type 0
   pub commits : S → Entry → Result ℕ (Refusal × Entry) → S → Type 0
   pub reads : S → Result Reading OutOfMemory → S → Type 0
   pub tells : S → ℕ → Point → Result (Option ℕ) AskFault → S → Type 0
+  pub asks : (X : Type 0) → S → (DeskState → X → Type 0) → X → S → Type 0
 
 -- whether a reading of the counter solves by those kinds, where the reading finds memory
 abbrev pub Judging : {S : Type 0} → Counting S → S → Kinds → Result Bool OutOfMemory → S → Type 0
@@ -33,4 +35,5 @@ desk_counting = record {
   commits = Committed;
   reads = λ old result new. IfOk result (Shows old) × (new ≡ old);
   tells = λ old agent cell result new. Tells old.scene agent cell result × (new ≡ old);
+  asks = λ X old IsAnswer answer new. IsAnswer old answer × (new ≡ old);
 }

@@ -21,7 +21,7 @@ pub enum Refusal {
     OutOfMemory,
 }
 
-/// Why a distance isn't told: the first that holds, in this order.
+/// Why a question isn't answered: the first that holds, in this order.
 #[derive(Clone, Copy, Debug, PartialEq, Eq)]
 pub enum AskFault {
     /// The agent isn't live.

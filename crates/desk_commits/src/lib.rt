@@ -1,10 +1,10 @@
 //! Commits of edits, the journals that accepted ones make, what a desk answers, and which commits
-//! are stale. What a session puts its questions to is a `Counter`.
+//! are stale.
 #![tactic(auto)]
 
 mod answers;
 mod commits;
-mod counters;
+mod copies;
 mod journals;
 mod laws;
 mod limits;
@@ -13,7 +13,6 @@ mod stamps;
 
 pub use answers::{Answer, AskFault, Call, Reading, Refusal, Snapshot};
 pub use commits::{Commit, CommitFault, MOST_EDITS, MOST_WATCHES};
-pub use counters::Counter;
 pub use journals::{Journal, ReplayFault};
 pub use laws::{
     entries_make_the_scene, legal_journals_replay, limits_of_commits, one_answer_to_a_commit,

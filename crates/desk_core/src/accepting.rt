@@ -29,7 +29,7 @@ impl Desk {
     }
 
     // The first reason to refuse the commit that doesn't look at what its edits do.
-    fn not_current(&self, commit: &Commit) -> Option<Refusal>
+    pub(crate) fn not_current(&self, commit: &Commit) -> Option<Refusal>
         ensures refused { IfSome result (Refuses self.now commit.now) }
         ensures current { IfNone result (IsCurrent self.now commit.now) }
     {
@@ -51,7 +51,7 @@ impl Desk {
     }
 
     // Makes the stamps where they don't stand, if there is memory for them.
-    fn make_stamps(&mut self)
+    pub(crate) fn make_stamps(&mut self)
         ensures { self.new ≡ self.old }
     {
         if self.stamps.is_some() {
@@ -65,7 +65,7 @@ impl Desk {
     }
 
     // Applies the edits of a commit that is current, and puts it into the journal.
-    fn accept(&mut self, commit: Commit) -> Result<u64, (Refusal, Commit)>
+    pub(crate) fn accept(&mut self, commit: Commit) -> Result<u64, (Refusal, Commit)>
         requires { IsCurrent self.old commit }
         ensures { Committed self.old commit result self.new }
     {

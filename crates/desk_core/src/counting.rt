@@ -1,10 +1,13 @@
-//! A desk as sessions see it.
+//! A desk counts for sessions.
 ghost use Rattle.desk_commits.specs.Counting.{desk_counting};
 
+use crate::asking::Question;
+use crate::counters::{Awaits, Counter};
 use crate::desks::Desk;
-use desk_commits::{AskFault, Commit, Counter, Reading, Refusal};
+use desk_commits::{AskFault, Commit, Reading, Refusal};
 use desk_report::Kinds;
 use grid_cells::{Agent, Cell, OutOfMemory, Planner};
+use std::time::Duration;
 
 /// A desk counts in the name of planner 0.
 impl Counter for Desk {
@@ -25,6 +28,10 @@ impl Counter for Desk {
         Desk::commit(self, commit)
     }
 
+    fn ask<Q: Question>(&mut self, question: &Q) -> Q::Answer {
+        Desk::ask(self, question)
+    }
+
     fn reading(&mut self) -> Result<Reading, OutOfMemory> {
         Desk::reading(self)
     }
@@ -38,5 +45,13 @@ impl Counter for Desk {
 
     fn distance(&mut self, agent: Agent, cell: Cell) -> Result<Option<u32>, AskFault> {
         Desk::distance(self, agent, cell)
+    }
+}
+
+/// Nobody else commits at the desk while it would wait, so it answers at once.
+impl Awaits for Desk {
+    fn wait_above(&mut self, seen: u64, _most: Duration) -> (u64, bool) {
+        let version = Desk::version(self);
+        (version, version <= seen)
     }
 }

@@ -169,7 +169,7 @@ impl Desk {
     }
 
     // Puts the books of the scene back.
-    fn put_back(&mut self, books: Books)
+    pub(crate) fn put_back(&mut self, books: Books)
         requires { AreOf self.old.scene books }
         ensures { self.new ≡ self.old }
     {
@@ -177,7 +177,7 @@ impl Desk {
     }
 
     // The books of the scene: those that stand, and else new ones. None stand until they are put back.
-    fn take_books(&mut self) -> Result<Books, OutOfMemory>
+    pub(crate) fn take_books(&mut self) -> Result<Books, OutOfMemory>
         ensures same { self.new ≡ self.old }
         ensures books { IfOk result (AreOf self.old.scene) }
     {

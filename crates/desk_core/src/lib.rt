@@ -1,13 +1,28 @@
-//! The desk: its scene, its journal of accepted commits, and what is asked of it.
+//! The desk: its scene, its journal of accepted commits, and what is asked of it. What a session puts
+//! its questions to is a `Counter`.
+//!
+//! Stamps and books are optional parts of `Desk`, and not of what contracts see of it.
+//! `specs/Kept.antt` is the invariant that says what they are where they stand. A call takes a part
+//! out, uses it, and puts it back. A commit applies its edits (`src/accepting.rt`), and the books then
+//! follow the changes: where they find no memory the commit stands all the same, and the next call that
+//! needs books makes them anew. `stale` of `desk_commits` decides by the `stamps`, `asking` has the
+//! questions as types, `questions` asks the books, `driving` has runs of calls, `replaying` journals.
+//! What a commit and a journal are, and when one is stale, is in `desk_commits`.
 #![tactic(auto)]
 
 mod accepting;
+mod asking;
+mod counters;
 mod counting;
 mod desks;
 mod driving;
 mod questions;
 mod replaying;
 
+pub use asking::{
+    Copying, Cutting, Distance, Planning, Probing, Question, Showing, Solving, Standing, Trial,
+};
+pub use counters::{Awaits, Counter};
 pub use desk_commits::{
     Answer, AskFault, Call, Commit, CommitFault, Journal, Limit, MOST_EDITS, MOST_ENTRIES,
     MOST_WATCHES, Reading, Refusal, ReplayFault, Snapshot, entries_make_the_scene,

@@ -1,10 +1,10 @@
 //! What is told of a scene, by the books that are kept of it.
-ghost use Rattle.std.specs.Prelude.{◌≡◌, IfOk, IfErr, Err};
+ghost use Rattle.std.specs.Prelude.{◌≡◌, ◌↔◌, IsTrue, IfOk, IfErr, Err, All};
 ghost use Rattle.desk_report.specs.Report.{IsReportOf};
 ghost use Rattle.live_report.specs.Books.{AreOf};
 ghost use Rattle.desk_commits.specs.Goals.{IsAsked};
-ghost use Rattle.desk_commits.specs.Questions.{ArePriced, Judges, Tells};
-ghost use Rattle.desk_commits.specs.State.{DeskState};
+ghost use Rattle.desk_commits.specs.Questions.{ArePriced, Judges, Tells, ShowsCut, IsKnown};
+ghost use Rattle.desk_commits.specs.State.{DeskState, version_of};
 
 use desk_commits::AskFault;
 use desk_report::{Kinds, Report, settle_is_bound_and_gap};
@@ -51,4 +51,36 @@ pub(crate) fn goal_asked(scene: &Scene, agent: Agent, cell: Cell) -> Result<Cell
         return Err(AskFault::OutOfMap);
     }
     Ok(row.goal)
+}
+
+// Whether each of the agents is live.
+pub(crate) fn all_live(scene: &Scene, agents: &[Agent]) -> bool
+    ensures { IsTrue result ↔ All (IsKnown scene.now) agents.now }
+{
+    agents.iter().all(|agent| is_live(scene, *agent))
+}
+
+// Whether the agent is live.
+fn is_live(scene: &Scene, agent: Agent) -> bool
+    ensures { IsTrue result ↔ IsKnown scene.now agent }
+{
+    match scene.plans().row(agent) {
+        Some(_) => true,
+        None => false,
+    }
+}
+
+// The report of the scene, from its books, cut to those agents.
+pub(crate) fn cut(books: &mut Books, scene: &Scene, agents: &[Agent]) -> Result<Report, OutOfMemory>
+    requires { AreOf scene.now books.old }
+    ensures kept { AreOf scene.now books.new }
+    ensures cut { IfOk result (λ report. (desk : DeskState) → desk.scene ≡ scene.now
+        → ShowsCut desk agents.now (record { version = version_of desk; report = report })) }
+{
+    settle_is_bound_and_gap();
+    let _plans = scene.plans();
+    match books.cut(scene, agents) {
+        Ok(report) => Ok(report),
+        Err(refused) => Err(refused),
+    }
 }

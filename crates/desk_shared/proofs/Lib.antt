@@ -6,4 +6,4 @@ pub mod Turning
 pub mod Views
 pub mod Told
 pub mod Alone
-pub mod SameWindow
+pub mod Waiting

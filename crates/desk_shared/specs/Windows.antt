@@ -26,4 +26,5 @@ window_counting = record {
   commits = λ old commit result new. CommitsBy old.pass commit result new.pass × IfOk result (IsLastSeen new.pass commit) × IsOnSame old new;
   reads = λ old result new. AsksBy old.pass (λ desk. IfOk result (Shows desk)) new.pass × IsOnSame old new;
   tells = λ old agent cell result new. AsksBy old.pass (λ desk. Tells desk.scene agent cell result) new.pass × IsOnSame old new;
+  asks = λ X old IsAnswer answer new. AsksBy old.pass (λ desk. IsAnswer desk answer) new.pass × IsOnSame old new;
 }

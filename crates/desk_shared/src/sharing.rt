@@ -5,6 +5,7 @@ ghost use Rattle.desk_shared.specs.Calls.{MayShare, Unshared, IsFirst, CommitsBy
 
 mod asking;
 mod splitting;
+mod waiting;
 
 use crate::board::{About, Top};
 use crate::faults::{MOST_PLANNERS, PassLost, ShareFault};

@@ -49,7 +49,7 @@ pub(crate) fn free(top: &Rows, place: &mut Place, desk: Desk)
     top.wake_one(1);
 }
 
-// Puts the desk back with one entry more, counts it, and gives the turn up.
+// Puts the desk back with one entry more, counts it, wakes those who wait for that, and gives the turn up.
 pub(crate) fn grow(top: &Rows, place: &mut Place, desk: Desk)
     requires table { (place.old.table_id ≡ top.now.table_id) × IsSized top.now.table_id }
     requires ready { HasTurn place.old × IsNext place.old.me.0 desk }
@@ -58,6 +58,7 @@ pub(crate) fn grow(top: &Rows, place: &mut Place, desk: Desk)
 {
     drop(top.exchange(place, 0, Some(desk)));
     top.fetch_add::<Grow>(place, 0, 1);
+    top.wake_all(0);
     top.store::<Free>(place, 1, 0);
     top.wake_one(1);
 }

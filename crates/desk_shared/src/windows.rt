@@ -4,11 +4,12 @@ ghost use Rattle.desk_shared.specs.Windows.{window_on};
 
 use crate::passes::Pass;
 use crate::sharing::SharedDesk;
-use desk_commits::{AskFault, Commit, Counter, Reading, Refusal};
+use desk_core::{AskFault, Awaits, Commit, Counter, Question, Reading, Refusal};
 use desk_report::Kinds;
 use grid_cells::{Agent, Cell, OutOfMemory, Planner};
 use std::marker::Model;
 use std::sync::Wait;
+use std::time::{Clock, Duration};
 
 /// A shared desk, seen through the pass of one planner. A session over it is one of several that
 /// share the desk. Its version is the front.
@@ -72,6 +73,10 @@ impl<'a, R: Wait> Counter for Window<'a, R> {
         self.desk.commit(self.rt, &mut self.pass, commit)
     }
 
+    fn ask<Q: Question>(&mut self, question: &Q) -> Q::Answer {
+        self.desk.ask(self.rt, &mut self.pass, question)
+    }
+
     fn reading(&mut self) -> Result<Reading, OutOfMemory> {
         self.desk.reading(self.rt, &mut self.pass)
     }
@@ -85,5 +90,12 @@ impl<'a, R: Wait> Counter for Window<'a, R> {
 
     fn distance(&mut self, agent: Agent, cell: Cell) -> Result<Option<u32>, AskFault> {
         self.desk.distance(self.rt, &mut self.pass, agent, cell)
+    }
+}
+
+/// A window waits without the turn, and holds nobody up.
+impl<'a, R: Wait + Clock> Awaits for Window<'a, R> {
+    fn wait_above(&mut self, seen: u64, most: Duration) -> (u64, bool) {
+        self.desk.wait_above(self.rt, &mut self.pass, seen, most)
     }
 }

@@ -7,23 +7,32 @@ ghost use Rattle.desk_shared.specs.Calls.{AsksBy};
 use super::SharedDesk;
 use crate::passes::Pass;
 use crate::steps::{free, win};
-use desk_core::{AskFault, Reading, Snapshot};
+use desk_core::{AskFault, Copying, Distance, Question, Reading, Showing, Snapshot, Solving};
 use desk_report::Kinds;
 use grid_cells::{Agent, Cell, OutOfMemory};
 use std::sync::Wait;
 
 impl SharedDesk {
+    /// Asks the desk, in the pass's turn. It may wait.
+    pub fn ask<R: Wait, Q: Question>(&self, rt: &R, pass: &mut Pass, question: &Q) -> Q::Answer
+        requires owned { Owns self.now pass.old }
+        ensures owned { Owns self.now pass.new }
+        ensures answer { AsksBy pass.old.known (λ desk. Q.answers question.now desk result) pass.new.known }
+    {
+        let top = &self.table.shared;
+        let mut desk = win(rt, top, &mut pass.place);
+        let answer = question.put(&mut desk);
+        free(top, &mut pass.place, desk);
+        answer
+    }
+
     /// The report of the desk's scene, in the pass's turn. It may wait.
     pub fn reading<R: Wait>(&self, rt: &R, pass: &mut Pass) -> Result<Reading, OutOfMemory>
         requires owned { Owns self.now pass.old }
         ensures owned { Owns self.now pass.new }
         ensures answer { AsksBy pass.old.known (λ desk. IfOk result (Shows desk)) pass.new.known }
     {
-        let top = &self.table.shared;
-        let mut desk = win(rt, top, &mut pass.place);
-        let reading = desk.reading();
-        free(top, &mut pass.place, desk);
-        reading
+        self.ask(rt, pass, &Showing)
     }
 
     /// Whether the plans of the desk's scene solve by those kinds, in the pass's turn. It may wait.
@@ -41,11 +50,7 @@ impl SharedDesk {
         ensures owned { Owns self.now pass.new }
         ensures answer { AsksBy pass.old.known (λ desk. IfOk result (Judges desk kinds)) pass.new.known }
     {
-        let top = &self.table.shared;
-        let mut desk = win(rt, top, &mut pass.place);
-        let answer = desk.solves(kinds);
-        free(top, &mut pass.place, desk);
-        answer
+        self.ask(rt, pass, &Solving { kinds })
     }
 
     /// The distance in steps of the cell to the agent's goal on the desk's map, if there is one, in
@@ -65,11 +70,7 @@ impl SharedDesk {
         ensures owned { Owns self.now pass.new }
         ensures answer { AsksBy pass.old.known (λ desk. Tells desk.scene agent cell result) pass.new.known }
     {
-        let top = &self.table.shared;
-        let mut desk = win(rt, top, &mut pass.place);
-        let distance = desk.distance(agent, cell);
-        free(top, &mut pass.place, desk);
-        distance
+        self.ask(rt, pass, &Distance { agent, cell })
     }
 
     /// A copy of the desk's scene, in the pass's turn. It may wait.
@@ -78,10 +79,6 @@ impl SharedDesk {
         ensures owned { Owns self.now pass.new }
         ensures answer { AsksBy pass.old.known (λ desk. IfOk result (Copies desk)) pass.new.known }
     {
-        let top = &self.table.shared;
-        let desk = win(rt, top, &mut pass.place);
-        let copy = desk.snapshot();
-        free(top, &mut pass.place, desk);
-        copy
+        self.ask(rt, pass, &Copying)
     }
 }

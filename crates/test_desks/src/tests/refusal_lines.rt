@@ -1,19 +1,21 @@
 //! The lines of refusals that a session over a desk of its own doesn't meet: another planner, a base
 //! ahead, want of memory.
-use super::build::{agent, cell};
-use desk_core::{AskFault, Commit, Reading, Refusal, Thing};
+use super::build::{agent, cell, desk};
+use desk_core::{AskFault, Commit, Desk, Question, Reading, Refusal, Thing};
 use desk_report::{Kinds, Spout, Tap};
 use desk_session::{Bounds, Counter, serve};
 use grid_cells::{Agent, Cell, OutOfMemory, Planner};
 use std::alloc::Global;
 use std::process::Abort;
 
-// Refuses each commit for the next of some reasons, and finds no memory for any question.
+// Refuses each commit for the next of some reasons, and finds no memory for the questions of version 1; what else it is
+// asked is asked of its desk.
 #[derive(Drop)]
 struct Refuser<'a, R: Abort> {
     rt: &'a R,
     refusals: &'a [Refusal],
     given: usize,
+    desk: Desk,
 }
 
 impl<'a, R: Abort> Counter for Refuser<'a, R> {
@@ -25,6 +27,7 @@ impl<'a, R: Abort> Counter for Refuser<'a, R> {
       commits = λ _ _ _ _. Unit;
       reads = λ _ _ _. Unit;
       tells = λ _ _ _ _ _. Unit;
+      asks = λ _ _ _ _ _. Unit;
     } };
 
     fn planner(&self) -> Planner {
@@ -44,6 +47,10 @@ impl<'a, R: Abort> Counter for Refuser<'a, R> {
         };
         self.given = self.given.saturating_add(1);
         Err((*refusal, commit))
+    }
+
+    fn ask<Q: Question>(&mut self, question: &Q) -> Q::Answer {
+        self.desk.ask(question)
     }
 
     fn reading(&mut self) -> Result<Reading, OutOfMemory> {
@@ -88,6 +95,7 @@ fn have_their_lines(rt: &impl Abort, alloc: Global) {
         rt,
         refusals: &refusals,
         given: 0,
+        desk: desk(rt, alloc, &[], 1),
     };
     let mut reader = Tap::new(LINES);
     let mut writer = Spout::new(Vec::new(alloc));

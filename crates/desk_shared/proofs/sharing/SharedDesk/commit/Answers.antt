@@ -2,7 +2,6 @@ use Rattle.std.proofs.Common.{sym, ap, ◌∙◌, subst, Ok, arith}
 use Rattle.std.proofs.lemmas.Bool.Decides.{nat_tests}
 use Rattle.std.proofs.lemmas.Grind.{common_steps}
 use Rattle.std.proofs.lemmas.Option.{gets}
-use Rattle.desk_commits.specs.State.{grown}
 use Rattle.desk_shared.specs.Passes.{PassState}
 use Rattle.desk_shared.specs.Calls.{CommitsBy}
 use Rattle.desk_shared.specs.Turns.{shown}
