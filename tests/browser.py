@@ -16,13 +16,11 @@ from processes import browsing, viewing
 from processes.running import PATIENCE, TOP, Program
 from program import passes, stopped, tell
 
-TOPICS = (viewing,)
-
 
 def main():
     Program.path = os.path.abspath(sys.argv[1] if len(sys.argv) > 1 else Program.path)
     wanted = sys.argv[2:]
-    tests = [it for topic in TOPICS for it in topic.tests() if not wanted or it[0] in wanted]
+    tests = [it for it in viewing.views() if not wanted or it[0] in wanted]
     lacking = browsing.missing()
     if lacking:
         failed = len(tests) if os.environ.get("NO_BROWSER") == "failed" else 0

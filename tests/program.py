@@ -9,20 +9,18 @@ import signal
 import subprocess
 import sys
 import tempfile
+from importlib import import_module
+from pkgutil import iter_modules
 
 sys.dont_write_bytecode = True
 
-from processes import answers, arrivals, bounds, chances, checks, demos, documented, drawing, drills, edges, edited_maps, edited_paths, faults, faulty_edits, fleets, held_files
-from processes import growths, growths_of_hosts, growths_of_runs, hosting, journals, kills, lines, long_paths, map_texts, measured, memory, parts, paths
-from processes import pages, pictures, readings, saving, sessions, stepping, streams, telling, windows, words, worked
+import processes
 from processes.running import PATIENCE, TOP, Program, Wrong, put
 from processes.texts import FILES
 
-TOPICS = (faults, words, answers, telling, map_texts, edited_maps, faulty_edits, parts, arrivals, sessions, journals, checks, paths, edited_paths,
-          long_paths, readings, fleets, measured, pictures, drawing, pages, hosting, edges, windows, drills, chances, saving, held_files, kills, stepping,
-          streams, lines, memory,
-          growths, growths_of_hosts, growths_of_runs, bounds, demos, documented, worked)
-
+# The files of processes/ that list tests.
+FILES_THERE = [import_module(f"processes.{it.name}") for it in iter_modules(processes.__path__)]
+TOPICS = [it for it in FILES_THERE if hasattr(it, "tests")]
 
 LONGEST = 10 * PATIENCE  # seconds that one test may take, of as many runs as it has
 

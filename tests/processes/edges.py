@@ -56,11 +56,11 @@ def heard_slowly(end, heard, most=0):
         heard.append(piece)
 
 
-def streams_that_do_not_wait(words, given, status, out, err, input=unwaiting):
-    """Standard output and error that don't wait are waited for, and so is standard input, where it is one that doesn't."""
+def streams_that_do_not_wait(words, given, status, out, err):
+    """Standard streams that don't wait are waited for."""
     pipes = [os.pipe() for _ in range(3)]
     (hears, feeds), outs, errs = pipes
-    process = start(words, stdin=input(hears), stdout=unwaiting(outs[1]), stderr=unwaiting(errs[1]))
+    process = start(words, stdin=unwaiting(hears), stdout=unwaiting(outs[1]), stderr=unwaiting(errs[1]))
     for end in (hears, outs[1], errs[1]):
         os.close(end)
     said, complained = [], []
@@ -90,7 +90,7 @@ MANY = 30000  # lines whose answers fill a pipe some times over
 
 
 def serve_on_streams_that_do_not_wait():
-    streams_that_do_not_wait(["serve", "--map", "m"], b"version\n" * MANY, 0, b"version 0\n" * MANY, b"", input=lambda end: end)
+    streams_that_do_not_wait(["serve", "--map", "m"], b"version\n" * MANY, 0, b"version 0\n" * MANY, b"")
 
 
 def host_on_streams_that_do_not_wait():

@@ -39,7 +39,7 @@ def sleeps(process):
     """Whether all threads of the program wait; it has ended, or waits, before long."""
     folder = f"/proc/{process.pid}/task"
     for task in os.listdir(folder):
-        with contextlib.suppress(FileNotFoundError), open(f"{folder}/{task}/stat") as file:
+        with contextlib.suppress(FileNotFoundError, ProcessLookupError), open(f"{folder}/{task}/stat") as file:
             if file.read().rpartition(")")[2].split()[0] not in "SZX":
                 return False
     return True

@@ -7,7 +7,7 @@ from .running import Wrong, bytes_of, put, remove, want
 from .texts import SCEN
 
 STANDS = "journal 2\nmode stay\nend 0\n", "journal 2\nmode stay\nentry 1 0 0 1\npath 0 0,0 1,0\nend 1\n"
-FAULTS = {"operator: out of memory", "east: out of memory", "out of memory"}
+FAULTS = {"out of memory", *(f"{name}: {what}" for name in ("operator", "east") for what in ("out of memory", "no thread"))}
 
 
 def text_of(file):

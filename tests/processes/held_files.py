@@ -370,7 +370,7 @@ def saved_in_any_room():
     with in_a_folder():
         for name in "xy":
             put(f"{name}.in", b"")
-        for size in range(4400, 6400, 25):
+        for size in range(8400, 13800, 50):
             remove("kept")
             status, said, complained = run(["host", "--map", "m", "--save", "kept", "x", "y"], lines, preexec_fn=room_of(size << 10))
             if status < 0 or status == 127:

@@ -56,12 +56,12 @@ class Seat:
 class Hosted:
     """A desk that hosts planners of those names, each with two new pipes, and the operator here."""
 
-    def __init__(self, names, *words, ground="m"):
+    def __init__(self, names, *words, ground="m", **how):
         self.names = names
         for name in names:
             remove(f"{name}.in", f"{name}.out")
             os.mkfifo(f"{name}.in"), os.mkfifo(f"{name}.out")
-        self.operator = Planner("host", "--map", ground, *words, *names)
+        self.operator = Planner("host", "--map", ground, *words, *names, **how)
 
     def __enter__(self):
         return self
@@ -267,9 +267,10 @@ def sixteen_planners():
 
 
 def last_line_of_the_operator():
-    """The operator's last line needs no LF, as in a session of `serve`."""
+    """The operator's last line needs its LF, as a planner's does: without it the line is broken off."""
     put("east.in", b"")
-    is_answered(["host", "--map", "m", "east"], b"close 0,0\nversion", "version 1\nversion 1\naudit same\n")
+    is_run(["host", "--map", "m", "east"], b"close 0,0\nversion", (2, "version 1\naudit same\n", "mapf_desk: operator: ended within a line\n"))
+    is_answered(["host", "--map", "m", "east"], b"close 0,0\nversion\n", "version 1\nversion 1\naudit same\n")
     remove("east.in", "east.out")
 
 

@@ -96,7 +96,7 @@ def through_windows(session, workers):
     """
     words = ["-v", *session.scene[2:], *session.bounds, "--save", "worked_again", "--workers", str(workers)]
     with Hosted(["east"], *words, ground=session.scene[1]) as hosted:
-        hosted.operator.send(session.text)
+        hosted.operator.send(session.text + (b"\n" if session.text[-1:] not in (b"", b"\n") else b""))
         hosted.operator.process.stdin.close()
         count = b"1 line" if session.count == 1 else b"%d lines" % session.count
         want("the operator's end", hosted.operator.process.stderr.readline(), b"mapf_desk: operator: %s\n" % count)

@@ -443,7 +443,7 @@ def is_quick(browser, size, steps):
         raise Wrong(f"the page is shown after {took:.1f} s")
 
 
-def tests():
+def views():
     made = [lit_is_what_the_report_has, clicks_go_to_conflicts, verdicts_and_counts, filters, keys_and_buttons, zooms_and_moves, picks_agents, reads_well, titles]
     for test in made:
         yield f"page_{test.__name__}", of_page(test)

@@ -1,3 +1,4 @@
 pub mod WholeLines
 pub mod Texts
 pub mod FaultyLines
+pub mod ShortLines

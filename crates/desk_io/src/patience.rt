@@ -2,7 +2,7 @@
 //! this one may be told by them not to wait (O_NONBLOCK).
 ghost use Rattle.std.specs.Prelude.{◌≡◌, ◌↔◌, IsTrue};
 
-use std::io::{ErrorKind, Read, Result, Write};
+use std::io::{ErrorKind, Result, Write};
 use std::thread;
 use std::time::{Clock, Duration};
 
@@ -20,7 +20,7 @@ pub(crate) fn waits<R: Clock>(clock: &R, kind: ErrorKind) -> bool
     blocks
 }
 
-/// A stream that is waited for where it would block.
+/// A writer that is waited for where it would block.
 #[derive(Drop)]
 pub struct Patient<'a, R: Clock, S> {
     clock: &'a R,
@@ -32,18 +32,6 @@ impl<'a, R: Clock, S> Patient<'a, R, S> {
         ensures { result.stream ≡ stream }
     {
         Patient { clock, stream }
-    }
-}
-
-impl<R: Clock, S: Read> Read for Patient<'_, R, S> {
-    fn read(&mut self, bytes: &mut [u8]) -> Result<usize> {
-        for _ in 0..u64::MAX {
-            match self.stream.read(bytes) {
-                Err(why) if waits(self.clock, why.kind()) => {}
-                answer => return answer,
-            }
-        }
-        Err(ErrorKind::WouldBlock.into())
     }
 }
 

@@ -1,52 +1,81 @@
 //! The seats of planners at pipes, or other files, and of the operator at standard input and output.
-ghost use Rattle.std.specs.Prelude.{None};
+ghost use Rattle.std.specs.Prelude.{◌≡◌, IfOk, None, length};
 ghost use Rattle.solver_check.specs.Seats.{Sits};
 
-use crate::doors::{Doors, Stage};
+use crate::doors::{Doors, Unmet};
+use crate::opening::DoorsFault;
 use crate::patience::Patient;
+use crate::pipes::both_ends;
 use crate::prompting::Prompting;
 use crate::sittings::sit_between;
 use crate::steady::Steady;
 use desk_cli::SESSION_PROMPT;
-use desk_commits::Counter;
+use desk_core::Counter;
 use session_protocol::ServeFault;
 use solver_check::{Outcome, SeatFault, Seats};
-use std::alloc::{AllocError, Global};
-use std::fs::OpenOptions;
+use std::alloc::Global;
+use std::fs::File;
 use std::io;
 use std::io::IsTerminal;
 use std::rt::Stderr;
-use std::sync::Wait;
+use std::sync::{Mutex, Wait};
+
+/// Why there are no seats.
+#[derive(Drop)]
+pub enum PipesFault {
+    OutOfMemory,
+    /// A file of the planner of that name is another planner's already, of this host or of another one.
+    InUse { name: &'static str },
+}
 
 /// The seats of the operator, 0, and of the planners from 1 on.
 #[derive(Drop)]
 pub struct Pipes<'a> {
     pub(crate) host: &'a HostRuntime,
+    pub(crate) names: &'a [&'static str],
     pub(crate) doors: Vec<Doors>,
     // Whether it is told who comes and goes.
     pub(crate) stages: bool,
+    // A file that is given up once the last planners are waited for no longer: so one can be opened,
+    // however many are open.
+    pub(crate) spare: Mutex<Option<File>>,
 }
 
 impl<'a> Pipes<'a> {
-    /// Seats for the planners of those names, who haven't come yet.
+    /// Seats for the planners of those names, who haven't come yet. Of their files those outputs are open
+    /// that are pipes.
     ///
     /// # Errors
     ///
-    /// Want of memory.
+    /// Want of memory; or an output of a planner, the first such one, is in use.
     pub fn new(
         alloc: Global,
         host: &'a HostRuntime,
-        names: &[&str],
+        names: &'a [&'static str],
         stages: bool,
-    ) -> Result<Pipes<'a>, AllocError> {
+    ) -> Result<Pipes<'a>, PipesFault>
+        ensures as_many { IfOk result (λ pipes. length pipes.doors.items ≡ length names.now) }
+        ensures named { IfOk result (λ pipes. pipes.names.now ≡ names.now) }
+        ensures stages { IfOk result (λ pipes. pipes.stages ≡ stages) }
+    {
+        let spare = both_ends().open(host, "/dev/null").ok();
         let mut doors = Vec::new(alloc);
         for name in names {
-            doors.push(Doors::new(alloc, name)?)?;
+            match Doors::new(host, alloc, name) {
+                Ok(pair) => match doors.push(pair) {
+                    Ok(()) => {}
+                    Err(_) => return Err(PipesFault::OutOfMemory),
+                },
+                Err(DoorsFault::InUse) => return Err(PipesFault::InUse { name }),
+                Err(_) => return Err(PipesFault::OutOfMemory),
+            }
         }
         Ok(Pipes {
             host,
+            names,
             doors,
             stages,
+            spare: Mutex::new(spare),
         })
     }
 
@@ -63,15 +92,14 @@ impl<'a> Pipes<'a> {
         // (lent, since standard input has its buffer in itself)
         let mut reader = self.host.reader();
         let typed = self.host.stdin().is_terminal();
-        let prompting = Prompting::new(&errors, &mut reader, typed, SESSION_PROMPT);
-        let input = Patient::new(self.host, prompting);
+        let input = Prompting::new(&errors, &mut reader, typed, SESSION_PROMPT);
         let output = Patient::new(self.host, io::writer(self.host));
-        let ended = sit_between(alloc, counter, input, output, false);
+        let ended = sit_between(alloc, counter, input, output);
         self.tell("operator", &ended);
         ended
     }
 
-    // Opens a planner's files, and serves it to the end of its input.
+    // Waits for a planner, and serves it to the end of its input.
     fn let_in<R: Wait, C: Counter>(
         &self,
         rt: &R,
@@ -81,28 +109,17 @@ impl<'a> Pipes<'a> {
     ) -> Outcome
         ensures { Sits C.counting None counter.old counter.new result }
     {
-        let mut inward = OpenOptions::new();
-        inward.read(true);
-        let input = match inward.open(self.host, doors.inward.as_str()) {
-            Ok(file) => file,
-            Err(why) => return Err(SeatFault::NoInput(why)),
+        let (input, output) = match doors.meet(rt, self.host) {
+            Ok(ends) => ends,
+            Err(Unmet::NoThread) => return Err(SeatFault::NoThread),
+            Err(Unmet::NeverCame) => return Err(SeatFault::NeverCame),
+            Err(Unmet::NoInput(why)) => return Err(SeatFault::NoInput(why)),
+            Err(Unmet::NoOutput(why)) => return Err(SeatFault::NoOutput(why)),
         };
-        if !doors.go(rt, Stage::Input, Stage::Output) {
-            return Err(SeatFault::NeverCame);
-        }
-        let mut outward = OpenOptions::new();
-        outward.write(true).create(true).truncate(true);
-        let output = match outward.open(self.host, doors.outward.as_str()) {
-            Ok(file) => file,
-            Err(why) => return Err(SeatFault::NoOutput(why)),
-        };
-        if !doors.go(rt, Stage::Output, Stage::Past) {
-            return Err(SeatFault::NeverCame);
-        }
         if self.stages {
             let _told = eprintln!(self.errors(); "mapf_desk: {}: has come", doors.name);
         }
-        sit_between(alloc, counter, input, output, true)
+        sit_between(alloc, counter, input, output)
     }
 
     // Tells how a session ended: its fault, and how many lines it had where that is wanted.
@@ -147,8 +164,19 @@ impl<'a> Seats for Pipes<'a> {
             return Err(SeatFault::NoThread);
         };
         let ended = self.let_in(rt, alloc, doors, counter);
-        doors.pass(rt);
         self.tell(doors.name.as_str(), &ended);
         ended
+    }
+
+    fn miss<R: Wait>(&self, rt: &R, number: u32) {
+        let missed = Err(SeatFault::NoThread);
+        let Some(place) = number.checked_sub(1) else {
+            self.tell("operator", &missed);
+            return;
+        };
+        if let Some(doors) = self.doors.get(place as usize) {
+            doors.shut(rt, self.host);
+            self.tell(doors.name.as_str(), &missed);
+        }
     }
 }

@@ -3,19 +3,20 @@ ghost use Rattle.std.specs.Prelude.{None};
 ghost use Rattle.solver_check.specs.Seats.{IsHeard, Sits};
 
 use crate::sending::send_last;
+use crate::short_lines::ShortLines;
 use crate::streams::{Answers, Lines, Outlet};
 use crate::whole_lines::WholeLines;
-use desk_commits::Counter;
+use desk_core::Counter;
 use desk_report::{Sink, Source, Spout};
 use session_protocol::{ServeFault, serve};
-use solver_check::{BOUNDS, Outcome, SeatFault};
+use solver_check::{Outcome, SEAT_BOUNDS, SeatFault};
 use std::alloc::Global;
 use std::cell::RefCell;
 use std::io::{BufWriter, Read, Write};
 
 /// Serves a session from a reader to a writer, both buffered. What was answered goes out before more
-/// is read, and at the end. Where lines are to be whole, an input that ends within one is broken off:
-/// that line isn't answered.
+/// is read, and at the end. An input that ends within a line is broken off, and so is a line that is too
+/// long: that line isn't answered.
 ///
 /// # Errors
 ///
@@ -26,12 +27,11 @@ pub(crate) fn sit_between<C: Counter, I: Read + Drop, O: Write + Drop>(
     counter: &mut C,
     input: I,
     output: O,
-    whole: bool,
 ) -> Outcome
     ensures { Sits C.counting None counter.old counter.new result }
 {
     match BufWriter::new(alloc, output) {
-        Ok(buffered) => sit_buffered(alloc, counter, input, buffered, whole),
+        Ok(buffered) => sit_buffered(alloc, counter, input, buffered),
         Err(_) => {
             drop(input);
             Err(SeatFault::OutOfMemory)
@@ -45,13 +45,12 @@ fn sit_buffered<C: Counter, I: Read + Drop, O: Write + Drop>(
     counter: &mut C,
     input: I,
     buffered: BufWriter<O>,
-    whole: bool,
 ) -> Outcome
     ensures { Sits C.counting None counter.old counter.new result }
 {
     let outlet = RefCell::new(Outlet::new(buffered));
     let ended = match Lines::new(alloc, input, &outlet) {
-        Ok(lines) => hear_out(alloc, counter, lines, &outlet, whole),
+        Ok(lines) => hear_out(alloc, counter, lines, &outlet),
         Err(_) => Err(SeatFault::OutOfMemory),
     };
     drop(outlet);
@@ -64,40 +63,20 @@ fn hear_out<C: Counter, R: Source + Drop, O: Write + Drop>(
     counter: &mut C,
     lines: R,
     outlet: &RefCell<Outlet<O>>,
-    whole: bool,
 ) -> Outcome
     ensures { Sits C.counting None counter.old counter.new result }
 {
-    let ended = hear_lines(
-        alloc,
-        counter,
-        lines,
-        &mut Spout::new(Answers::new(outlet)),
-        whole,
-    );
+    let mut lines = WholeLines::new(ShortLines::new(lines));
+    let mut answers = Spout::new(Answers::new(outlet));
+    let ended = hear(alloc, counter, &mut lines, &mut answers);
+    let is_too_long = lines.into_inner().is_cut();
     let (sent, unread) = send_last(outlet);
     match (ended, sent) {
         (_, Err(why)) => Err(SeatFault::Unsent(why)),
+        (Err(ServeFault::ReadFailed), Ok(())) if is_too_long => Err(SeatFault::LineTooLong),
         (Err(fault), Ok(())) => Err(SeatFault::Session(fault, unread)),
         (Ok(lines), Ok(())) => Ok(lines),
     }
-}
-
-// Serves a session of whole lines, or of any.
-fn hear_lines<C: Counter, R: Source + Drop, W: Sink>(
-    alloc: Global,
-    counter: &mut C,
-    reader: R,
-    writer: &mut W,
-    whole: bool,
-) -> Result<u32, ServeFault>
-    ensures { IsHeard C.counting None counter.old counter.new result }
-{
-    if whole {
-        return hear(alloc, counter, &mut WholeLines::new(reader), writer);
-    }
-    let mut reader = reader;
-    hear(alloc, counter, &mut reader, writer)
 }
 
 fn hear<C: Counter, R: Source, W: Sink>(
@@ -108,6 +87,6 @@ fn hear<C: Counter, R: Source, W: Sink>(
 ) -> Result<u32, ServeFault>
     ensures { IsHeard C.counting None counter.old counter.new result }
 {
-    let ended = serve(alloc, counter, reader, writer, BOUNDS);
+    let ended = serve(alloc, counter, reader, writer, SEAT_BOUNDS);
     ended
 }

@@ -28,6 +28,15 @@ impl<R: Source> WholeLines<R> {
     }
 }
 
+impl<R: Source + Drop> WholeLines<R> {
+    /// The other source, as it is by now.
+    pub fn into_inner(self) -> R
+        ensures { result ≡ self.inner }
+    {
+        self.inner
+    }
+}
+
 impl<R: Source> Source for WholeLines<R> {
     ghost left = { λ s. R.left s.inner };
 

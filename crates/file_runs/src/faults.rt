@@ -12,6 +12,8 @@ pub enum ProgramFault {
     Host(HostFault),
     /// Two planners have one name, and so one pair of files.
     NamedTwice { name: &'static str },
+    /// A file of the planner is another planner's already, of this host or of another one.
+    InUse { name: &'static str },
 }
 
 impl Display for ProgramFault {
@@ -23,6 +25,7 @@ impl Display for ProgramFault {
             ProgramFault::NamedTwice { name } => {
                 write!(f, "a planner named twice, {}", Shown(name))
             }
+            ProgramFault::InUse { name } => write!(f, "{}: in use", Shown(name)),
         }
     }
 }

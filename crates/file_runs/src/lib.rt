@@ -1,5 +1,9 @@
 //! Runs over files: the words `serve`, `audit`, `check`, `draw` and `page`, what is saved of a desk, and the
 //! desk that planners are to share.
+//!
+//! Each word has a file: `serving`, `auditing`, `checking`, `drawing`, `paging`. `saving` saves in the
+//! file that is held, `closing` is what is done at a session's end, `opening` opens the desk that
+//! planners are to share, `faults` are all faults.
 #![tactic(auto)]
 
 mod auditing;

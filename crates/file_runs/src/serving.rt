@@ -48,7 +48,7 @@ pub fn serve_streams<
 
 // Serves a session from standard input to standard output, and hands back the desk, where one was
 // opened, and the session's fault. Who types it is told what to type.
-fn serve_typed<R: AllocGlobal + Print + Eprint + Input>(
+fn serve_typed<R: AllocGlobal + Clock + Print + Eprint + Input>(
     rt: &R,
     texts: Texts<'_>,
     words: &ServeWords,

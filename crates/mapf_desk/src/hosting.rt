@@ -8,15 +8,18 @@ use crate::print_line;
 use crate::statuses::{RunEnd, answered};
 use desk_cli::HostWords;
 use desk_core::Desk;
-use desk_io::{HeldFile, More, Pipes, release};
+use desk_io::{HeldFile, More, Pipes, PipesFault, Steady, release};
 use file_runs::{ProgramFault, open_named, save_held};
-use shared_runs::{Fault, HostEnd, HostFault, Outcome, RunFault, host_planners};
+use shared_runs::{Fault, HostEnd, HostFault, MOST_HOSTED, Outcome, RunFault, host_planners};
+use std::alloc::Global;
 use std::fs::File;
 use std::rt::Files;
 use std::sync::Wait;
 use std::thread;
-use std::thread::Threads;
-use std::time::Clock;
+use std::thread::{Builder, Threads};
+
+/// The bytes of stack of the thread that hosts, in which each planner takes some.
+const HOST_STACK: usize = 4_194_304;
 
 /// Hosts planners of other processes on one desk, as the words ask for, and the operator at standard
 /// input and output, until all their inputs have ended; saves the desk's journal where they ask for
@@ -24,35 +27,72 @@ use std::time::Clock;
 ///
 /// # Errors
 ///
-/// What the words lack, a file that can't be read or written, the run's fault, or that of the save.
-pub fn host_files<
-    R: Files<File = File> + AllocGlobal + Clock + Clone + Drop + Print + Threads + Wait + Sync,
->(
+/// What the words lack, a file that can't be read or written, two planners of one file, want of memory
+/// for a thread, the run's fault, or that of the save.
+pub fn host_files<R: Threads + Wait + Sync>(
     rt: &R,
     host: &HostRuntime,
     words: &HostWords,
     stages: bool,
     more: &mut More,
 ) -> Result<RunEnd, ProgramFault> {
-    let (desk, held) = match open_named(rt, words, more) {
+    thread::scope(thread::scope_env(), rt, move |scope| {
+        let hosting = Builder::new().stack_size(HOST_STACK);
+        let started = hosting.spawn_scoped(
+            scope,
+            move || host_named(rt, host, words, stages, more),
+        );
+        match started {
+            Ok(hosted) => hosted.join(rt),
+            Err(_) => Err(out_of_memory()),
+        }
+    })
+}
+
+// Hosts the planners of the words, in this thread.
+fn host_named<R: Threads + Wait + Sync>(
+    rt: &R,
+    host: &HostRuntime,
+    words: &HostWords,
+    stages: bool,
+    more: &mut More,
+) -> Result<RunEnd, ProgramFault> {
+    let (steady, alloc) = (Steady::new(host, host.stderr()), host.alloc());
+    let (desk, held) = match open_named(&steady, words, more) {
         Ok(opened) => opened,
         Err(fault) => return Err(fault),
     };
-    let Ok(pipes) = Pipes::new(rt.alloc(), host, words.names.as_slice(), stages) else {
+    if words.names.len() > MOST_HOSTED as usize {
         drop(desk);
         release(held);
-        return Err(out_of_memory());
+        return Err(ProgramFault::Host(HostFault::TooManyPlanners));
+    }
+    let pipes = match Pipes::new(alloc, host, words.names.as_slice(), stages) {
+        Ok(pipes) => pipes,
+        Err(fault) => {
+            drop(desk);
+            release(held);
+            return Err(fault_of(fault));
+        }
     };
-    let end = match host_all(rt, desk, &pipes, words) {
+    let end = match host_all(rt, alloc, desk, &pipes, words) {
         Ok(end) => end,
         Err(fault) => {
             release(held);
-            return Err(ProgramFault::Host(fault));
+            return Err(fault);
         }
     };
-    let ended = end_hosted(rt, &end, held, more);
+    let ended = end_hosted(&steady, &end, held, more);
     drop(end);
     ended
+}
+
+// Why there are no seats, as the program tells it.
+fn fault_of(fault: PipesFault) -> ProgramFault {
+    match fault {
+        PipesFault::OutOfMemory => out_of_memory(),
+        PipesFault::InUse { name } => ProgramFault::InUse { name },
+    }
 }
 
 // Saves the desk's journal where a file for it is held, and prints whether the audit's report is that
@@ -117,29 +157,39 @@ fn end_of(end: &HostEnd, same: bool) -> RunEnd
     }
 }
 
-// Hosts the planners until all have ended, who may take as long to come as the words say: a thread
-// sees to those who don't come in time.
-fn host_all<R: AllocGlobal + Threads + Wait + Sync>(
+// Hosts the planners until all have ended, who may take as long to come as the words say: threads see
+// to those who haven't come yet.
+fn host_all<R: Threads + Wait + Sync>(
     rt: &R,
+    alloc: Global,
     desk: Desk,
     pipes: &Pipes<'_>,
     words: &HostWords,
-) -> Result<HostEnd, HostFault> {
+) -> Result<HostEnd, ProgramFault> {
     let Ok(planners) = u32::try_from(words.names.len()) else {
         drop(desk);
-        return Err(HostFault::TooManyPlanners);
+        return Err(ProgramFault::Host(HostFault::TooManyPlanners));
     };
-    let workers = words.workers;
-    let Some(seconds) = words.wait else {
-        return host_planners(rt, rt.alloc(), desk, pipes, planners, workers.clamp(1, 64));
-    };
+    let (workers, seconds) = (words.workers, words.wait);
     thread::scope(thread::scope_env(), rt, move |scope| {
-        let Ok(keeper) = scope.spawn(move || pipes.wait(rt, seconds)) else {
+        let Some(keeper) = pipes.keep(rt, scope, seconds) else {
             drop(desk);
-            return Err(HostFault::OutOfMemory);
+            return Err(out_of_memory());
         };
-        let ended = host_planners(rt, rt.alloc(), desk, pipes, planners, workers.clamp(1, 64));
+        pipes.watch(rt, scope);
+        let opened = pipes.open(rt, alloc);
+        if let Err(fault) = opened {
+            drop(desk);
+            pipes.close(rt);
+            keeper.join(rt);
+            return Err(fault_of(fault));
+        }
+        let ended = host_planners(rt, alloc, desk, pipes, planners, workers.clamp(1, 64));
+        pipes.close(rt);
         keeper.join(rt);
-        ended
+        match ended {
+            Ok(end) => Ok(end),
+            Err(fault) => Err(ProgramFault::Host(fault)),
+        }
     })
 }

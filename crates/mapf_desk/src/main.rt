@@ -1,6 +1,9 @@
 //! The program: a desk that serves a planner's session over files and standard streams, audits,
 //! drills planners that share it, checks the paths that a solver wrote, draws pictures, and makes pages
 //! that play plans.
+//!
+//! `drilling` and `hosting` obey these two words, `main` the others, by `file_runs`; `statuses` has
+//! what the program ends with.
 #![tactic(auto)]
 
 ghost use Rattle.std.specs.Prelude.{◌≡◌, ◌≢◌, ◌⊎◌, IfErr, IfOk};

@@ -1,4 +1,7 @@
 //! The grammar of session lines: their words, and the requests that they stand for.
+//!
+//! `requests` reads a line by its first word (`commands`) and by the words behind it (`edits`, `kinds`,
+//! `shapes`, `cells`, `values`).
 #![tactic(auto)]
 
 mod cells;

@@ -6,7 +6,7 @@ ghost use Rattle.session_protocol.specs.Table.{MayObey, TellsReport, TellsSolves
 use crate::drafts::{Gathered, Session};
 use crate::gathering::{commit, commit_alone, keep_edit, keep_watch};
 use crate::replies::{BadLine, Reply};
-use desk_commits::Counter;
+use desk_core::Counter;
 use desk_report::Kinds;
 use grid_cells::{Agent, Cell, OutOfMemory};
 use session_lines::{LineFault, Request, read_line};

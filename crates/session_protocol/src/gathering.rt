@@ -5,7 +5,8 @@ ghost use Rattle.session_protocol.specs.Tellings.{after_commit};
 
 use crate::drafts::{Gathered, Session};
 use crate::replies::{BadLine, Reply};
-use desk_commits::{Commit, Counter, MOST_EDITS, MOST_WATCHES};
+use desk_commits::{Commit, MOST_EDITS, MOST_WATCHES};
+use desk_core::Counter;
 use grid_cells::List;
 use scene_edits::{Edit, Thing};
 use std::alloc::Global;

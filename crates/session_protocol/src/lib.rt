@@ -1,4 +1,9 @@
 //! Sessions of planners over bytes: lines in, answers out.
+//!
+//! `serving` is the loop over bytes, `hearing` hears the text of a map before it. `answers` finds the
+//! reply to a request by way of a `Counter`, and where the session then is (`drafts`); `gathering`
+//! keeps edits and watches, and makes commits of them. `replies` are data, `writers` and `refusals`
+//! their texts.
 #![tactic(auto)]
 
 mod answers;

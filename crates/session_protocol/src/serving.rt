@@ -7,7 +7,7 @@ use crate::answers::answer;
 use crate::bounds::{Bounds, ServeFault};
 use crate::drafts::Session;
 use crate::writers::put_reply;
-use desk_commits::Counter;
+use desk_core::Counter;
 use desk_report::{Sink, Source, WriteFailed};
 use std::alloc::Global;
 use std::mem;

@@ -1,3 +1,4 @@
+mod SameWindow
 mod ScriptSessions
 mod Numbering
 mod Gathering

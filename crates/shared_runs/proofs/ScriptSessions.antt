@@ -11,7 +11,7 @@ use Rattle.session_protocol.specs.declared.drafts.Session.{Session}
 use Rattle.session_protocol.specs.declared.drafts.Session.TheVariants.{Idle}
 use Rattle.desk_shared.specs.Passes.{PassState, Held, Sharing, own_of}
 use Rattle.desk_shared.specs.Windows.{WindowState, window_on, window_counting}
-use Rattle.desk_shared.proofs.SameWindow.{window_stays}
+use Rattle.shared_runs.proofs.SameWindow.{window_stays}
 use Rattle.shared_runs.specs.Drills.{IsSession, IsServed, AreServed, texts_of}
 use Rattle.solver_check.specs.Bounds.{run_bounds}
 use Rattle.shared_runs.proofs.Numbering.{IsGiven}

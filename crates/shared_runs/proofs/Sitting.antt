@@ -1,11 +1,12 @@
 -- A seat over a window leaves it on its shared desk, for its planner.
 use Rattle.std.proofs.Common.{◌≡◌, ℕ, List, Option, Result, Ok, Err, refl, sym, ap, subst, ◌∙◌}
 use Rattle.session_protocol.specs.declared.bounds.ServeFault.{ServeFault}
+use Rattle.session_protocol.specs.declared.bounds.ServeFault.TheVariants.{ReadFailed}
 use Rattle.session_protocol.specs.declared.drafts.Session.TheVariants.{Idle}
 use Rattle.desk_shared.specs.Passes.{Held, Sharing}
 use Rattle.desk_shared.specs.Windows.{WindowState, window_on, window_counting}
 use Rattle.session_protocol.proofs.Staying.{IsKept, serves}
-use Rattle.solver_check.specs.Bounds.{run_bounds}
+use Rattle.solver_check.specs.Bounds.{seat_bounds}
 use Rattle.shared_runs.specs.Hosts.{IsEnded}
 use Rattle.solver_check.specs.Seats.{IsHeard, Sits}
 use Rattle.solver_check.specs.declared.seats.SeatFault.{SeatFault}
@@ -35,10 +36,11 @@ stays : (old new : WindowState) → new ≡ old → IsSameSeat old new
 stays old new same = subst (IsSameSeat old) (sym same) (record { desk = refl; start = refl; planners = refl; planner = refl; past = refl })
 
 heard : (input : Option (List ℕ)) (old new : WindowState) (ended : Result ℕ ServeFault) → IsHeard window_counting input old new ended → IsSameSeat old new
-heard input old new ended is = serves window_counting IsSameSeat seat_kept run_bounds is.left0 is.left1 is.held0 is.held1 (Idle, old) (is.last, new) ended is.session
+heard input old new ended is = serves window_counting IsSameSeat seat_kept seat_bounds is.left0 is.left1 is.held0 is.held1 (Idle, old) (is.last, new) ended is.session
 
 pub sat_same : (input : Option (List ℕ)) (old new : WindowState) (outcome : Result ℕ SeatFault) → Sits window_counting input old new outcome → IsSameSeat old new
 sat_same input old new (Ok lines) is = heard input old new (Ok lines) is
+sat_same input old new (Err seat.LineTooLong) is = heard input old new (Err ReadFailed) is
 sat_same input old new (Err (seat.Session why reason)) is = heard input old new (Err why) is
 sat_same input old new (Err (seat.Unsent reason)) is = heard input old new is.0 is.1
 sat_same input old new (Err seat.NoThread) is = stays old new is

@@ -1,5 +1,8 @@
 //! Runs over texts, each at a desk of its own: the desk that they open, a session, what is saved of it,
 //! an audit, a picture and a page.
+//!
+//! Each word has a file: `serving` with `saving`, `auditing`, `drawing`, `paging`. `opening` opens the
+//! desk of a scene that commits a journal.
 #![tactic(auto)]
 
 mod auditing;

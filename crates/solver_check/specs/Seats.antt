@@ -4,9 +4,10 @@ use Rattle.session_protocol.specs.Answer.{answering}
 use Rattle.desk_commits.specs.Counting.{Counting}
 use Rattle.session_protocol.specs.Session.{Serves}
 use Rattle.session_protocol.specs.declared.bounds.ServeFault.{ServeFault}
+use Rattle.session_protocol.specs.declared.bounds.ServeFault.TheVariants.{ReadFailed}
 use Rattle.session_protocol.specs.declared.drafts.Session.{Session}
 use Rattle.session_protocol.specs.declared.drafts.Session.TheVariants.{Idle}
-use Rattle.solver_check.specs.Bounds.{run_bounds}
+use Rattle.solver_check.specs.Bounds.{seat_bounds}
 use Rattle.solver_check.specs.declared.seats.SeatFault.{SeatFault}
 use Rattle.solver_check.specs.declared.seats.SeatFault.TheVariants as seat
 
@@ -23,11 +24,12 @@ pub record IsHeard {S : Type 0} (counting : Counting S) (input : Option (List �
   pub held1 : Option (List ℕ)
   pub of : IsOf input left0
   pub last : Session
-  pub session : Serves (answering counting) run_bounds left0 left1 held0 held1 (Idle, old) (last, new) ended
+  pub session : Serves (answering counting) seat_bounds left0 left1 held0 held1 (Idle, old) (last, new) ended
 
--- what came of a seat: the input was heard to its end; the session ended before, at its fault; its last answers weren't sent; or nothing was heard
+-- what came of a seat: the input was heard to its end; a line was too long, of which no more was read; the session ended before, at its fault; its last answers weren't sent; or nothing was heard
 abbrev pub Sits : {S : Type 0} → Counting S → Option (List ℕ) → S → S → Result ℕ SeatFault → Type 0
 Sits counting input old new (Ok lines) = IsHeard counting input old new (Ok lines)
+Sits counting input old new (Err seat.LineTooLong) = IsHeard counting input old new (Err ReadFailed)
 Sits counting input old new (Err (seat.Session why reason)) = IsHeard counting input old new (Err why)
 Sits counting input old new (Err (seat.Unsent reason)) = (ended : Result ℕ ServeFault) × IsHeard counting input old new ended
 Sits counting input old new (Err other) = new ≡ old

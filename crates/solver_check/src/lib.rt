@@ -1,6 +1,14 @@
 //! What needs no desk of what the program's words do, over texts: a verdict on a solver's paths, the
 //! scene of a map and a scenario, reports from scratch, the bounds and the faults of runs, what seats
 //! planners, and who hears the answers of a drill.
+//!
+//! `seats` says what seats a planner, `hearing` what goes along with a drill, which `heard` tells the
+//! first word of each answer; `scenes` makes the scene of a map and a scenario, `reporting` reports
+//! from scratch; `faults` has what a run fails by.
+//!
+//! In `checks`, for the word `check`, `edits` are what a text of paths asks for, `scenes` the scene
+//! that it makes, `times` the time at which a path is refused; `texts` and `quiet` write the verdict;
+//! `faults` has what a verdict or a picture fails by.
 #![tactic(auto)]
 
 mod bounds;
@@ -13,7 +21,9 @@ mod scenes;
 mod seats;
 mod shown;
 
-pub use bounds::{BOUNDS, MOST_BYTES, MOST_LINES};
+pub use bounds::{
+    BOUNDS, MOST_BYTES, MOST_HOSTED_BYTES, MOST_HOSTED_LINES, MOST_LINES, SEAT_BOUNDS,
+};
 pub use checks::{CheckFault, planned_scene, run_check};
 pub use faults::{Fault, RunFault};
 pub use heard::Heard;

@@ -1,6 +1,6 @@
 ghost use Rattle.solver_check.specs.Seats.{Sits};
 
-use desk_commits::Counter;
+use desk_core::Counter;
 use session_protocol::ServeFault;
 use std::alloc::Global;
 use std::io;
@@ -25,6 +25,9 @@ pub enum SeatFault {
     /// There was no memory to seat it. Nothing was heard.
     #[error("out of memory")]
     OutOfMemory,
+    /// A line of its session was too long. The lines complete by then were answered.
+    #[error("line too long")]
+    LineTooLong,
     /// Its session ended before its input did, for the system's reason where there is one.
     #[error("{0}")]
     Session(ServeFault, Option<io::Error>),
@@ -68,4 +71,7 @@ pub trait Seats: Sync {
         counter: &mut C,
     ) -> Outcome
         ensures { Sits C.counting (inputs self.now number) counter.old counter.new result };
+
+    /// No thread starts for the planner of that number: it isn't let in, and nothing is heard.
+    fn miss<R: Wait>(&self, rt: &R, number: u32);
 }

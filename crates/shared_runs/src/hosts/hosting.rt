@@ -28,8 +28,9 @@ pub struct HostEnd {
     pub same: Result<bool, OutOfMemory>,
 }
 
-/// Hosts so many planners and the operator over one shared desk, which begins with the desk: each
-/// planner is numbered from 1 and has a thread, the operator is planner 0 and is served here.
+/// Hosts so many planners and the operator over one shared desk, which begins with the desk: the
+/// planners are numbered from 1, the operator is planner 0, and each has a thread with a stack of its
+/// own size. The calling thread's stack holds some kilobytes for each planner.
 /// When all have ended, the desk is closed, and its report is compared with an audit's, by so many
 /// threads.
 ///

@@ -3,6 +3,7 @@ ghost use Rattle.std.specs.Prelude.{◌≡◌, IfErr, IfOk};
 ghost use Rattle.desk_shared.specs.Passes.{Owns};
 ghost use Rattle.shared_runs.specs.Hosts.{IsEnded};
 
+use core::thread::Stack;
 use desk_shared::{Pass, SharedDesk, Window};
 use solver_check::{Outcome, SeatFault, Seats};
 use std::alloc::Global;
@@ -30,10 +31,14 @@ impl<'a, S: Seats> Promise<Ended> for Seat<'a, S> {
 /// A planner's session under way, or what stands for it where its thread did not start.
 pub(crate) type Sitting<'a, S> = Result<PromisedHandle<Ended, Seat<'a, S>>, Ended>;
 
+/// The bytes of stack of a session's thread, whatever the system's limit of stacks is.
+const SESSION_STACK: usize = 1_048_576;
+
 /// No planner's number.
 pub(crate) const NOBODY: u32 = u32::MAX;
 
-/// Serves the planner of that number at its seat, unless its thread did not start.
+/// Serves the planner of that number at its seat, unless its thread did not start: then the seat is
+/// told so.
 pub(crate) fn sit<R: Wait, S: Seats>(
     rt: &R,
     alloc: Global,
@@ -47,6 +52,7 @@ pub(crate) fn sit<R: Wait, S: Seats>(
     ensures { IsEnded desk.now (S.inputs seats.now number) pass result.0 result.1 }
 {
     if unstarted.load(Ordering::SeqCst) == number {
+        seats.miss(rt, number);
         return (pass, Err(SeatFault::NoThread));
     }
     let mut window = Window::new(rt, desk, pass);
@@ -78,7 +84,8 @@ pub(crate) fn begin<'s, E: 's, R: Wait + Sync, S: Seats>(
         number,
         before: Snapshot::of(&pass),
     };
-    let started = scope.spawn_with(
+    let started = Stack::new().stack_size(SESSION_STACK).spawn_scoped_with(
+        scope,
         promise,
         move || -> Ended
             requires { Owns desk.now pass }

@@ -1,10 +1,10 @@
-//! Planners served at once, each in a thread of its own, and the operator beside them.
+//! Planners and the operator served at once, each in a thread of its own.
 ghost use Rattle.std.specs.Prelude.{◌≡◌, ◌+◌, length};
 ghost use Rattle.desk_shared.specs.Passes.{Owns};
 ghost use Rattle.shared_runs.specs.Drills.{MaySplit};
-ghost use Rattle.shared_runs.specs.Hosts.{HasHosted};
+ghost use Rattle.shared_runs.specs.Hosts.{HasHosted, IsEnded};
 
-use crate::hosts::sittings::{NOBODY, begin, sit};
+use crate::hosts::sittings::{Ended, NOBODY, begin};
 use desk_shared::{Pass, SharedDesk};
 use solver_check::{Outcome, Seats};
 use std::alloc::Global;
@@ -13,9 +13,30 @@ use std::sync::atomic::AtomicU32;
 use std::thread;
 use std::thread::{Scope, Threads};
 
-// Serves the planners, so many as there are outcomes, the first of them as planner number + 1, each
-// in a thread that is joined before this returns, and the operator here, through the first pass.
-// Their passes are joined into the first one. Answers how the operator's session ended.
+// Serves the operator in a thread of its own, through the first pass, once the planners sit.
+fn operate<'s, E: 's, R: Threads + Wait + Sync, S: Seats>(
+    rt: &'s R,
+    alloc: Global,
+    scope: &'s Scope<'s, E>,
+    desk: &'s SharedDesk,
+    first: Pass,
+    seats: &'s S,
+    unstarted: &'s AtomicU32,
+) -> Ended
+    requires { Owns desk.now first }
+    ensures { IsEnded desk.now (S.inputs seats.now 0) first result.0 result.1 }
+{
+    let sitting = begin(rt, alloc, scope, desk, first, seats, 0, unstarted);
+    let (pass, ended) = match sitting {
+        Ok(child) => child.join(rt),
+        Err(missed) => missed,
+    };
+    (pass, ended)
+}
+
+// Serves the planners, so many as there are outcomes, the first of them as planner number + 1, and the
+// operator through the first pass, each in a thread that is joined before this returns. Their passes
+// are joined into the first one. Answers how the operator's session ended.
 fn host_all<'s, E: 's, R: Threads + Wait + Sync, S: Seats>(
     rt: &'s R,
     alloc: Global,
@@ -34,7 +55,7 @@ fn host_all<'s, E: 's, R: Threads + Wait + Sync, S: Seats>(
     ensures hosted { HasHosted desk.now (S.inputs seats.now) first.known result.0.known (number + 1) outcomes.new result.1 }
 {
     let Some((outcome, later)) = outcomes.split_first_mut() else {
-        return sit(rt, alloc, desk, first, seats, 0, unstarted);
+        return operate(rt, alloc, scope, desk, first, seats, unstarted);
     };
     let Ok(pass) = desk.split(&mut first) else {
         unreachable!()

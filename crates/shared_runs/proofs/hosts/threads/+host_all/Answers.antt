@@ -8,7 +8,7 @@ use Rattle.shared_runs.proofs.hosts.threads.+host_all.Goals.{in-Ok-sitting, in-E
 
 pub returns-in_default-clause-hosted : goal.returns-in_default-clause-hosted
 returns-in_default-clause-hosted g t c =
-    none_hosted c.args.desk.now (g.S.Seats.inputs c.args.seats.now) c.args.first c.sit.result.0 _ c.args.outcomes.now _ c.in_default.ensures.cases c.requires.first.nothing_seen c.requires.first.none_joined c.requires.operator c.sit.ensures
+    none_hosted c.args.desk.now (g.S.Seats.inputs c.args.seats.now) c.args.first c.operate.result.0 _ c.args.outcomes.now _ c.in_default.ensures.cases c.requires.first.nothing_seen c.requires.first.none_joined c.requires.operator c.operate.ensures
 
 pub unreachable-requires : goal.unreachable-requires
 unreachable-requires g t c =

@@ -1,0 +1,48 @@
+"""Pairs of `host` are told apart by what they are: names that have a file in common, and two hosts on one pair."""
+import os
+
+from .comings import AUDITED, make_pipes, remove_pipes
+from .growing import unheard
+from .hosting import Hosted
+from .running import bytes_of, put, run, want
+
+# Names under which a second planner would have a file of the first one.
+LINKS = {
+    "./a": None,
+    "link": lambda: (os.symlink("a.in", "link.in"), os.symlink("a.out", "link.out")),
+    "hard": lambda: (os.link("a.in", "hard.in"), os.link("a.out", "hard.out")),
+    "crossed": lambda: (os.symlink("a.out", "crossed.in"), os.symlink("a.in", "crossed.out")),
+}
+
+
+def two_names_of_one_pair():
+    """Two planners that have a file in common are refused before a line is read, pipes and other files alike; so are two hosts of one pair."""
+    for name, make in LINKS.items():
+        for pipes in (True, False):
+            remove_pipes("link", "hard", "crossed")
+            if pipes:
+                make_pipes("a")
+                keeps = os.open("a.in", os.O_RDWR)
+                os.write(keeps, b"close 0,0\n")
+            else:
+                remove_pipes("a")
+                put("a.in", b"close 0,0\n"), put("a.out", b"")
+            if make:
+                make()
+            told = "a" if pipes and name == "crossed" else name  # (answers that are pipes are opened before the inputs)
+            want(f"a host of a and {name}", run(["host", "--map", "m", "a", name]), (2, "", f"mapf_desk: {told}: in use\n"))
+            want("what is left to be read", unheard(keeps) if pipes else len(bytes_of("a.in")), 10)
+            want("the answers", pipes or bytes_of("a.out"), pipes or b"")
+            if pipes:
+                os.close(keeps)
+    remove_pipes("a", "link", "hard", "crossed")
+    with Hosted(["east"]) as hosted:
+        want("a second host", run(["host", "--map", "m", "./east"]), (2, "", "mapf_desk: ./east: in use\n"))
+        [east] = hosted.seats()
+        east.ask(b"version", b"version 0")
+        east.close()
+        hosted.ends(*AUDITED)
+
+
+def tests():
+    yield "two_names_of_one_pair", two_names_of_one_pair
