@@ -1,4 +1,9 @@
 //! The report of a scene, made from scratch in pieces, each by a thread of its own.
+//!
+//! `sightings` is the index, filed in `tables`; it is made once and lent. `threads` starts a thread for
+//! each piece, under a promise that says what its part is; a part (`parts`) is made by `entries`, with
+//! `adding` for what an agent meets and `movers` for the rings, by `visits` and by `lines`, whose lower
+//! bounds `piece_bounds` notes and `bounds` makes. `audits` puts the parts together.
 #![tactic(auto)]
 
 mod adding;

@@ -1,4 +1,10 @@
 //! Distances of all cells of a map to a goal, mended by Lifelong Planning A* as cells open and close.
+//!
+//! `search` makes a field, `lifelong` takes cells out of the queue, and `updates` works out what a
+//! taking moves. `field` is a field on its own; `fields` has the `distances` to each goal that is held
+//! and one room for all (`lending`), and `held` is what it lends. `maps` brings the room's map up to
+//! date (`adopt`). `plain` is a field that is never repaired. `a_star` answers distances between two
+//! cells, by the levels of its `frontier`.
 #![tactic(auto)]
 
 mod a_star;

@@ -1,4 +1,10 @@
 //! The text of journals: written, read in both versions, and upgraded.
+//!
+//! `writing` and `entries` put the text of a journal into a sink: what has a text there is `Written`
+//! (`written`), a cell, a watch, an edit, an entry, and one loop puts several. `reading` takes line
+//! after line, and `steps` says where each leads, from one of the `places` to the next, and `headings`
+//! where one in a heading does: `lines` finds what a line names, and `spelling` whether it is spelled
+//! as it is written. `showing` gives the text of one entry.
 #![tactic(auto)]
 
 mod entries;

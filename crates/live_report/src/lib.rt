@@ -1,4 +1,16 @@
 //! The books of a desk: what is kept beside a scene, so that a commit and a reading cost what changed.
+//!
+//! `fleet` keeps the index and the ledger of conflicts together, `prices` the ledger of costs and the
+//! goals that agents aim at (`aims`, `goals`); `books` has both. `follow` first gives the books the
+//! cells that changed (`flip`), for each of which the index tells the ledger of costs who comes through
+//! it (`price_flips`), and then goes agent by agent (`catch_up`): a `Former` tells the row that an
+//! agent had, the scene has the row that it has now, and `changing` lets it come, go or change.
+//! `reports` makes the report from both ledgers, the conflict list and the agents' lines (`told_lines`,
+//! `totals`, `visitors`), and `judging` tells without a list whether it solves. The `lines` are as if
+//! no visit were blocked. From a report on they stand in the books (`reporting`), and go along with
+//! each agent's row (`standing_lines`) until a cell flips or they find no memory; the next report makes
+//! them anew from the fields (`bounds`). The lemma of the loop (`proofs/Leaving.antt`) says that the
+//! rows which the books stand for are the new ones but for those of the agents still to come.
 #![tactic(auto)]
 
 mod aims;

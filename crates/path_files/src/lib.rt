@@ -1,4 +1,9 @@
 //! The files of paths that solvers of multi-agent path finding write.
+//!
+//! A file of paths (`paths`) is read in the form that is named or that the first line tells (`forms`):
+//! `times`, with `heads` before it and a row for each time (`rows`); or `told`, where a line tells a
+//! path: by `agents`, or by `sessions`, where it is read as a session's. `lines` and `cells` serve all
+//! of these.
 #![tactic(auto)]
 
 mod agents;

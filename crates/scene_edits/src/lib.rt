@@ -1,5 +1,12 @@
 //! Scenes of a grid, a fleet's plans and a mode, the edits of them, and what these changed: the rows
 //! that agents had before, and the cells that were opened or closed.
+//!
+//! `edits` and `changes` are data. `agent_edits`, `path_edits` and `cell_edits` make one edit on the
+//! parts of a scene (`boards`), `in_order` makes a list of them, and `undoing` takes back those before
+//! one that is refused. `differences` finds where two tracks part (`first_difference`), `tasks` makes a
+//! scene of a scenario's tasks. Of the changes that a list of edits told, `flipped_cells` finds the
+//! cells whose state they changed, and `named_agents` each agent that they name, the row that it had,
+//! and the time below which that row's path is known to be as it is now (`taking_back`).
 #![tactic(auto)]
 
 mod agent_edits;
