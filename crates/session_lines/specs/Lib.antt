@@ -1,8 +1,10 @@
 pub mod Values
 pub mod Cells
+pub mod Agents
 pub mod Kinds
 pub mod Commands
 pub mod Shapes
 pub mod Edits
 pub mod Faults
 pub mod Requests
+pub mod Questions

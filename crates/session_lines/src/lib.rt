@@ -4,14 +4,21 @@
 //! `shapes`, `cells`, `values`).
 #![tactic(auto)]
 
+mod agents;
 mod cells;
 mod commands;
 mod edits;
+mod inquiries;
 mod kinds;
+mod questions;
 mod requests;
 mod shapes;
 mod values;
+mod versions;
 
 pub use commands::is_remark;
+pub use inquiries::Inquiry;
+pub use questions::read_line_in;
 pub use requests::{LineFault, Request, read_line};
-pub use values::{is_word, place_of};
+pub use values::{MOST_SECONDS, is_word, place_of};
+pub use versions::LinesVersion;

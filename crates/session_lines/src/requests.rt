@@ -7,6 +7,7 @@ ghost use Rattle.session_lines.specs.Requests.{thing_of, shaped, AsksForCells, I
 
 use crate::commands::{Command, command_of, is_remark};
 use crate::edits::edit_of;
+use crate::inquiries::Inquiry;
 use crate::kinds::kinds_of;
 use crate::shapes::agent_and_cell;
 use crate::values::{agent_of, cell_of};
@@ -39,6 +40,8 @@ pub enum Request {
     Distance(Agent, Cell),
     /// Whether the plans solve the problem, by these kinds of conflicts.
     Solves(Kinds),
+    /// One of the questions of version 2.
+    Ask(Inquiry),
 }
 
 /// Why a line is no request.

@@ -1,9 +1,12 @@
 ghost use Rattle.std.specs.Prelude.{◌≡◌, ◌+◌, [], take, drop, bytes_eq, MatchOption};
 ghost use Rattle.std.specs.List.{before_first, after_first, position};
-ghost use Rattle.session_lines.specs.Values.{agent_of, time_of, place_of, cell_of, is_comma};
+ghost use Rattle.session_lines.specs.Values.{agent_of, time_of, version_named, seconds_of, place_of, cell_of, is_comma};
 
 use bench_reader::number_of;
 use grid_cells::{Agent, Cell, MOST_SIDE, Step};
+
+/// The most seconds that a planner waits at once: a day.
+pub const MOST_SECONDS: u32 = 86_400;
 
 /// Whether the word is that name.
 pub fn is_word(word: &[u8], name: &[u8]) -> bool
@@ -24,6 +27,37 @@ pub(crate) fn time_of(word: &[u8]) -> Option<Step>
     ensures { result ≡ time_of word.now }
 {
     Some(Step::new(number_of(word)?))
+}
+
+/// The version that a word names: decimal digits, leading zeros allowed, below 2^64.
+pub(crate) fn version_named(word: &[u8]) -> Option<u64>
+    ensures { result ≡ version_named word.now }
+{
+    if word.is_empty() {
+        return None;
+    }
+    let mut number: u64 = 0;
+    for byte in word {
+        if !byte.is_ascii_digit() {
+            return None;
+        }
+        number = number
+            .checked_mul(10)?
+            .checked_add(u64::from(*byte - b'0'))?;
+    }
+    Some(number)
+}
+
+/// The seconds that a word names.
+pub(crate) fn seconds_of(word: &[u8]) -> Option<u32>
+    ensures { result ≡ seconds_of word.now }
+{
+    let number = number_of(word)?;
+    if number <= MOST_SECONDS {
+        Some(number)
+    } else {
+        None
+    }
 }
 
 /// The column or the row that a word writes.
