@@ -4,4 +4,5 @@ pub mod Progress
 pub mod Endings
 pub mod Reading
 pub mod MapLines
+pub mod ItemLines
 pub mod Staying

@@ -47,7 +47,7 @@ refusal_words refusals.OutOfMemory = codes "memory" ∷ []
 abbrev pub refusal_text : Refusal → List ℕ
 refusal_text refusal = join_with_byte 32 (refusal_words refusal)
 
--- why a distance isn't told
+-- why a question isn't answered
 abbrev pub asked_words : AskFault → List (List ℕ)
 asked_words asked.UnknownAgent = codes "unknown-agent" ∷ []
 asked_words asked.OutOfMap = codes "out-of-map" ∷ []

@@ -12,12 +12,16 @@ use Rattle.desk_commits.specs.declared.answers.Reading.{Reading}
 use Rattle.desk_commits.specs.declared.answers.AskFault.{AskFault}
 use Rattle.desk_commits.specs.Counting.{Counting}
 use Rattle.session_protocol.specs.Drafts.{Draft, blank, entry_of}
-use Rattle.session_protocol.specs.Tellings.{commit_reply, after_commit, reading_reply, SolvesReply, distance_reply}
+use Rattle.desk_commits.specs.Questions.{TellsCut, TellsPlan, TellsOpen, TellsStanding}
+use Rattle.desk_commits.specs.State.{DeskState}
+use Rattle.session_protocol.specs.Tellings.{commit_reply, after_commit, reading_reply, SolvesReply, distance_reply, asked_reply}
 use Rattle.session_protocol.specs.declared.drafts.Session.{Session}
 use Rattle.session_protocol.specs.declared.drafts.Session.TheVariants.{Idle, Gathering}
 use Rattle.session_protocol.specs.declared.replies.BadLine.TheVariants.{NotBegun, Full}
 use Rattle.session_protocol.specs.declared.replies.Reply.{Reply}
 use Rattle.session_protocol.specs.declared.replies.Reply.TheVariants as reply
+use Rattle.session_lines.specs.declared.inquiries.Inquiry.{Inquiry}
+use Rattle.session_lines.specs.declared.inquiries.Inquiry.TheVariants as inquiry
 use Rattle.session_lines.specs.declared.requests.Request.{Request}
 use Rattle.session_lines.specs.declared.requests.Request.TheVariants as ask
 
@@ -66,6 +70,18 @@ TellsSolves c at kinds given then = (result : Result Reading OutOfMemory) × c.r
 abbrev pub TellsDistance : {S : Type 0} → Counting S → S → ℕ → Point → Reply → S → Type 0
 TellsDistance c at agent cell given then = (result : Result (Option ℕ) AskFault) × c.tells at agent cell result then × (given ≡ distance_reply result)
 
+-- a question is put to the counter, and what it answers is told, or the first fault of the question
+abbrev pub Asks : {S X : Type 0} → Counting S → S → (DeskState → Result X AskFault → Type 0) → (X → Reply) → Reply → S → Type 0
+Asks {S} {X} c at IsAnswer tell given then = (result : Result X AskFault) × c.asks (Result X AskFault) at IsAnswer result then × (given ≡ asked_reply tell result)
+
+-- a question of version 2 of lines: the report cut to some agents, a plan, whether a cell is open, who is where at a time; a wait ends with the counter's version
+abbrev pub Inquires : {S : Type 0} → Counting S → S → Inquiry → Reply → S → Type 0
+Inquires c at (inquiry.Report agents) given then = Asks c at (λ desk. TellsCut desk agents) reply.Shown given then
+Inquires c at (inquiry.Plan agent) given then = Asks c at (λ desk. TellsPlan desk.scene agent) (reply.Planned agent) given then
+Inquires c at (inquiry.Cell cell) given then = Asks c at (λ desk. TellsOpen desk.scene cell) reply.Open given then
+Inquires c at (inquiry.At time cell) given then = Asks c at (λ desk. TellsStanding desk.scene time cell) reply.Standing given then
+Inquires c at (inquiry.Wait seen seconds) given then = TellsVersion c at given then
+
 -- from a session and a counter, a request in the line of that number is given that reply, and leaves that session and that counter
 abbrev pub Obeys : {S : Type 0} → Counting S → ℕ → Session → S → Request → Reply → Session → S → Type 0
 Obeys c number old at ask.Silent given new then = (given ≡ reply.Silent) × (new ≡ old) × (then ≡ at)
@@ -82,6 +98,7 @@ Obeys c number old at ask.Version given new then = TellsVersion c at given then 
 Obeys c number old at ask.Report given new then = TellsReport c at given then × (new ≡ old)
 Obeys c number old at (ask.Distance agent cell) given new then = TellsDistance c at agent cell given then × (new ≡ old)
 Obeys c number old at (ask.Solves kinds) given new then = TellsSolves c at kinds given then × (new ≡ old)
+Obeys c number old at (ask.Ask question) given new then = Inquires c at question given then × (new ≡ old)
 
 -- no memory was found, and nothing changed
 abbrev pub FindsNoMemory : {S : Type 0} → Session → S → Reply → Session → S → Type 0

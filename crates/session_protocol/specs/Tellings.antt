@@ -37,3 +37,8 @@ SolvesReply kinds (Err refused) given = given ≡ reply.NoMemory
 abbrev pub distance_reply : Result (Option ℕ) AskFault → Reply
 distance_reply (Ok distance) = reply.Far distance
 distance_reply (Err fault) = reply.NotAsked fault
+
+-- the answer to a question of version 2 of lines
+abbrev pub asked_reply : {X : Type 0} → (X → Reply) → Result X AskFault → Reply
+asked_reply tell (Ok answer) = tell answer
+asked_reply tell (Err fault) = reply.NotAsked fault

@@ -1,15 +1,17 @@
 //! The answer to a line.
 ghost use Rattle.std.specs.Prelude.{◌≡◌};
-ghost use Rattle.session_protocol.specs.Answer.{answering};
+ghost use Rattle.session_protocol.specs.Answer.{answering_in};
 ghost use Rattle.session_protocol.specs.Table.{MayObey, TellsReport, TellsSolves, TellsDistance};
 
 use crate::drafts::{Gathered, Session};
 use crate::gathering::{commit, commit_alone, keep_edit, keep_watch};
+use crate::inquiries::inquire;
 use crate::replies::{BadLine, Reply};
+use crate::waiting::Waiting;
 use desk_core::Counter;
 use desk_report::Kinds;
 use grid_cells::{Agent, Cell, OutOfMemory};
-use session_lines::{LineFault, Request, read_line};
+use session_lines::{LineFault, LinesVersion, Request, read_line_in};
 use std::alloc::Global;
 
 // A fresh reading.
@@ -49,11 +51,12 @@ fn bad(line: u32, why: BadLine) -> Reply
 }
 
 // The reply to a request outside a gathering, and where the session then is.
-fn obey_idle<C: Counter>(
+fn obey_idle<C: Counter, P: Waiting<C>>(
     alloc: Global,
     counter: &mut C,
     number: u32,
     request: Request,
+    waiting: &P,
 ) -> (Reply, Session)
     ensures { MayObey C.counting number Session.Idle counter.old request result.0 result.1 counter.new }
 {
@@ -74,16 +77,18 @@ fn obey_idle<C: Counter>(
         Request::Report => (report(counter), Session::Idle),
         Request::Distance(agent, cell) => (distance(counter, agent, cell), Session::Idle),
         Request::Solves(kinds) => (solves(counter, kinds), Session::Idle),
+        Request::Ask(inquiry) => (inquire(counter, inquiry, waiting), Session::Idle),
     }
 }
 
 // The reply to a request while a commit is gathered, and where the session then is.
-fn obey_gathering<C: Counter>(
+fn obey_gathering<C: Counter, P: Waiting<C>>(
     alloc: Global,
     counter: &mut C,
     number: u32,
     gathered: Gathered,
     request: Request,
+    waiting: &P,
 ) -> (Reply, Session)
     ensures { MayObey C.counting number (Session.Gathering gathered) counter.old request result.0 result.1 counter.new }
 {
@@ -109,37 +114,48 @@ fn obey_gathering<C: Counter>(
             (distance(counter, agent, cell), Session::Gathering(gathered))
         }
         Request::Solves(kinds) => (solves(counter, kinds), Session::Gathering(gathered)),
+        Request::Ask(inquiry) => {
+            (
+                inquire(counter, inquiry, waiting),
+                Session::Gathering(gathered),
+            )
+        }
     }
 }
 
 // The reply to a request, and where the session then is.
-pub(crate) fn obey<C: Counter>(
+pub(crate) fn obey<C: Counter, P: Waiting<C>>(
     alloc: Global,
     session: Session,
     counter: &mut C,
     number: u32,
     request: Request,
+    waiting: &P,
 ) -> (Reply, Session)
     ensures { MayObey C.counting number session counter.old request result.0 result.1 counter.new }
 {
     match session {
-        Session::Idle => obey_idle(alloc, counter, number, request),
-        Session::Gathering(gathered) => obey_gathering(alloc, counter, number, gathered, request),
+        Session::Idle => obey_idle(alloc, counter, number, request, waiting),
+        Session::Gathering(gathered) => {
+            obey_gathering(alloc, counter, number, gathered, request, waiting)
+        }
     }
 }
 
-// The reply to a line, and where the session then is.
-pub(crate) fn answer<C: Counter>(
+// The reply to a line in that version, and where the session then is.
+pub(crate) fn answer<C: Counter, P: Waiting<C>>(
     alloc: Global,
+    version: LinesVersion,
+    waiting: &P,
     session: Session,
     counter: &mut C,
     number: u32,
     line: &[u8],
 ) -> (Reply, Session)
-    ensures { answering C.counting (session, counter.old) number line.now result.0 (result.1, counter.new) }
+    ensures { answering_in version C.counting (session, counter.old) number line.now result.0 (result.1, counter.new) }
 {
-    match read_line(alloc, line) {
-        Ok(request) => obey(alloc, session, counter, number, request),
+    match read_line_in(alloc, version, line) {
+        Ok(request) => obey(alloc, session, counter, number, request, waiting),
         Err(LineFault::Word) => (bad(number, BadLine::Word), session),
         Err(LineFault::Shape) => (bad(number, BadLine::Shape), session),
         Err(LineFault::OutOfMemory) => (Reply::NoMemory, session),

@@ -10,8 +10,12 @@ use desk_commits::{AskFault, Refusal};
 use desk_report::{Sink, Word, WriteFailed, put_all, put_line, put_more};
 use scene_edits::{EditFault, Thing};
 
-// The words, with one space between each two.
-fn put_words<W: Sink>(sink: &mut W, first: &[u8], others: &[Word]) -> Result<(), WriteFailed>
+/// Puts the words, with one space between each two.
+pub(crate) fn put_words<W: Sink>(
+    sink: &mut W,
+    first: &[u8],
+    others: &[Word],
+) -> Result<(), WriteFailed>
     ensures ok { OnOk result (Appends (W.held sink.old) (W.held sink.new) (join_with_byte 32 (first.now ∷ map word_text others.now))) }
     ensures err { OnErr result (AppendsFront (W.held sink.old) (W.held sink.new) (join_with_byte 32 (first.now ∷ map word_text others.now))) }
     ensures broken { W.broken sink.new ≡ (W.broken sink.old || is_err result) }
@@ -104,7 +108,7 @@ pub(crate) fn put_refused<W: Sink>(sink: &mut W, refusal: Refusal) -> Result<(),
     put_all(sink, b"\n")
 }
 
-/// Puts why a distance isn't told, as a line of its own.
+/// Puts why a question isn't answered, as a line of its own.
 pub(crate) fn put_not_asked<W: Sink>(sink: &mut W, fault: AskFault) -> Result<(), WriteFailed>
     ensures { Puts W.held W.broken sink.old sink.new result (refused_line (asked_words fault)) }
 {

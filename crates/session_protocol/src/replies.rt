@@ -1,4 +1,6 @@
 use desk_commits::{AskFault, Reading, Refusal};
+use grid_cells::{Agent, List};
+use plan_table::Row;
 
 /// What is wrong with a line.
 #[derive(Clone, Copy, PartialEq, Eq)]
@@ -30,4 +32,10 @@ pub(crate) enum Reply {
     Far(Option<u32>),
     NotAsked(AskFault),
     Solves(bool),
+    /// An agent's goal and path.
+    Planned(Agent, Row),
+    /// Whether a cell is open.
+    Open(bool),
+    /// The agents in a cell at a time.
+    Standing(List<Agent>),
 }

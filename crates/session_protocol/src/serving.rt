@@ -1,33 +1,37 @@
 ghost use Rattle.std.specs.Prelude.{◌≡◌, ◌+◌, [], IfErr, ◌||◌};
-ghost use Rattle.session_protocol.specs.Answer.{answering};
-ghost use Rattle.session_protocol.specs.Reads.{ReadsUntil, TakesAtMost, ReadsWithin};
+ghost use Rattle.session_protocol.specs.Answer.{answering_in};
+ghost use Rattle.session_protocol.specs.Reads.{ReadsWithin};
 ghost use Rattle.session_protocol.specs.Session.{IsAnswered, IsNext, Serves, is_read_failed, is_write_failed};
 
 use crate::answers::answer;
 use crate::bounds::{Bounds, ServeFault};
 use crate::drafts::Session;
+use crate::waiting::Waiting;
 use crate::writers::put_reply;
 use desk_core::Counter;
 use desk_report::{Sink, Source, WriteFailed};
+use session_lines::LinesVersion;
 use std::alloc::Global;
 use std::mem;
 
 // Answers the line, and puts the reply.
-fn answer_line<C: Counter, W: Sink>(
+fn answer_line<C: Counter, P: Waiting<C>, W: Sink>(
     alloc: Global,
+    version: LinesVersion,
+    waiting: &P,
     session: &mut Session,
     counter: &mut C,
     number: u32,
     line: &[u8],
     writer: &mut W,
 ) -> Result<(), ServeFault>
-    ensures answered { IsAnswered (answering C.counting) (session.old, counter.old) number line.now
+    ensures answered { IsAnswered (answering_in version C.counting) (session.old, counter.old) number line.now
         (W.held writer.old) (W.held writer.new) result (session.new, counter.new) }
     ensures unwritten { IfErr result (λ fault. fault ≡ ServeFault.WriteFailed) }
     ensures broken { W.broken writer.new ≡ (W.broken writer.old || is_write_failed result) }
 {
     let before = mem::replace(session, Session::Idle);
-    let (reply, next) = answer(alloc, before, counter, number, line);
+    let (reply, next) = answer(alloc, version, waiting, before, counter, number, line);
     *session = next;
     let put = put_reply(writer, &reply);
     drop(reply);
@@ -63,9 +67,11 @@ fn next_within<R: Source>(
     Ok(next)
 }
 
-// Serves the session from where it is, before the first byte of a line.
-fn serve_lines<C: Counter, R: Source, W: Sink>(
+/// Serves the session from where it is, before the first byte of a line.
+pub(crate) fn serve_lines<C: Counter, P: Waiting<C>, R: Source, W: Sink>(
     alloc: Global,
+    version: LinesVersion,
+    waiting: &P,
     session: &mut Session,
     line: &mut Vec<u8>,
     counter: &mut C,
@@ -74,7 +80,7 @@ fn serve_lines<C: Counter, R: Source, W: Sink>(
     bounds: Bounds,
 ) -> Result<u32, ServeFault>
     requires { line.old.items ≡ [] }
-    ensures session { Serves (answering C.counting) bounds (R.left reader.old) (R.left reader.new)
+    ensures session { Serves (answering_in version C.counting) bounds (R.left reader.old) (R.left reader.new)
         (W.held writer.old) (W.held writer.new) (session.old, counter.old) (session.new, counter.new) result }
     ensures read { ReadsWithin R.gives (bounds.bytes + 1) reader.old reader.new (is_read_failed result) }
     ensures failed { R.failed reader.new ≡ (R.failed reader.old || is_read_failed result) }
@@ -87,7 +93,17 @@ fn serve_lines<C: Counter, R: Source, W: Sink>(
             if line.is_empty() {
                 return Ok(lines);
             }
-            answer_line(alloc, session, counter, lines + 1, line.as_slice(), writer)?;
+            let last = line.as_slice();
+            answer_line(
+                alloc,
+                version,
+                waiting,
+                session,
+                counter,
+                lines + 1,
+                last,
+                writer,
+            )?;
             return Ok(lines + 1);
         };
         bytes += 1;
@@ -98,45 +114,11 @@ fn serve_lines<C: Counter, R: Source, W: Sink>(
             }
         } else {
             lines += 1;
-            answer_line(alloc, session, counter, lines, line.as_slice(), writer)?;
+            let whole = line.as_slice();
+            answer_line(
+                alloc, version, waiting, session, counter, lines, whole, writer,
+            )?;
             line.clear();
         }
     }
-}
-
-/// Serves a session to the end of its input, and answers how many lines it had. Each line is
-/// answered when it is complete.
-///
-/// # Errors
-///
-/// The first fault. The lines that were complete by then were answered; where the sink failed, the
-/// last of them in part.
-pub fn serve<C: Counter, R: Source, W: Sink>(
-    alloc: Global,
-    counter: &mut C,
-    reader: &mut R,
-    writer: &mut W,
-    bounds: Bounds,
-) -> Result<u32, ServeFault>
-    ensures session { (last : Session) × Serves (answering C.counting) bounds (R.left reader.old) (R.left reader.new)
-        (W.held writer.old) (W.held writer.new) (Session.Idle, counter.old) (last, counter.new) result }
-    ensures reads { ReadsUntil R.gives reader.old reader.new (is_read_failed result) }
-    ensures bounded { TakesAtMost R.gives (bounds.bytes + 1) reader.old reader.new }
-    ensures failed { R.failed reader.new ≡ (R.failed reader.old || is_read_failed result) }
-    ensures broken { W.broken writer.new ≡ (W.broken writer.old || is_write_failed result) }
-{
-    let mut session = Session::Idle;
-    let mut line: Vec<u8> = Vec::new(alloc);
-    let served = serve_lines(
-        alloc,
-        &mut session,
-        &mut line,
-        counter,
-        reader,
-        writer,
-        bounds,
-    );
-    drop(session);
-    drop(line);
-    served
 }

@@ -2,11 +2,14 @@
 ghost use Rattle.std.specs.Prelude.{◌≡◌, IsTrue, OnOk, OnErr, is_err, ◌||◌};
 ghost use Rattle.std.specs.Io.KnownBytes.{Appends};
 ghost use Rattle.desk_report.specs.Bytes.{AppendsFront, Puts};
-ghost use Rattle.session_protocol.specs.Replies.{bad_word, begins_as_listed, is_acceptance, version_line, reported_text, reply_text};
+ghost use Rattle.session_protocol.specs.Replies.{bad_word, begins_as_listed, cell_word, is_acceptance, plan_line, standing_line, version_line, reported_text, reply_text};
 
+use crate::listing::put_listing;
 use crate::refusals::{put_not_asked, put_refused};
 use crate::replies::{BadLine, Reply};
 use desk_report::{Report, Sink, Word, WriteFailed, put_line, write_report};
+use grid_cells::{Agent, List};
+use plan_table::Row;
 
 // The word for what is wrong with a line.
 fn word_of(why: BadLine) -> &'static [u8]
@@ -33,6 +36,37 @@ fn put_version<W: Sink>(sink: &mut W, version: u64) -> Result<(), WriteFailed>
     ensures { Puts W.held W.broken sink.old sink.new result (version_line version) }
 {
     put_line(sink, b"version", &[Word::Number(version)])
+}
+
+// An agent's goal, and its path.
+fn put_plan<W: Sink>(sink: &mut W, agent: Agent, row: &Row) -> Result<(), WriteFailed>
+    ensures { Puts W.held W.broken sink.old sink.new result (plan_line agent row.now) }
+{
+    let words = [Word::agent(agent), Word::At(row.goal)];
+    put_listing(sink, b"plan", &words, row.plan.cells())
+}
+
+// The word for whether a cell is open.
+fn cell_word(is_open: bool) -> &'static [u8]
+    ensures { result.now ≡ cell_word is_open }
+{
+    if is_open { b"open" } else { b"closed" }
+}
+
+// Whether a cell is open.
+fn put_open<W: Sink>(sink: &mut W, is_open: bool) -> Result<(), WriteFailed>
+    ensures { Puts W.held W.broken sink.old sink.new result (reply_text (Reply.Open is_open)) }
+{
+    put_line(sink, b"cell", &[Word::Text(cell_word(is_open))])
+}
+
+// The agents that stand in a cell.
+fn put_standing<W: Sink>(sink: &mut W, agents: &List<Agent>) -> Result<(), WriteFailed>
+    ensures { Puts W.held W.broken sink.old sink.new result (standing_line agents.now) }
+{
+    let items = agents.items();
+    let words = [Word::Number(items.len() as u64)];
+    put_listing(sink, b"at", &words, items)
 }
 
 /// Puts a version, and a report.
@@ -68,6 +102,9 @@ pub(crate) fn put_reply<W: Sink>(sink: &mut W, reply: &Reply) -> Result<(), Writ
         Reply::Far(distance) => put_line(sink, b"distance", &[Word::given(*distance)]),
         Reply::NotAsked(fault) => put_not_asked(sink, *fault),
         Reply::Solves(is_so) => put_line(sink, b"solves", &[Word::Answer(*is_so)]),
+        Reply::Planned(agent, row) => put_plan(sink, *agent, row),
+        Reply::Open(is_open) => put_open(sink, *is_open),
+        Reply::Standing(agents) => put_standing(sink, agents),
     }
 }
 
@@ -82,4 +119,7 @@ pub fn is_acceptance(word: &[u8]) -> bool
         || word == b"cancelled".as_slice()
         || word == b"distance".as_slice()
         || word == b"solves".as_slice()
+        || word == b"plan".as_slice()
+        || word == b"cell".as_slice()
+        || word == b"at".as_slice()
 }

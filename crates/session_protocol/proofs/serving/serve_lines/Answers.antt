@@ -21,7 +21,7 @@ returns-in_err-answer_line-clause-session g c =
     let next = rw c.in_default.is at c.in_ok-byte.ensures.next in
     let p = err_from_is_err_and c.from_residual-in_err-answer_line.result c.from_residual-in_err-answer_line.ensures.1 in
     let put = c.in_err-answer_line.ensures.answered in
-    let asked = rw c.as_slice.ensures.value at put.answered in
+    let asked = rw c.as_slice-last.ensures.value at put.answered in
     let some : 0 < length c.session.line.items = search rules in
     rw (p.1, p.2, c.in_err-answer_line.ensures.unwritten)
     (ends-last_unwritten _ c.args.bounds _ _ _ _ _ _ _ _ _ _ 0 c.session.invariant.so_far _ _ put.reply next.0 next.1 some (search rules) (search rules) asked put.cut)
@@ -30,7 +30,7 @@ pub returns-in_default-clause-session : goal.returns-in_default-clause-session
 returns-in_default-clause-session g c =
     let next = rw c.in_default.is at c.in_ok-byte.ensures.next in
     let put = c.in_ok-answer_line.ensures.answered in
-    let asked = rw c.as_slice.ensures.value at put.answered in
+    let asked = rw c.as_slice-last.ensures.value at put.answered in
     let some : 0 < length c.session.line.items = search rules in
     ends-last _ c.args.bounds _ _ _ _ _ _ _ _ _ _ 0 c.session.invariant.so_far _ _ put.reply next.0 next.1 some (search rules) (search rules) asked put.sent
 
@@ -45,7 +45,7 @@ returns-in_err-answer_line-2-clause-session g c =
     let next = rw c.in-Some.is at c.in_ok-byte.ensures.next in
     let p = err_from_is_err_and c.from_residual-in_err-answer_line-2.result c.from_residual-in_err-answer_line-2.ensures.1 in
     let put = c.in_err-answer_line-2.ensures.answered in
-    let asked = rw c.as_slice-else-byte-ne10.ensures.value at put.answered in
+    let asked = rw c.as_slice-whole.ensures.value at put.answered in
     rw (p.1, p.2, c.in_err-answer_line-2.ensures.unwritten)
     (ends-line_unwritten _ c.args.bounds _ _ _ _ _ _ _ _ _ _ c.in-Some.byte c.session.invariant.so_far _ _ put.reply next.0 c.if-byte-ne10.false (omega arith) (omega arith) asked put.cut)
 
@@ -67,7 +67,7 @@ pub session-preserved : goal.session-preserved
 session-preserved g c =
     let next = rw c.in-Some.is at c.in_ok-byte.ensures.next in
     let put = c.in_ok-answer_line-2.ensures.answered in
-    let asked = rw c.as_slice-else-byte-ne10.ensures.value at put.answered in
+    let asked = rw c.as_slice-whole.ensures.value at put.answered in
     record {
       so_far = rw c.clear.ensures.items (progress-line _ _ _ _ _ _ _ _ _ _ _ c.in-Some.byte _ _ put.reply c.session.invariant.so_far next.0 c.if-byte-ne10.false asked put.sent);
       lines_within = omega arith;

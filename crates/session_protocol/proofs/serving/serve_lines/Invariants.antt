@@ -1,12 +1,12 @@
 use Rattle.std.proofs.Common.{length, ◌-◌, ◌≡◌, ◌≤◌, ◌<◌, false}
-use Rattle.session_protocol.specs.Answer.{answering}
+use Rattle.session_protocol.specs.Answer.{answering_in}
 use Rattle.session_protocol.specs.Reads.{ReadsWithin}
 use Rattle.session_protocol.proofs.Progress.{Progress}
 use Rattle.session_protocol.proofs.serving.serve_lines.Given as goal
 
 abbrev pub invariant-session : goal.invariant-session
 invariant-session g l = record {
-  so_far : Progress (answering g.C.Counter.counting) (g.R.Source.left l.fn.reader) (g.R.Source.left l.reader) (g.W.Sink.held l.fn.writer) (g.W.Sink.held l.writer) (l.fn.session, l.fn.counter) (l.session, l.counter) l.line.items l.lines l.bytes;
+  so_far : Progress (answering_in l.version g.C.Counter.counting) (g.R.Source.left l.fn.reader) (g.R.Source.left l.reader) (g.W.Sink.held l.fn.writer) (g.W.Sink.held l.writer) (l.fn.session, l.fn.counter) (l.session, l.counter) l.line.items l.lines l.bytes;
   lines_within : l.lines ≤ l.bounds.lines;
   bytes_within : l.bytes ≤ l.bounds.bytes;
   room : 0 < length l.line.items → l.lines < l.bounds.lines;

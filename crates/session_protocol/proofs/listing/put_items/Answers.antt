@@ -1,0 +1,9 @@
+use Rattle.std.proofs.Common.{◌∷◌}
+use Rattle.desk_report.proofs.Fronts.{err-of}
+use Rattle.desk_report.proofs.Lines.{front-item}
+use Rattle.session_protocol.proofs.listing.put_items.Goals as goal
+
+pub returns-in_err-put_next-clause-err : goal.returns-in_err-put_next-clause-err
+returns-in_err-put_next-clause-err g c =
+    let stopped = rw c.word-word.ensures at c.in_err-put_next.ensures.err in
+    err-of c.from_residual.result (front-item (λ item. 32 ∷ g.T.Spelled.word item) c.args.items.now _ _ _ c.loop-item.item-index c.item-item.result c.item-item.is c.loop-item-test.true c.loop-item.invariant.out stopped)
