@@ -8,11 +8,13 @@
 mod starting;
 
 pub use desk_commits::Journal;
-pub use desk_core::Counter;
+pub use desk_core::{Awaits, Counter};
 pub use desk_shared::Window;
 pub use journal_text::{
     JournalFault, one_journal_answer, read_journal, upgrade_journal, write_journal,
     written_reads_back,
 };
-pub use session_protocol::{Bounds, ServeFault, StartFault, hear_map, serve};
+pub use session_protocol::{
+    Bounds, LinesVersion, ServeFault, StartFault, hear_map, serve, serve_in,
+};
 pub use starting::serve_with_map;
