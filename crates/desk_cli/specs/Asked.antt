@@ -2,9 +2,11 @@
 use Rattle.std.specs.Prelude.{◌≡◌, ℕ, List, [], option_map, unwrap_or, codes}
 use Rattle.std.specs.Option.{option_copied}
 use Rattle.session_lines.specs.Kinds.{named_kinds}
+use Rattle.session_lines.specs.declared.versions.LinesVersion.{LinesVersion}
+use Rattle.session_lines.specs.declared.versions.LinesVersion.TheVariants.{One, Two}
 use Rattle.clap.specs.Matches.{first_value, matched_of, raw_values}
 use Rattle.clap.specs.declared.parser.matches.Found.{Found}
-use Rattle.desk_cli.specs.Values.{number_given, texts_given, texts_in, mode_named, form_named, kinds_named}
+use Rattle.desk_cli.specs.Values.{number_given, texts_given, texts_in, mode_named, lines_named, form_named, kinds_named}
 use Rattle.desk_cli.specs.declared.words.ServeWords.{ServeWords}
 use Rattle.desk_cli.specs.declared.words.AuditWords.{AuditWords}
 use Rattle.desk_cli.specs.declared.words.DrillWords.{DrillWords}
@@ -15,8 +17,8 @@ use Rattle.desk_cli.specs.declared.words.PageWords.{PageWords}
 use Rattle.desk_cli.specs.declared.words.Words.{Words}
 use Rattle.desk_cli.specs.declared.words.Words.TheVariants.{Version, Serve, Audit, Drill, Host, Check, Draw, Page}
 
--- a session's desk
-pub record AsksToServe (found : Found) (words : ServeWords) : Type 0 where
+-- a session's desk, and its version of lines, which is usually that one
+pub record AsksToServe (usual : LinesVersion) (found : Found) (words : ServeWords) : Type 0 where
   pub map : option_copied words.map ≡ first_value found (codes "map")
   pub scen : option_copied words.scen ≡ first_value found (codes "scen")
   pub agents : words.agents ≡ unwrap_or (number_given found (codes "agents")) 0
@@ -24,6 +26,7 @@ pub record AsksToServe (found : Found) (words : ServeWords) : Type 0 where
   pub mode : words.mode ≡ mode_named (first_value found (codes "mode"))
   pub journal : option_copied words.journal ≡ first_value found (codes "journal")
   pub save : option_copied words.save ≡ first_value found (codes "save")
+  pub lines : words.lines ≡ lines_named usual (first_value found (codes "lines"))
 
 pub record AsksToAudit (found : Found) (words : AuditWords) : Type 0 where
   pub map : words.map.now ≡ unwrap_or (first_value found (codes "map")) []
@@ -39,10 +42,11 @@ pub record AsksToDrill (found : Found) (words : DrillWords) : Type 0 where
   pub agents : words.agents ≡ unwrap_or (number_given found (codes "agents")) 0
   pub mode : words.mode ≡ mode_named (first_value found (codes "mode"))
   pub workers : words.workers ≡ unwrap_or (number_given found (codes "workers")) 4
+  pub lines : words.lines ≡ lines_named One (first_value found (codes "lines"))
   pub scripts : texts_in words.scripts.items ≡ texts_given found (codes "script")
 
 pub record AsksToHost (found : Found) (words : HostWords) : Type 0 where
-  pub desk : AsksToServe found words.desk
+  pub desk : AsksToServe Two found words.desk
   pub wait : words.wait ≡ number_given found (codes "wait")
   pub workers : words.workers ≡ unwrap_or (number_given found (codes "workers")) 4
   pub names : texts_in words.names.items ≡ texts_given found (codes "name")
@@ -80,7 +84,7 @@ pub record AsksToPage (found : Found) (words : PageWords) : Type 0 where
 -- what the word of that name asks for
 abbrev pub AsksFor : List ℕ → Found → Words → Type 0
 AsksFor name found Version = ⊥
-AsksFor name found (Serve words) = AsksToServe found words
+AsksFor name found (Serve words) = AsksToServe One found words
 AsksFor name found (Audit words) = (name ≡ codes "audit") × AsksToAudit found words
 AsksFor name found (Drill words) = (name ≡ codes "drill") × AsksToDrill found words
 AsksFor name found (Host words) = (name ≡ codes "host") × AsksToHost found words

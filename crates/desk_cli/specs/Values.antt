@@ -6,6 +6,8 @@ use Rattle.plan_table.specs.declared.tracks.Mode.{Mode}
 use Rattle.plan_table.specs.declared.tracks.Mode.TheVariants.{Stay, Disappear}
 use Rattle.mapf_rules.specs.declared.kinds.Kinds.{Kinds}
 use Rattle.session_lines.specs.Kinds.{named_kinds}
+use Rattle.session_lines.specs.declared.versions.LinesVersion.{LinesVersion}
+use Rattle.session_lines.specs.declared.versions.LinesVersion.TheVariants.{One, Two}
 use Rattle.path_files.specs.declared.forms.Form.{Form}
 use Rattle.path_files.specs.declared.forms.Form.TheVariants.{ByTime, ByAgent, BySession}
 use Rattle.clap.specs.Matches.{first_value, matched_of, raw_values}
@@ -27,6 +29,11 @@ texts_given found name = unwrap_or (option_map raw_values (matched_of found name
 abbrev pub mode_named : Option (List ℕ) → Mode
 mode_named None = Stay
 mode_named (Some text) = if bytes_eq text (codes "disappear") then Disappear else Stay
+
+-- the version of lines that is named, or the usual one
+abbrev pub lines_named : LinesVersion → Option (List ℕ) → LinesVersion
+lines_named usual None = usual
+lines_named usual (Some text) = if bytes_eq text (codes "2") then Two else One
 
 -- the form that is named
 abbrev pub form_named : Option (List ℕ) → Option Form

@@ -5,9 +5,9 @@ use crate::helping::{
     SERVE_HELP,
 };
 use crate::options::{
-    AGENTS, AGENTS_OF_PATHS, FORM, JOURNAL, JOURNAL_OF_AN_AUDIT, LIMIT, MAP, MAP_OR_INPUT, MODE,
-    NAMES, NEEDED_PATHS, PATHS, QUIET, SAVE, SCEN, SCEN_OF_PATHS, SCRIPTS, SOLVES, VERBOSE,
-    VERBOSE_DRILL, VERSION, WAIT, WORKERS,
+    AGENTS, AGENTS_OF_PATHS, FORM, JOURNAL, JOURNAL_OF_AN_AUDIT, LIMIT, LINES, LINES_OF_PLANNERS,
+    LINES_OF_SCRIPTS, MAP, MAP_OR_INPUT, MODE, NAMES, NEEDED_PATHS, PATHS, QUIET, SAVE, SCEN,
+    SCEN_OF_PATHS, SCRIPTS, SOLVES, VERBOSE, VERBOSE_DRILL, VERSION, WAIT, WORKERS,
 };
 use crate::picture_options::{
     AGENTS_OF_A_PICTURE, AT, JOURNAL_OF_A_PICTURE, SHOWN, SOLVES_OF_A_PICTURE, TITLE,
@@ -43,6 +43,7 @@ const WORDS: [Word; 7] = [
             MODE,
             JOURNAL,
             SAVE,
+            LINES,
             VERBOSE,
         ],
     },
@@ -64,14 +65,34 @@ const WORDS: [Word; 7] = [
         name: "drill",
         about: "Serves planners' scripts at once over one shared desk, and audits what they leave",
         help: DRILL_HELP,
-        arguments: &[MAP, SCEN, AGENTS, MODE, WORKERS, VERBOSE_DRILL, SCRIPTS],
+        arguments: &[
+            MAP,
+            SCEN,
+            AGENTS,
+            MODE,
+            LINES_OF_SCRIPTS,
+            WORKERS,
+            VERBOSE_DRILL,
+            SCRIPTS,
+        ],
     },
     Word {
         name: "host",
         about: "Shares one desk among planners that are programs of their own, over pipes",
         help: HOST_HELP,
         arguments: &[
-            MAP, SCEN, AGENTS, LIMIT, MODE, JOURNAL, SAVE, WAIT, WORKERS, VERBOSE, NAMES,
+            MAP,
+            SCEN,
+            AGENTS,
+            LIMIT,
+            MODE,
+            JOURNAL,
+            SAVE,
+            LINES_OF_PLANNERS,
+            WAIT,
+            WORKERS,
+            VERBOSE,
+            NAMES,
         ],
     },
     Word {

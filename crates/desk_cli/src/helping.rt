@@ -49,6 +49,8 @@ Several edits in one commit, all or none: begin, edits and watch lines, then com
 Questions: version; report; distance A X,Y; solves KIND.. of vertex, edge, follow, swap, cycle.
 What solvers call an edge conflict, two agents that change places, is swap; edge is two agents that
 make the same move.
+With --lines 2 also: report A.., of these agents alone; plan A, its goal and path; cell X,Y, open or
+closed; at TIME X,Y, the agents there; wait VERSION SECONDS, the version once it is above that one.
 
 With --save F the journal is in F when the session is over, in place of one that was there: Ctrl-D
 ends it, Ctrl-C kills it and saves nothing. With --journal F the next session goes on from there; both
@@ -69,8 +71,8 @@ Example:
   mapf_desk audit --map demo/warehouse.map --scen demo/warehouse.scen --agents 10 --workers 4";
 
 pub(crate) const DRILL_HELP: &str = "\
-Each script is a session, as serve takes it, and is served as a planner of its own: the first is
-planner 1. The scripts run at once and their answers aren't kept. At the end the version and the
+Each script is a session, as serve takes it with the same --lines, and is served as a planner of its
+own: the first is planner 1. The scripts run at once and their answers aren't kept. At the end the version and the
 report are printed, and audit same where a report made from scratch is the same, or audit differs.
 With --verbose a line on standard error tells of each script how many of its lines were accepted,
 refused and bad, as: demo/east.script: 6 accepted, 0 refused, 0 bad
@@ -82,7 +84,7 @@ Example:
 
 pub(crate) const HOST_HELP: &str = "\
 Each planner is a program of its own, in any language. It writes lines to NAME.in, as serve takes
-them, and reads their answers from NAME.out: two pipes that were made by mkfifo, or any files. The
+them with --lines 2, and reads their answers from NAME.out: two pipes that were made by mkfifo, or any files. The
 first is planner 1. Standard input and output are the operator's session, planner 0. An answer goes
 out before more is read. A planner that breaks off, also within a line, harms nobody else.
 

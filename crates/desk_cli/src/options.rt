@@ -130,6 +130,25 @@ pub(crate) const WORKERS: Argument = Argument {
     ..FILE
 };
 
+pub(crate) const LINES: Argument = Argument {
+    name: "lines",
+    value: Value::OneOf("V", &["1", "2"]),
+    usual: &["1"],
+    help: "The version of the session's lines; 2 has more questions",
+    ..FILE
+};
+
+pub(crate) const LINES_OF_SCRIPTS: Argument = Argument {
+    help: "The version of the scripts' lines; 2 has more questions",
+    ..LINES
+};
+
+pub(crate) const LINES_OF_PLANNERS: Argument = Argument {
+    usual: &["2"],
+    help: "The version of the planners' and the operator's lines; 2 has more questions",
+    ..LINES
+};
+
 pub(crate) const SCRIPTS: Argument = Argument {
     name: "script",
     value: Value::Listed("SCRIPT"),

@@ -7,11 +7,13 @@ ghost use Rattle.desk_cli.specs.Asked.{AsksFor, AsksToAudit, AsksToCheck, AsksTo
 use crate::pages::page_words;
 use crate::ranges::range_of;
 use crate::values::{
-    form_given, kinds_asked, kinds_given, mode_given, number_given, text_given, texts_given,
+    form_given, kinds_asked, kinds_given, lines_given, mode_given, number_given, text_given,
+    texts_given,
 };
 use crate::words::{AuditWords, CheckWords, DrawWords, DrillWords, HostWords, ServeWords, Words};
 use clap::ArgMatches;
 use plan_table::Mode;
+use session_lines::LinesVersion;
 use std::alloc::{AllocError, Global};
 
 /// How many commits the journal takes where the words don't say.
@@ -32,8 +34,8 @@ fn workers_of(matches: &ArgMatches<'static>) -> u32
     number_given(matches, "workers").unwrap_or(USUAL_WORKERS)
 }
 
-fn serve_words(matches: &ArgMatches<'static>) -> ServeWords
-    ensures { AsksToServe (found_of matches.now) result }
+fn serve_words(matches: &ArgMatches<'static>, usual: LinesVersion) -> ServeWords
+    ensures { AsksToServe usual (found_of matches.now) result }
 {
     ServeWords {
         map: matches.get_str("map"),
@@ -43,6 +45,7 @@ fn serve_words(matches: &ArgMatches<'static>) -> ServeWords
         mode: mode_given(matches),
         journal: matches.get_str("journal"),
         save: matches.get_str("save"),
+        lines: lines_given(matches, usual),
     }
 }
 
@@ -69,6 +72,7 @@ fn drill_words(alloc: Global, matches: &ArgMatches<'static>) -> Result<DrillWord
         agents: agents_of(matches),
         mode: mode_given(matches),
         workers: workers_of(matches),
+        lines: lines_given(matches, LinesVersion::One),
         scripts,
     })
 }
@@ -78,7 +82,7 @@ fn host_words(alloc: Global, matches: &ArgMatches<'static>) -> Result<HostWords,
 {
     let names = texts_given(alloc, matches, "name")?;
     Ok(HostWords {
-        desk: serve_words(matches),
+        desk: serve_words(matches, LinesVersion::Two),
         wait: number_given(matches, "wait"),
         workers: workers_of(matches),
         names,
@@ -119,7 +123,7 @@ fn draw_words(matches: &ArgMatches<'static>) -> DrawWords
 
 /// What is asked for where no word names it.
 pub(crate) fn usual_words() -> ServeWords
-    ensures { result ≡ record { map = None; scen = None; agents = 0; limit = 100000; mode = Mode.Stay; journal = None; save = None } }
+    ensures { result ≡ record { map = None; scen = None; agents = 0; limit = 100000; mode = Mode.Stay; journal = None; save = None; lines = LinesVersion.One } }
 {
     ServeWords {
         map: None,
@@ -129,6 +133,7 @@ pub(crate) fn usual_words() -> ServeWords
         mode: Mode::Stay,
         journal: None,
         save: None,
+        lines: LinesVersion::One,
     }
 }
 
@@ -157,6 +162,6 @@ pub(crate) fn named_words(
     } else if name == "audit" {
         Ok(Words::Audit(audit_words(inner)))
     } else {
-        Ok(Words::Serve(serve_words(inner)))
+        Ok(Words::Serve(serve_words(inner, LinesVersion::One)))
     }
 }

@@ -5,13 +5,14 @@ ghost use Rattle.std.specs.Option.{option_copied};
 ghost use Rattle.clap.specs.Matches.{first_value, found_of, matched_of, raw_values};
 ghost use Rattle.session_lines.specs.Kinds.{named_kinds};
 ghost use Rattle.bench_reader.specs.Words.{number_of};
-ghost use Rattle.desk_cli.specs.Values.{form_named, kinds_named, mode_named, number_given, texts_given, texts_in};
+ghost use Rattle.desk_cli.specs.Values.{form_named, kinds_named, lines_named, mode_named, number_given, texts_given, texts_in};
 
 use bench_reader::number_of;
 use clap::ArgMatches;
 use mapf_rules::Kinds;
 use path_files::Form;
 use plan_table::Mode;
+use session_lines::LinesVersion;
 use std::alloc::{AllocError, Global};
 
 /// The conflicts of the classical problem, which count where the words don't say.
@@ -78,6 +79,23 @@ pub(crate) fn mode_given(matches: &ArgMatches<'static>) -> Mode
     ensures { result ≡ mode_named (first_value (found_of matches.now) (codes "mode")) }
 {
     mode_named(matches.get_str("mode"))
+}
+
+fn lines_named(usual: LinesVersion, text: Option<&str>) -> LinesVersion
+    ensures { result ≡ lines_named usual (option_copied text.entry) }
+{
+    match text {
+        Some(text) if text == "2" => LinesVersion::Two,
+        Some(_) => LinesVersion::One,
+        None => usual,
+    }
+}
+
+/// The version of lines that an option names, or else the usual one.
+pub(crate) fn lines_given(matches: &ArgMatches<'static>, usual: LinesVersion) -> LinesVersion
+    ensures { result ≡ lines_named usual (first_value (found_of matches.now) (codes "lines")) }
+{
+    lines_named(usual, matches.get_str("lines"))
 }
 
 fn form_named(text: Option<&str>) -> Option<Form>

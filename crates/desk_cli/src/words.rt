@@ -6,6 +6,7 @@ use grid_cells::Agent;
 use mapf_rules::Kinds;
 use path_files::Form;
 use plan_table::Mode;
+use session_lines::LinesVersion;
 
 /// What the words ask for. The files and planners that they name are texts of the words, which stay
 /// as long as the program runs.
@@ -37,6 +38,8 @@ pub struct ServeWords {
     pub journal: Option<&'static str>,
     /// The file that the journal is saved in.
     pub save: Option<&'static str>,
+    /// The version of the session's lines.
+    pub lines: LinesVersion,
 }
 
 impl ServeWords {
@@ -75,6 +78,8 @@ pub struct DrillWords {
     pub mode: Mode,
     /// How many threads make the audit's report, 1 to 64.
     pub workers: u32,
+    /// The version of the scripts' lines.
+    pub lines: LinesVersion,
     /// The files of the scripts, in the order of their planners.
     pub scripts: Vec<&'static str>,
 }
