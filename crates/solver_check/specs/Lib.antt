@@ -6,5 +6,6 @@ pub mod CheckTexts
 pub mod CheckFaults
 pub mod Checks
 pub mod Bounds
+pub mod Inputs
 pub mod Seats
 pub mod Shown

@@ -1,6 +1,6 @@
 ghost use Rattle.solver_check.specs.Seats.{Sits};
 
-use desk_core::Counter;
+use desk_core::Awaits;
 use session_protocol::ServeFault;
 use std::alloc::Global;
 use std::io;
@@ -53,17 +53,18 @@ pub type Outcome = Result<u32, SeatFault>;
 
 /// What seats planners: it lets each in, and serves it to the end of its input.
 pub trait Seats: Sync {
-    ghost use Rattle.std.specs.Prelude.{ℕ, List, Option};
+    ghost use Rattle.std.specs.Prelude.{ℕ};
+    ghost use Rattle.solver_check.specs.Inputs.{Input};
 
-    /// What the planner of each number writes, where it is told.
-    ghost inputs: { Self → ℕ → Option (List ℕ) };
+    /// What the planner of each number writes, and in which version of lines.
+    ghost inputs: { Self → ℕ → Input };
 
     /// Lets the planner of that number in, and serves it to the end of its input.
     ///
     /// # Errors
     ///
     /// It could not be let in, and nothing was heard; or its session's fault.
-    fn seat<R: Wait, C: Counter>(
+    fn seat<R: Wait, C: Awaits>(
         &self,
         rt: &R,
         alloc: Global,
