@@ -6,11 +6,12 @@ use Rattle.desk_commits.specs.Entries.{Entry}
 use Rattle.desk_commits.specs.Replays.{IsLegal}
 use Rattle.desk_commits.specs.State.{DeskState, opening, grown, after}
 use Rattle.desk_commits.specs.declared.answers.Refusal.{Refusal}
-use Rattle.session_protocol.specs.Answer.{answering}
+use Rattle.session_protocol.specs.Answer.{answering_in}
 use Rattle.desk_commits.specs.Counting.{desk_counting}
 use Rattle.session_protocol.specs.Session.{Serves}
 use Rattle.session_protocol.specs.declared.bounds.Bounds.{Bounds}
 use Rattle.session_protocol.specs.declared.bounds.ServeFault.{ServeFault}
+use Rattle.session_lines.specs.declared.versions.LinesVersion.{LinesVersion}
 use Rattle.session_protocol.specs.declared.drafts.Session.{Session}
 use Rattle.session_protocol.proofs.Staying.{IsKept, serves}
 use Rattle.single_runs.specs.Opened.{Replays}
@@ -52,11 +53,12 @@ desk_kept = record {
   commits = commits;
   reads = λ old new result read. stays old new read.1;
   tells = λ old new agent cell result told. stays old new told.1;
+  asks = λ X old new IsAnswer answer told. stays old new told.1;
 }
 
 -- a session over a desk
-pub session_goes_on : (bounds : Bounds) (left0 left1 held0 held1 : Option (List ℕ)) (first last : Session) (old new : DeskState) (ended : Result ℕ ServeFault) → Serves (answering desk_counting) bounds left0 left1 held0 held1 (first, old) (last, new) ended → GoesOn old new
-session_goes_on bounds left0 left1 held0 held1 first last old new ended served = serves desk_counting GoesOn desk_kept bounds left0 left1 held0 held1 (first, old) (last, new) ended served
+pub session_goes_on : (version : LinesVersion) (bounds : Bounds) (left0 left1 held0 held1 : Option (List ℕ)) (first last : Session) (old new : DeskState) (ended : Result ℕ ServeFault) → Serves (answering_in version desk_counting) bounds left0 left1 held0 held1 (first, old) (last, new) ended → GoesOn old new
+session_goes_on version bounds left0 left1 held0 held1 first last old new ended served = serves version desk_counting GoesOn desk_kept bounds left0 left1 held0 held1 (first, old) (last, new) ended served
 
 -- a desk that commits a journal's entries at its opening
 pub opening_goes_on : (journal : Option (List ℕ)) (scene : SceneState) (limit : ℕ) (desk : DeskState) → Replays journal scene limit desk → GoesOn (opening scene limit) desk

@@ -81,8 +81,8 @@ shows_under : (limit : ℕ) (desk : DeskState) (reading : Reading) → Shows des
 shows_under limit desk reading shown = record { version = shown.version; report = shown.report; priced = shown.priced }
 
 pub saved_desks_come_back_holds : SavedDesksComeBack
-saved_desks_come_back_holds journal scene limit larger start desk bounds left0 left1 held0 held1 first last ended result opened served lawful more replays =
-    let on = goes_on (opening scene limit) start desk (opening_goes_on journal scene limit start opened) (session_goes_on bounds left0 left1 held0 held1 first last start desk ended served) in
+saved_desks_come_back_holds version journal scene limit larger start desk bounds left0 left1 held0 held1 first last ended result opened served lawful more replays =
+    let on = goes_on (opening scene limit) start desk (opening_goes_on journal scene limit start opened) (session_goes_on version bounds left0 left1 held0 held1 first last start desk ended served) in
     elim (comes_back scene limit larger desk on lawful more result replays) [
       | inl back ↦ inl (back, shows_under larger desk)
       | inr none ↦ inr none

@@ -7,6 +7,7 @@ use Rattle.desk_commits.specs.Counting.{desk_counting}
 use Rattle.session_protocol.specs.Session.{Serves}
 use Rattle.session_protocol.specs.declared.bounds.Bounds.{Bounds}
 use Rattle.session_protocol.specs.declared.bounds.ServeFault.{ServeFault}
+use Rattle.session_lines.specs.declared.versions.LinesVersion.TheVariants.{One}
 use Rattle.session_protocol.specs.declared.drafts.Session.TheVariants.{Idle}
 use Rattle.solver_check.specs.Faults.{run_answer}
 use Rattle.solver_check.specs.Bounds.{run_bounds}
@@ -20,7 +21,7 @@ sat_answer (Ok sat) = run_answer sat.1
 sat_answer (Err fault) = Err fault
 
 module _ (scen : Option (List ℕ)) (agents : ℕ) (mode : Mode) (limit : ℕ) where
-  ran_over : (map : List ℕ) (bounds : Bounds) (left0 left1 held0 held1 : Option (List ℕ)) (result : Result (DeskState × Result ℕ ServeFault) RunFault) → SitsOver map scen agents mode limit None bounds left0 left1 held0 held1 result → RunsOver map scen agents mode limit bounds left0 left1 held0 held1 (sat_answer result)
+  ran_over : (map : List ℕ) (bounds : Bounds) (left0 left1 held0 held1 : Option (List ℕ)) (result : Result (DeskState × Result ℕ ServeFault) RunFault) → SitsOver One map scen agents mode limit None bounds left0 left1 held0 held1 result → RunsOver map scen agents mode limit bounds left0 left1 held0 held1 (sat_answer result)
   ran_over map bounds left0 left1 held0 held1 (Ok sat) is =
       inl (record {
         scene = is.opens.scene;
@@ -34,7 +35,7 @@ module _ (scen : Option (List ℕ)) (agents : ℕ) (mode : Mode) (limit : ℕ) w
   ran_over map bounds left0 left1 held0 held1 (Err fault) (inl first, unread, silent) = inr (record { fault = fault; first = first; told = refl; unread = unread; silent = silent })
   ran_over map bounds left0 left1 held0 held1 (Err fault) (inr entry, unread, silent) = absurd entry.first
 
-  pub ran : (map : Option (List ℕ)) (left0 left1 held0 held1 : Option (List ℕ)) (result : Result (DeskState × Result ℕ ServeFault) RunFault) → Sits map scen agents mode limit None left0 left1 held0 held1 result → Runs map scen agents mode limit left0 left1 held0 held1 (sat_answer result)
+  pub ran : (map : Option (List ℕ)) (left0 left1 held0 held1 : Option (List ℕ)) (result : Result (DeskState × Result ℕ ServeFault) RunFault) → Sits One map scen agents mode limit None left0 left1 held0 held1 result → Runs map scen agents mode limit left0 left1 held0 held1 (sat_answer result)
   ran (Some map) left0 left1 held0 held1 result is = ran_over map run_bounds left0 left1 held0 held1 result is
   ran None left0 left1 held0 held1 (Ok sat) is = inl (record { text = is.text; between = is.between; heard = is.heard; runs = ran_over is.text _ is.between left1 held0 held1 (Ok sat) is.sits })
   ran None left0 left1 held0 held1 (Err fault) (inl is) = inl (record { text = is.text; between = is.between; heard = is.heard; runs = ran_over is.text _ is.between left1 held0 held1 (Err fault) is.sits })

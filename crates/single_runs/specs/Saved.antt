@@ -7,11 +7,12 @@ use Rattle.desk_commits.specs.State.{DeskState}
 use Rattle.desk_commits.specs.declared.answers.Reading.{Reading}
 use Rattle.journal_text.specs.Lines.{journal_text}
 use Rattle.journal_text.specs.Ranges.{IsJournal}
-use Rattle.session_protocol.specs.Answer.{answering}
+use Rattle.session_protocol.specs.Answer.{answering_in}
 use Rattle.desk_commits.specs.Counting.{desk_counting}
 use Rattle.session_protocol.specs.Session.{Serves}
 use Rattle.session_protocol.specs.declared.bounds.Bounds.{Bounds}
 use Rattle.session_protocol.specs.declared.bounds.ServeFault.{ServeFault}
+use Rattle.session_lines.specs.declared.versions.LinesVersion.{LinesVersion}
 use Rattle.session_protocol.specs.declared.drafts.Session.{Session}
 use Rattle.single_runs.specs.Opened.{Replays, ReplaysAs}
 use Rattle.solver_check.specs.declared.faults.RunFault.{RunFault}
@@ -29,11 +30,11 @@ saved_text desk = journal_text desk.scene.mode desk.journal
 abbrev pub under : ℕ → DeskState → DeskState
 under limit desk = record { scene = desk.scene; journal = desk.journal; limit = limit }
 
--- whatever journal was committed at the opening of a scene, and whatever session the desk was then served: what is saved of
+-- whatever journal was committed at the opening of a scene, and whatever session the desk was then served, in whichever version of lines: what is saved of
 -- it, committed at the opening of the same scene under the same limit or a greater one, gives a desk of the same scene and
 -- journal, which shows the same report at the same version; it is refused for no other cause than memory
 abbrev pub SavedDesksComeBack : Type 0
-SavedDesksComeBack = (journal : Option (List ℕ)) (scene : SceneState) (limit larger : ℕ) (start desk : DeskState) (bounds : Bounds) (left0 left1 held0 held1 : Option (List ℕ)) (first last : Session) (ended : Result ℕ ServeFault) (result : Result DeskState RunFault)
-    → Replays journal scene limit start → Serves (answering desk_counting) bounds left0 left1 held0 held1 (first, start) (last, desk) ended
+SavedDesksComeBack = (version : LinesVersion) (journal : Option (List ℕ)) (scene : SceneState) (limit larger : ℕ) (start desk : DeskState) (bounds : Bounds) (left0 left1 held0 held1 : Option (List ℕ)) (first last : Session) (ended : Result ℕ ServeFault) (result : Result DeskState RunFault)
+    → Replays journal scene limit start → Serves (answering_in version desk_counting) bounds left0 left1 held0 held1 (first, start) (last, desk) ended
     → IsJournal (log_of desk) → limit ≤ larger → ReplaysAs (Some (saved_text desk)) scene larger result
     → ((result ≡ Ok (under larger desk)) × ((reading : Reading) → Shows desk reading → Shows (under larger desk) reading)) ⊎ (result ≡ Err OutOfMemory)

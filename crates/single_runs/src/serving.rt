@@ -9,7 +9,7 @@ use crate::opening::open_desk;
 use desk_core::{Desk, Limit};
 use desk_report::{Sink, Source};
 use plan_table::Mode;
-use session_protocol::{Bounds, ServeFault, hear_map, serve};
+use session_protocol::{Bounds, LinesVersion, ServeFault, hear_map, serve_in};
 use solver_check::{BOUNDS, MOST_BYTES, MOST_LINES, Problem, RunFault};
 use std::alloc::Global;
 
@@ -36,7 +36,18 @@ pub fn run_serve<R: Source, W: Sink>(
     ensures failed { R.failed reader.new ≡ (R.failed reader.old || is_read_fault result) }
     ensures broken { W.broken writer.new ≡ (W.broken writer.old || is_write_fault result) }
 {
-    match serve_desk(alloc, map, scen, agents, limit, mode, None, reader, writer) {
+    match serve_desk(
+        alloc,
+        LinesVersion::One,
+        map,
+        scen,
+        agents,
+        limit,
+        mode,
+        None,
+        reader,
+        writer,
+    ) {
         Ok((desk, ended)) => {
             drop(desk);
             match ended {
@@ -48,7 +59,7 @@ pub fn run_serve<R: Source, W: Sink>(
     }
 }
 
-/// Serves a session as `run_serve` does, over a desk that first commits a journal's entries, and
+/// Serves a session in that version of lines as `run_serve` does, over a desk that first commits a journal's entries, and
 /// hands back the desk as the session left it, beside how many lines the session had, or its fault.
 ///
 /// # Errors
@@ -57,6 +68,7 @@ pub fn run_serve<R: Source, W: Sink>(
 /// no desk then, and nothing is written.
 pub fn serve_desk<R: Source, W: Sink>(
     alloc: Global,
+    version: LinesVersion,
     map: Option<&[u8]>,
     scen: Option<&[u8]>,
     agents: u32,
@@ -66,7 +78,7 @@ pub fn serve_desk<R: Source, W: Sink>(
     reader: &mut R,
     writer: &mut W,
 ) -> Result<(Desk, Result<u32, ServeFault>), RunFault>
-    ensures sits { Sits (bytes_of map.entry) (bytes_of scen.entry) agents mode limit (bytes_of journal.entry)
+    ensures sits { Sits version (bytes_of map.entry) (bytes_of scen.entry) agents mode limit (bytes_of journal.entry)
         (R.left reader.old) (R.left reader.new) (W.held writer.old) (W.held writer.new) result }
     ensures reads { ReadsUntil R.gives reader.old reader.new (source_failed result) }
     ensures failed { R.failed reader.new ≡ (R.failed reader.old || source_failed result) }
@@ -80,7 +92,9 @@ pub fn serve_desk<R: Source, W: Sink>(
             agents,
             mode,
         };
-        return serve_over(alloc, problem, limit, journal, reader, writer, BOUNDS);
+        return serve_over(
+            alloc, version, problem, limit, journal, reader, writer, BOUNDS,
+        );
     }
     let text = match hear_map(alloc, reader, MOST_BYTES) {
         Ok(text) => text,
@@ -96,12 +110,15 @@ pub fn serve_desk<R: Source, W: Sink>(
         agents,
         mode,
     };
-    serve_over(alloc, problem, limit, journal, reader, writer, rest)
+    serve_over(
+        alloc, version, problem, limit, journal, reader, writer, rest,
+    )
 }
 
 // Opens the desk, and serves a session over it.
 fn serve_over<R: Source, W: Sink>(
     alloc: Global,
+    version: LinesVersion,
     problem: Problem<'_>,
     limit: Limit,
     journal: Option<&[u8]>,
@@ -109,7 +126,7 @@ fn serve_over<R: Source, W: Sink>(
     writer: &mut W,
     bounds: Bounds,
 ) -> Result<(Desk, Result<u32, ServeFault>), RunFault>
-    ensures sits { SitsOver problem.entry.map.now (bytes_of problem.entry.scen) (unwrap_or problem.entry.agents 0) problem.entry.mode
+    ensures sits { SitsOver version problem.entry.map.now (bytes_of problem.entry.scen) (unwrap_or problem.entry.agents 0) problem.entry.mode
         limit (bytes_of journal.entry) bounds (R.left reader.old) (R.left reader.new) (W.held writer.old) (W.held writer.new) result }
     ensures reads { ReadsUntil R.gives reader.old reader.new (source_failed result) }
     ensures failed { R.failed reader.new ≡ (R.failed reader.old || source_failed result) }
@@ -117,7 +134,7 @@ fn serve_over<R: Source, W: Sink>(
 {
     match open_desk(alloc, problem, limit, journal) {
         Ok(mut desk) => {
-            let ended = serve(alloc, &mut desk, reader, writer, bounds);
+            let ended = serve_in(alloc, version, &mut desk, reader, writer, bounds);
             Ok((desk, ended))
         }
         Err(fault) => Err(fault),

@@ -3,6 +3,11 @@ use Rattle.single_runs.proofs.Running.{ran}
 use Rattle.solver_check.proofs.Unserved.{session_told}
 use Rattle.single_runs.proofs.serving.run_serve.Goals as goal
 
+pub returns-in-Ok-ended-clause-runs : goal.returns-in-Ok-ended-clause-runs
+returns-in-Ok-ended-clause-runs g c =
+    let run = ran _ _ _ _ _ _ _ _ _ (Ok (c.in-Ok.desk, c.in-Ok.ended)) c.in-Ok.ensures.sits in
+    rw c.in-Ok-ended.is at run
+
 pub returns-in-Err-ended-clause-runs : goal.returns-in-Err-ended-clause-runs
 returns-in-Err-ended-clause-runs g c =
     let run = ran _ _ _ _ _ _ _ _ _ (Ok (c.in-Ok.desk, c.in-Ok.ended)) c.in-Ok.ensures.sits in
