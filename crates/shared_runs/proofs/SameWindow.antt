@@ -1,9 +1,10 @@
 -- A window stays on its desk, with its planner, through a whole session.
 use Rattle.std.proofs.Common.{◌≡◌, ℕ, List, Option, Result, refl, ◌∙◌}
-use Rattle.session_protocol.specs.Answer.{answering}
+use Rattle.session_protocol.specs.Answer.{answering_in}
 use Rattle.session_protocol.specs.Session.{Serves}
 use Rattle.session_protocol.specs.declared.bounds.Bounds.{Bounds}
 use Rattle.session_protocol.specs.declared.bounds.ServeFault.{ServeFault}
+use Rattle.session_lines.specs.declared.versions.LinesVersion.{LinesVersion}
 use Rattle.session_protocol.specs.declared.drafts.Session.{Session}
 use Rattle.session_protocol.proofs.Staying.{IsKept, serves}
 use Rattle.desk_shared.specs.Windows.{WindowState, window_counting}
@@ -22,8 +23,9 @@ window_kept = record {
   commits = λ old new commit result made. record { desk = made.2; start = made.0.same.start; planner = made.0.same.planner };
   reads = λ old new result read. record { desk = read.1; start = read.0.same.start; planner = read.0.same.planner };
   tells = λ old new agent cell result told. record { desk = told.1; start = told.0.same.start; planner = told.0.same.planner };
+  asks = λ X old new IsAnswer answer told. record { desk = told.1; start = told.0.same.start; planner = told.0.same.planner };
 }
 
 -- a session over a window leaves it on its desk
-pub window_stays : (bounds : Bounds) (left0 left1 held0 held1 : Option (List ℕ)) (session last : Session) (old new : WindowState) (result : Result ℕ ServeFault) → Serves (answering window_counting) bounds left0 left1 held0 held1 (session, old) (last, new) result → IsSameWindow old new
-window_stays bounds left0 left1 held0 held1 session last old new result served = serves window_counting IsSameWindow window_kept bounds left0 left1 held0 held1 (session, old) (last, new) result served
+pub window_stays : (version : LinesVersion) (bounds : Bounds) (left0 left1 held0 held1 : Option (List ℕ)) (session last : Session) (old new : WindowState) (result : Result ℕ ServeFault) → Serves (answering_in version window_counting) bounds left0 left1 held0 held1 (session, old) (last, new) result → IsSameWindow old new
+window_stays version bounds left0 left1 held0 held1 session last old new result served = serves version window_counting IsSameWindow window_kept bounds left0 left1 held0 held1 (session, old) (last, new) result served

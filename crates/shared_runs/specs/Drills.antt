@@ -16,7 +16,9 @@ use Rattle.desk_commits.specs.declared.answers.Reading.{Reading}
 use Rattle.desk_commits.specs.declared.limits.TheConstants.{MOST_ENTRIES}
 use Rattle.desk_shared.specs.Passes.{PassState, Held, Sharing, Owns, own_of, version_at, AreOfPlanners, HasJust}
 use Rattle.desk_shared.specs.Calls.{AsksBy, IsClosed}
-use Rattle.session_protocol.specs.Answer.{answering}
+use Rattle.session_lines.specs.declared.versions.LinesVersion.{LinesVersion}
+use Rattle.session_lines.specs.declared.versions.LinesVersion.TheVariants.{One}
+use Rattle.session_protocol.specs.Answer.{answering_in}
 use Rattle.session_protocol.specs.Session.{Serves, is_write_failed}
 use Rattle.session_protocol.specs.declared.bounds.ServeFault.{ServeFault}
 use Rattle.session_protocol.specs.declared.drafts.Session.{Session}
@@ -25,6 +27,7 @@ use Rattle.desk_shared.specs.Windows.{window_counting}
 use Rattle.solver_check.specs.Opens.{Opens}
 use Rattle.session_protocol.specs.Replies.{reported_text}
 use Rattle.solver_check.specs.Bounds.{run_bounds}
+use Rattle.solver_check.specs.Inputs.{Input, told}
 
 -- the pass may give away the numbers from the first up to the planners, and no others
 abbrev pub KeepsFrom : ℕ → ℕ → List Bool → Type 0
@@ -38,20 +41,24 @@ pub record MaySplit (desk : Sharing) (pass : Held) (number many : ℕ) : Type 0 
   pub nothing_seen : pass.known.made ≡ []
   pub none_joined : pass.known.past ≡ []
 
--- the bytes of each script
-abbrev pub texts_of : List (Vec ℕ Global) → List (List ℕ)
-texts_of [] = []
-texts_of (script ∷ later) = script.items ∷ texts_of later
+-- the bytes of each script, in that version of lines
+abbrev pub inputs_of : LinesVersion → List (Vec ℕ Global) → List Input
+inputs_of version [] = []
+inputs_of version (script ∷ later) = told version script.items ∷ inputs_of version later
+
+-- the bytes of each script, in version 1
+abbrev pub texts_of : List (Vec ℕ Global) → List Input
+texts_of scripts = inputs_of One scripts
 
 -- the session of a script through a pass: its answers are lawful for a window on the shared desk, from what the pass knew to what it knows then. They go out and aren't kept
-pub record IsSession (desk : Sharing) (old : PassState) (script : List ℕ) (new : PassState) (ended : Result ℕ ServeFault) : Type 0 where
+pub record IsSession (desk : Sharing) (old : PassState) (script : Input) (new : PassState) (ended : Result ℕ ServeFault) : Type 0 where
   pub left : Option (List ℕ)
   pub last : Session
-  pub session : Serves (answering window_counting) run_bounds (Some script) left None None (Idle, record { desk = desk; pass = old }) (last, record { desk = desk; pass = new }) ended
+  pub session : Serves (answering_in script.lines window_counting) run_bounds script.bytes left None None (Idle, record { desk = desk; pass = old }) (last, record { desk = desk; pass = new }) ended
   pub unbroken : is_write_failed ended ≡ false
 
 -- the script was served to its end for that planner, by a pass of the shared desk that began where the desk was shared. What the pass had seen at the end, all commits of the script among it, begins the entries, which have no others of that planner
-pub record IsServed (shared : Sharing) (start : DeskState) (entries : List Entry) (planner : ℕ) (script : List ℕ) : Type 0 where
+pub record IsServed (shared : Sharing) (start : DeskState) (entries : List Entry) (planner : ℕ) (script : Input) : Type 0 where
   pub old : PassState
   pub new : PassState
   pub lines : ℕ
@@ -63,7 +70,7 @@ pub record IsServed (shared : Sharing) (start : DeskState) (entries : List Entry
   pub own : own_of planner entries ≡ own_of planner new.made
 
 -- each script was, for planners numbered from that one
-abbrev pub AreServed : Sharing → DeskState → List Entry → ℕ → List (List ℕ) → Type 0
+abbrev pub AreServed : Sharing → DeskState → List Entry → ℕ → List Input → Type 0
 AreServed shared start entries planner [] = Unit {0}
 AreServed shared start entries planner (script ∷ later) = IsServed shared start entries planner script × AreServed shared start entries (planner + 1) later
 
@@ -72,7 +79,7 @@ abbrev pub AreJoined : ℕ → ℕ → List (ℕ × List Entry) → Type 0
 AreJoined first many past = (number : ℕ) → first ≤ number → number < first + many → Any (λ numbered. numbered.0 ≡ number) past
 
 -- each script was served, for planners numbered from that one, and its pass was joined into the first
-abbrev pub HasServed : Sharing → DeskState → PassState → ℕ → List (List ℕ) → Type 0
+abbrev pub HasServed : Sharing → DeskState → PassState → ℕ → List Input → Type 0
 HasServed shared start first planner scripts = AreJoined planner (length scripts) first.past × AreServed shared start first.made planner scripts
 
 -- the first pass, while others are joined into it: it has committed nothing, and has seen of each of them the entries that its number has for ever
@@ -107,7 +114,7 @@ pub record AreOfEntries (start : DeskState) (entries : List Entry) (reading : Re
   pub closed : desk ≡ after start entries
 
 -- what a drill comes to: every script was served on one shared desk, that of the scene. The first pass has then seen all the scripts' commits and no others: none of its own, 0, and each of one of the scripts' planners. The reading, through it, and the desk as it was closed are of just these, and the audit is of that desk
-pub record ComesTo (map : List ℕ) (scen : Option (List ℕ)) (agents : ℕ) (mode : Mode) (scripts : List (List ℕ)) (reading : Reading) (same : Bool) : Type 0 where
+pub record ComesTo (map : List ℕ) (scen : Option (List ℕ)) (agents : ℕ) (mode : Mode) (scripts : List Input) (reading : Reading) (same : Bool) : Type 0 where
   pub scene : SceneState
   pub opens : Opens map scen agents mode scene
   pub shared : Sharing
@@ -125,7 +132,7 @@ pub record ComesTo (map : List ℕ) (scen : Option (List ℕ)) (agents : ℕ) (m
   pub answer : IsTrue same ↔ (reading.report ≡ audited)
 
 -- a drill that comes to its end: what it comes to is written whole
-pub record Drills (map : List ℕ) (scen : Option (List ℕ)) (agents : ℕ) (mode : Mode) (scripts : List (List ℕ)) (held0 held1 : Option (List ℕ)) (same : Bool) : Type 0 where
+pub record Drills (map : List ℕ) (scen : Option (List ℕ)) (agents : ℕ) (mode : Mode) (scripts : List Input) (held0 held1 : Option (List ℕ)) (same : Bool) : Type 0 where
   pub reading : Reading
   pub comes_to : ComesTo map scen agents mode scripts reading same
   pub written : Appends held0 held1 (drill_text reading same)

@@ -11,6 +11,7 @@ use Rattle.desk_commits.specs.declared.answers.Reading.{Reading}
 use Rattle.desk_shared.specs.Passes.{PassState, Held, Sharing, Owns, own_of, version_at, AreOfPlanners, HasJust}
 use Rattle.desk_shared.specs.Windows.{window_counting, window_on}
 use Rattle.shared_runs.specs.Drills.{AreJoined}
+use Rattle.solver_check.specs.Inputs.{Input}
 use Rattle.solver_check.specs.Seats.{Sits}
 use Rattle.shared_runs.specs.declared.hosts.hosting.HostEnd.{HostEnd}
 use Rattle.solver_check.specs.declared.seats.HostFault.{HostFault}
@@ -18,12 +19,12 @@ use Rattle.solver_check.specs.declared.seats.HostFault.TheVariants.{TooManyPlann
 use Rattle.shared_runs.specs.declared.hosts.hosting.TheConstants.{MOST_HOSTED}
 use Rattle.solver_check.specs.declared.seats.SeatFault.{SeatFault}
 
--- what each planner writes, by its number, where it is told
+-- what each planner writes, by its number
 abbrev pub Inputs : Type 0
-Inputs = ℕ → Option (List ℕ)
+Inputs = ℕ → Input
 
 -- a seat over a window on the shared desk, from one pass to the other, and what came of it
-pub record IsEnded (shared : Sharing) (input : Option (List ℕ)) (old new : Held) (outcome : Result ℕ SeatFault) : Type 0 where
+pub record IsEnded (shared : Sharing) (input : Input) (old new : Held) (outcome : Result ℕ SeatFault) : Type 0 where
   pub owned : Owns shared new
   pub sat : Sits window_counting input (window_on shared old) (window_on shared new) outcome
 

@@ -1,21 +1,24 @@
 ghost use Rattle.std.specs.Prelude.{◌≡◌, ◌≤◌, ◌||◌, length, unwrap_or, IfErr, IfOk};
 ghost use Rattle.shared_runs.specs.DrillFaults.{FailsDrill, FailsUnwritten};
-ghost use Rattle.shared_runs.specs.Drills.{ComesTo, Drills, texts_of};
+ghost use Rattle.shared_runs.specs.Drills.{ComesTo, Drills, inputs_of, texts_of};
 ghost use Rattle.solver_check.specs.Faults.{is_write_fault};
 ghost use Rattle.solver_check.specs.Opens.{bytes_of};
 
 use crate::hearing::AtGate;
 use crate::reporting::put_drill;
 use crate::scripts::serve_scripts;
+use crate::serving::{First, Serving, Spoken};
 use crate::sharing::{end_sharing, last_report, share};
 use desk_audit::Gate;
 use desk_core::Reading;
 use desk_report::{Report, Sink, WriteFailed};
 use plan_table::Mode;
+use session_protocol::LinesVersion;
 use solver_check::{Hearing, Problem, RunFault, is_same, scene_of};
 use std::alloc::Global;
 use std::sync::Wait;
 use std::thread::Threads;
+use std::time::Clock;
 
 /// The most scripts of a drill.
 pub const MOST_SCRIPTS: usize = 255;
@@ -53,37 +56,64 @@ pub fn run_drill<R: Threads + Wait + Sync, G: Gate, W: Sink>(
         agents: Some(agents),
         mode,
     };
-    hear_drill(
+    drill(
         rt,
         alloc,
         problem,
         workers,
         scripts,
         &AtGate { gate },
+        &First,
         writer,
     )
 }
 
-/// Runs a drill as `run_drill` does, with someone who goes along: they are told when each script's
-/// thread begins, by its number from 0, and hear the first word of each line that it is answered.
+/// Runs a drill as `run_drill` does, in that version of lines, with someone who goes along: they are
+/// told when each script's thread begins, by its number from 0, and hear the first word of each line
+/// that it is answered.
 ///
 /// # Errors
 ///
 /// As `run_drill`.
-pub fn hear_drill<R: Threads + Wait + Sync, H: Hearing + Sync, W: Sink>(
+pub fn hear_drill<R: Threads + Wait + Clock + Sync, H: Hearing + Sync, W: Sink>(
     rt: &R,
     alloc: Global,
     problem: Problem<'_>,
     workers: u32,
+    version: LinesVersion,
     scripts: Vec<Vec<u8>>,
     hearing: &H,
     writer: &mut W,
 ) -> Result<bool, RunFault>
     requires workers { (1 ≤ workers) × (workers ≤ 64) }
     ensures drilled { IfOk result (Drills problem.entry.map.now (bytes_of problem.entry.scen) (unwrap_or problem.entry.agents 0) problem.entry.mode
-        (texts_of scripts.items) (W.held writer.old) (W.held writer.new)) }
+        (inputs_of version scripts.items) (W.held writer.old) (W.held writer.new)) }
     ensures refused { IfErr result (FailsDrill problem.entry.map.now (bytes_of problem.entry.scen) (unwrap_or problem.entry.agents 0) problem.entry.mode
-        (texts_of scripts.items) (W.held writer.old) (W.held writer.new)) }
+        (inputs_of version scripts.items) (W.held writer.old) (W.held writer.new)) }
+    ensures broken { W.broken writer.new ≡ (W.broken writer.old || is_write_fault result) }
+{
+    let spoken = Spoken { version };
+    drill(
+        rt, alloc, problem, workers, scripts, hearing, &spoken, writer,
+    )
+}
+
+// Runs a drill of scripts that are served so, with someone who goes along.
+fn drill<R: Threads + Wait + Sync, H: Hearing + Sync, P: Serving<R>, W: Sink>(
+    rt: &R,
+    alloc: Global,
+    problem: Problem<'_>,
+    workers: u32,
+    scripts: Vec<Vec<u8>>,
+    hearing: &H,
+    serving: &P,
+    writer: &mut W,
+) -> Result<bool, RunFault>
+    requires workers { (1 ≤ workers) × (workers ≤ 64) }
+    ensures drilled { IfOk result (Drills problem.entry.map.now (bytes_of problem.entry.scen) (unwrap_or problem.entry.agents 0) problem.entry.mode
+        (inputs_of (P.version serving.now) scripts.items) (W.held writer.old) (W.held writer.new)) }
+    ensures refused { IfErr result (FailsDrill problem.entry.map.now (bytes_of problem.entry.scen) (unwrap_or problem.entry.agents 0) problem.entry.mode
+        (inputs_of (P.version serving.now) scripts.items) (W.held writer.old) (W.held writer.new)) }
     ensures broken { W.broken writer.new ≡ (W.broken writer.old || is_write_fault result) }
 {
     if scripts.len() > MOST_SCRIPTS {
@@ -91,7 +121,7 @@ pub fn hear_drill<R: Threads + Wait + Sync, H: Hearing + Sync, W: Sink>(
         return Err(RunFault::TooManyScripts);
     }
     let texts = scripts.as_slice();
-    let ended = drilled(rt, alloc, problem, workers, texts, hearing);
+    let ended = drilled(rt, alloc, problem, workers, texts, hearing, serving);
     drop(scripts);
     let (reading, same) = match ended {
         Ok(end) => end,
@@ -106,27 +136,28 @@ pub fn hear_drill<R: Threads + Wait + Sync, H: Hearing + Sync, W: Sink>(
 }
 
 // Serves the scripts; gives the last reading, and whether the audit's report is the same.
-fn drilled<R: Threads + Wait + Sync, H: Hearing + Sync>(
+fn drilled<R: Threads + Wait + Sync, H: Hearing + Sync, P: Serving<R>>(
     rt: &R,
     alloc: Global,
     problem: Problem<'_>,
     workers: u32,
     scripts: &[Vec<u8>],
     hearing: &H,
+    serving: &P,
 ) -> Result<(Reading, bool), RunFault>
     requires workers { (1 ≤ workers) × (workers ≤ 64) }
     requires few { length scripts.now ≤ MOST_SCRIPTS }
     ensures drilled { IfOk result (λ end. ComesTo problem.entry.map.now (bytes_of problem.entry.scen) (unwrap_or problem.entry.agents 0) problem.entry.mode
-        (texts_of scripts.now) end.0 end.1) }
+        (inputs_of (P.version serving.now) scripts.now) end.0 end.1) }
     ensures refused { IfErr result (FailsUnwritten problem.entry.map.now (bytes_of problem.entry.scen) (unwrap_or problem.entry.agents 0) problem.entry.mode
-        (texts_of scripts.now)) }
+        (inputs_of (P.version serving.now) scripts.now)) }
 {
     let scene = match scene_of(alloc, problem) {
         Ok(scene) => scene,
         Err(fault) => return Err(fault),
     };
     let (shared, first) = share(alloc, scene, scripts.len() as u32 + 1)?;
-    let (first, ended) = serve_scripts(rt, alloc, &shared, first, scripts, hearing);
+    let (first, ended) = serve_scripts(rt, alloc, &shared, first, scripts, hearing, serving);
     match ended {
         Ok(()) => {}
         Err(fault) => {

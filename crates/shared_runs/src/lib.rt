@@ -12,6 +12,7 @@ mod hearing;
 mod hosts;
 mod reporting;
 mod scripts;
+mod serving;
 mod sharing;
 
 pub use drilling::{MOST_SCRIPTS, hear_drill, run_drill};

@@ -11,6 +11,7 @@ use solver_check::{HostFault, Outcome, SeatFault, Seats};
 use std::alloc::Global;
 use std::sync::Wait;
 use std::thread::Threads;
+use std::time::Clock;
 
 /// The most planners beside the operator.
 pub const MOST_HOSTED: u32 = 255;
@@ -37,7 +38,7 @@ pub struct HostEnd {
 /// # Errors
 ///
 /// Too many planners; want of memory to share the desk, before anyone is let in; or the desk is lost.
-pub fn host_planners<R: Threads + Wait + Sync, S: Seats>(
+pub fn host_planners<R: Threads + Wait + Clock + Sync, S: Seats>(
     rt: &R,
     alloc: Global,
     desk: Desk,

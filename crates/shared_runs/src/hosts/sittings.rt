@@ -11,6 +11,7 @@ use std::snapshot::Snapshot;
 use std::sync::Wait;
 use std::sync::atomic::{AtomicU32, Ordering};
 use std::thread::{Promise, PromisedHandle, Scope, Threads};
+use std::time::Clock;
 
 /// What comes of a planner's session: the pass, and how the session ended.
 pub(crate) type Ended = (Pass, Outcome);
@@ -39,7 +40,7 @@ pub(crate) const NOBODY: u32 = u32::MAX;
 
 /// Serves the planner of that number at its seat, unless its thread did not start: then the seat is
 /// told so.
-pub(crate) fn sit<R: Wait, S: Seats>(
+pub(crate) fn sit<R: Wait + Clock, S: Seats>(
     rt: &R,
     alloc: Global,
     desk: &SharedDesk,
@@ -62,7 +63,7 @@ pub(crate) fn sit<R: Wait, S: Seats>(
 
 /// Begins the planner's session in a thread of its own. Where that does not start, the closure comes
 /// back and is called here, with word that the planner isn't seated: so its pass isn't lost.
-pub(crate) fn begin<'s, E: 's, R: Wait + Sync, S: Seats>(
+pub(crate) fn begin<'s, E: 's, R: Wait + Clock + Sync, S: Seats>(
     rt: &'s R,
     alloc: Global,
     scope: &'s Scope<'s, E>,

@@ -12,9 +12,10 @@ use std::sync::Wait;
 use std::sync::atomic::AtomicU32;
 use std::thread;
 use std::thread::{Scope, Threads};
+use std::time::Clock;
 
 // Serves the operator in a thread of its own, through the first pass, once the planners sit.
-fn operate<'s, E: 's, R: Threads + Wait + Sync, S: Seats>(
+fn operate<'s, E: 's, R: Threads + Wait + Clock + Sync, S: Seats>(
     rt: &'s R,
     alloc: Global,
     scope: &'s Scope<'s, E>,
@@ -37,7 +38,7 @@ fn operate<'s, E: 's, R: Threads + Wait + Sync, S: Seats>(
 // Serves the planners, so many as there are outcomes, the first of them as planner number + 1, and the
 // operator through the first pass, each in a thread that is joined before this returns. Their passes
 // are joined into the first one. Answers how the operator's session ended.
-fn host_all<'s, E: 's, R: Threads + Wait + Sync, S: Seats>(
+fn host_all<'s, E: 's, R: Threads + Wait + Clock + Sync, S: Seats>(
     rt: &'s R,
     alloc: Global,
     scope: &'s Scope<'s, E>,
@@ -75,7 +76,7 @@ fn host_all<'s, E: 's, R: Threads + Wait + Sync, S: Seats>(
 }
 
 // Serves the planners and the operator, as `host_all` does, in a scope of threads.
-pub(crate) fn host_threads<R: Threads + Wait + Sync, S: Seats>(
+pub(crate) fn host_threads<R: Threads + Wait + Clock + Sync, S: Seats>(
     rt: &R,
     alloc: Global,
     desk: &SharedDesk,
