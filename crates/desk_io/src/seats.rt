@@ -1,5 +1,6 @@
 //! The seats of planners at pipes, or other files, and of the operator at standard input and output.
-ghost use Rattle.std.specs.Prelude.{◌≡◌, IfOk, None, length};
+ghost use Rattle.std.specs.Prelude.{◌≡◌, IfOk, length};
+ghost use Rattle.solver_check.specs.Inputs.{untold};
 ghost use Rattle.solver_check.specs.Seats.{Sits};
 
 use crate::doors::{Doors, Unmet};
@@ -10,8 +11,8 @@ use crate::prompting::Prompting;
 use crate::sittings::sit_between;
 use crate::steady::Steady;
 use desk_cli::SESSION_PROMPT;
-use desk_core::Counter;
-use session_protocol::ServeFault;
+use desk_core::Awaits;
+use session_protocol::{LinesVersion, ServeFault};
 use solver_check::{Outcome, SeatFault, Seats};
 use std::alloc::Global;
 use std::fs::File;
@@ -34,6 +35,7 @@ pub struct Pipes<'a> {
     pub(crate) host: &'a HostRuntime,
     pub(crate) names: &'a [&'static str],
     pub(crate) doors: Vec<Doors>,
+    pub(crate) version: LinesVersion,
     // Whether it is told who comes and goes.
     pub(crate) stages: bool,
     // A file that is given up once the last planners are waited for no longer: so one can be opened,
@@ -42,8 +44,8 @@ pub struct Pipes<'a> {
 }
 
 impl<'a> Pipes<'a> {
-    /// Seats for the planners of those names, who haven't come yet. Of their files those outputs are open
-    /// that are pipes.
+    /// Seats for the planners of those names, who haven't come yet, and write in that version of lines. Of
+    /// their files those outputs are open that are pipes.
     ///
     /// # Errors
     ///
@@ -52,6 +54,7 @@ impl<'a> Pipes<'a> {
         alloc: Global,
         host: &'a HostRuntime,
         names: &'a [&'static str],
+        version: LinesVersion,
         stages: bool,
     ) -> Result<Pipes<'a>, PipesFault>
         ensures as_many { IfOk result (λ pipes. length pipes.doors.items ≡ length names.now) }
@@ -74,6 +77,7 @@ impl<'a> Pipes<'a> {
             host,
             names,
             doors,
+            version,
             stages,
             spare: Mutex::new(spare),
         })
@@ -85,8 +89,8 @@ impl<'a> Pipes<'a> {
     }
 
     // Serves the operator.
-    fn operate<C: Counter>(&self, alloc: Global, counter: &mut C) -> Outcome
-        ensures { Sits C.counting None counter.old counter.new result }
+    fn operate<C: Awaits>(&self, alloc: Global, counter: &mut C) -> Outcome
+        ensures { Sits C.counting (untold self.now.version) counter.old counter.new result }
     {
         let errors = self.errors();
         // (lent, since standard input has its buffer in itself)
@@ -94,20 +98,20 @@ impl<'a> Pipes<'a> {
         let typed = self.host.stdin().is_terminal();
         let input = Prompting::new(&errors, &mut reader, typed, SESSION_PROMPT);
         let output = Patient::new(self.host, io::writer(self.host));
-        let ended = sit_between(alloc, counter, input, output);
+        let ended = sit_between(alloc, self.version, counter, input, output);
         self.tell("operator", &ended);
         ended
     }
 
     // Waits for a planner, and serves it to the end of its input.
-    fn let_in<R: Wait, C: Counter>(
+    fn let_in<R: Wait, C: Awaits>(
         &self,
         rt: &R,
         alloc: Global,
         doors: &Doors,
         counter: &mut C,
     ) -> Outcome
-        ensures { Sits C.counting None counter.old counter.new result }
+        ensures { Sits C.counting (untold self.now.version) counter.old counter.new result }
     {
         let (input, output) = match doors.meet(rt, self.host) {
             Ok(ends) => ends,
@@ -119,7 +123,7 @@ impl<'a> Pipes<'a> {
         if self.stages {
             let _told = eprintln!(self.errors(); "mapf_desk: {}: has come", doors.name);
         }
-        sit_between(alloc, counter, input, output)
+        sit_between(alloc, self.version, counter, input, output)
     }
 
     // Tells how a session ended: its fault, and how many lines it had where that is wanted.
@@ -146,9 +150,9 @@ impl<'a> Pipes<'a> {
 }
 
 impl<'a> Seats for Pipes<'a> {
-    ghost inputs = { λ _ _. None };
+    ghost inputs = { λ pipes _. untold pipes.version };
 
-    fn seat<R: Wait, C: Counter>(
+    fn seat<R: Wait, C: Awaits>(
         &self,
         rt: &R,
         alloc: Global,

@@ -1,37 +1,38 @@
 //! A planner's session between two files.
-ghost use Rattle.std.specs.Prelude.{None};
+ghost use Rattle.solver_check.specs.Inputs.{untold};
 ghost use Rattle.solver_check.specs.Seats.{IsHeard, Sits};
 
 use crate::sending::send_last;
 use crate::short_lines::ShortLines;
 use crate::streams::{Answers, Lines, Outlet};
 use crate::whole_lines::WholeLines;
-use desk_core::Counter;
+use desk_core::Awaits;
 use desk_report::{Sink, Source, Spout};
-use session_protocol::{ServeFault, serve};
+use session_protocol::{LinesVersion, ServeFault, serve_in};
 use solver_check::{Outcome, SEAT_BOUNDS, SeatFault};
 use std::alloc::Global;
 use std::cell::RefCell;
 use std::io::{BufWriter, Read, Write};
 
-/// Serves a session from a reader to a writer, both buffered. What was answered goes out before more
-/// is read, and at the end. An input that ends within a line is broken off, and so is a line that is too
-/// long: that line isn't answered.
+/// Serves a session in that version of lines from a reader to a writer, both buffered. What was answered
+/// goes out before more is read, and at the end. An input that ends within a line is broken off, and so is
+/// a line that is too long: that line isn't answered.
 ///
 /// # Errors
 ///
 /// The session's fault, with the system's reason where there is one; or want of memory, and nothing
 /// was heard.
-pub(crate) fn sit_between<C: Counter, I: Read + Drop, O: Write + Drop>(
+pub(crate) fn sit_between<C: Awaits, I: Read + Drop, O: Write + Drop>(
     alloc: Global,
+    version: LinesVersion,
     counter: &mut C,
     input: I,
     output: O,
 ) -> Outcome
-    ensures { Sits C.counting None counter.old counter.new result }
+    ensures { Sits C.counting (untold version) counter.old counter.new result }
 {
     match BufWriter::new(alloc, output) {
-        Ok(buffered) => sit_buffered(alloc, counter, input, buffered),
+        Ok(buffered) => sit_buffered(alloc, version, counter, input, buffered),
         Err(_) => {
             drop(input);
             Err(SeatFault::OutOfMemory)
@@ -40,17 +41,18 @@ pub(crate) fn sit_between<C: Counter, I: Read + Drop, O: Write + Drop>(
 }
 
 // Serves a session from a reader to a writer in a buffer, which goes out at the end.
-fn sit_buffered<C: Counter, I: Read + Drop, O: Write + Drop>(
+fn sit_buffered<C: Awaits, I: Read + Drop, O: Write + Drop>(
     alloc: Global,
+    version: LinesVersion,
     counter: &mut C,
     input: I,
     buffered: BufWriter<O>,
 ) -> Outcome
-    ensures { Sits C.counting None counter.old counter.new result }
+    ensures { Sits C.counting (untold version) counter.old counter.new result }
 {
     let outlet = RefCell::new(Outlet::new(buffered));
     let ended = match Lines::new(alloc, input, &outlet) {
-        Ok(lines) => hear_out(alloc, counter, lines, &outlet),
+        Ok(lines) => hear_out(alloc, version, counter, lines, &outlet),
         Err(_) => Err(SeatFault::OutOfMemory),
     };
     drop(outlet);
@@ -58,17 +60,18 @@ fn sit_buffered<C: Counter, I: Read + Drop, O: Write + Drop>(
 }
 
 // Serves a session of lines to an outlet, and sends the last answers.
-fn hear_out<C: Counter, R: Source + Drop, O: Write + Drop>(
+fn hear_out<C: Awaits, R: Source + Drop, O: Write + Drop>(
     alloc: Global,
+    version: LinesVersion,
     counter: &mut C,
     lines: R,
     outlet: &RefCell<Outlet<O>>,
 ) -> Outcome
-    ensures { Sits C.counting None counter.old counter.new result }
+    ensures { Sits C.counting (untold version) counter.old counter.new result }
 {
     let mut lines = WholeLines::new(ShortLines::new(lines));
     let mut answers = Spout::new(Answers::new(outlet));
-    let ended = hear(alloc, counter, &mut lines, &mut answers);
+    let ended = hear(alloc, version, counter, &mut lines, &mut answers);
     let is_too_long = lines.into_inner().is_cut();
     let (sent, unread) = send_last(outlet);
     match (ended, sent) {
@@ -79,14 +82,15 @@ fn hear_out<C: Counter, R: Source + Drop, O: Write + Drop>(
     }
 }
 
-fn hear<C: Counter, R: Source, W: Sink>(
+fn hear<C: Awaits, R: Source, W: Sink>(
     alloc: Global,
+    version: LinesVersion,
     counter: &mut C,
     reader: &mut R,
     writer: &mut W,
 ) -> Result<u32, ServeFault>
-    ensures { IsHeard C.counting None counter.old counter.new result }
+    ensures { IsHeard C.counting (untold version) counter.old counter.new result }
 {
-    let ended = serve(alloc, counter, reader, writer, SEAT_BOUNDS);
+    let ended = serve_in(alloc, version, counter, reader, writer, SEAT_BOUNDS);
     ended
 }
