@@ -3,6 +3,7 @@ use Rattle.std.specs.Prelude.{◌≡◌, ℕ, List, Option, Some, None, Result, 
 use Rattle.std.specs.Borrow.{Bor}
 use Rattle.plan_table.specs.declared.tracks.Mode.{Mode}
 use Rattle.desk_commits.specs.State.{DeskState}
+use Rattle.session_lines.specs.declared.versions.LinesVersion.{LinesVersion}
 use Rattle.session_protocol.specs.declared.bounds.ServeFault.{ServeFault}
 use Rattle.solver_check.specs.declared.faults.RunFault.{RunFault}
 use Rattle.desk_cli.specs.declared.words.DrawWords.{DrawWords}
@@ -19,9 +20,9 @@ courses_in None text = Journal text
 abbrev pub courses_of : DrawWords → Option (Bor (List ℕ)) → Courses
 courses_of words text = courses_in words.paths text
 
--- the session of an input over the desk of the texts; its answers went into a buffer
-pub record SitsFrom (map scen : Option (List ℕ)) (agents : ℕ) (mode : Mode) (limit : ℕ) (journal left : Option (List ℕ)) (sat : DeskState × Result ℕ ServeFault) : Type 0 where
+-- the session of an input in that version of lines over the desk of the texts; its answers went into a buffer
+pub record SitsFrom (version : LinesVersion) (map scen : Option (List ℕ)) (agents : ℕ) (mode : Mode) (limit : ℕ) (journal left : Option (List ℕ)) (sat : DeskState × Result ℕ ServeFault) : Type 0 where
   pub after : Option (List ℕ)
   pub held0 : Option (List ℕ)
   pub held1 : Option (List ℕ)
-  pub sits : Sits map scen agents mode limit journal left after held0 held1 (Ok sat)
+  pub sits : Sits version map scen agents mode limit journal left after held0 held1 (Ok sat)

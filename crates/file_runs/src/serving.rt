@@ -120,7 +120,7 @@ fn serve_lines<I: Read + Drop, O: Write + Drop>(
     input: I,
     outlet: &RefCell<Outlet<O>>,
 ) -> Result<(Desk, Result<u32, ServeFault>), RunFault>
-    ensures { IfOk result (λ sat. SitsFrom (bytes_of texts.entry.map) (bytes_of texts.entry.scen) words.now.agents words.now.mode
+    ensures { IfOk result (λ sat. SitsFrom words.now.lines (bytes_of texts.entry.map) (bytes_of texts.entry.scen) words.now.agents words.now.mode
         (max 1 (min words.now.limit MOST_ENTRIES)) (bytes_of texts.entry.journal) (I.remaining input) sat) }
 {
     let Ok(mut reader) = Lines::new(alloc, input, outlet) else {
@@ -129,6 +129,7 @@ fn serve_lines<I: Read + Drop, O: Write + Drop>(
     let mut writer = Spout::new(Answers::new(outlet));
     serve_desk(
         alloc,
+        words.lines,
         texts.map,
         texts.scen,
         words.agents,

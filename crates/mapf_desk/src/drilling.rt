@@ -1,7 +1,7 @@
 //! The word `drill`.
 ghost use Rattle.std.specs.Prelude.{[], IfErr, IfOk, unwrap_or};
 ghost use Rattle.shared_runs.specs.DrillFaults.{FailsDrill};
-ghost use Rattle.shared_runs.specs.Drills.{Drills, texts_of};
+ghost use Rattle.shared_runs.specs.Drills.{Drills, inputs_of};
 ghost use Rattle.solver_check.specs.Opens.{bytes_of};
 
 use desk_cli::DrillWords;
@@ -16,6 +16,7 @@ use std::io::BufWriter;
 use std::rt::Files;
 use std::sync::Wait;
 use std::thread::Threads;
+use std::time::Clock;
 
 /// Runs a drill as the words ask for, onto standard output, and answers whether the audit's report
 /// is the same. Where it is wanted, its stages are told on standard error, and more is known then of
@@ -24,7 +25,7 @@ use std::thread::Threads;
 /// # Errors
 ///
 /// What the words lack, a file that can't be read, or the run's fault.
-pub fn drill_files<R: Files + AllocGlobal + Print + Eprint + Threads + Wait + Sync>(
+pub fn drill_files<R: Files + AllocGlobal + Print + Eprint + Threads + Wait + Clock + Sync>(
     rt: &R,
     words: &DrillWords,
     stages: bool,
@@ -57,7 +58,7 @@ pub fn drill_files<R: Files + AllocGlobal + Print + Eprint + Threads + Wait + Sy
 
 // Runs a drill of the texts onto standard output. Where it is wanted, what each script was answered
 // is counted.
-fn drill_counted<R: AllocGlobal + Print + Threads + Wait + Sync>(
+fn drill_counted<R: AllocGlobal + Print + Threads + Wait + Clock + Sync>(
     rt: &R,
     texts: Texts<'_>,
     scripts: Vec<Vec<u8>>,
@@ -83,7 +84,7 @@ fn drill_counted<R: AllocGlobal + Print + Threads + Wait + Sync>(
 }
 
 // Runs a drill of the scripts over the scene of the texts and the words.
-fn drill_onto<R: Threads + Wait + Sync, W: Sink>(
+fn drill_onto<R: Threads + Wait + Clock + Sync, W: Sink>(
     rt: &R,
     alloc: Global,
     texts: Texts<'_>,
@@ -93,11 +94,20 @@ fn drill_onto<R: Threads + Wait + Sync, W: Sink>(
     writer: &mut W,
 ) -> Result<bool, RunFault>
     ensures drilled { IfOk result (Drills (unwrap_or (bytes_of texts.entry.map) []) (bytes_of texts.entry.scen) words.now.agents words.now.mode
-        (texts_of scripts.items) (W.held writer.old) (W.held writer.new)) }
+        (inputs_of words.now.lines scripts.items) (W.held writer.old) (W.held writer.new)) }
     ensures refused { IfErr result (FailsDrill (unwrap_or (bytes_of texts.entry.map) []) (bytes_of texts.entry.scen) words.now.agents words.now.mode
-        (texts_of scripts.items) (W.held writer.old) (W.held writer.new)) }
+        (inputs_of words.now.lines scripts.items) (W.held writer.old) (W.held writer.new)) }
 {
     let problem = problem_of(texts, Some(words.agents), words.mode);
     let workers = words.workers.clamp(1, 64);
-    hear_drill(rt, alloc, problem, workers, scripts, tallies, writer)
+    hear_drill(
+        rt,
+        alloc,
+        problem,
+        workers,
+        words.lines,
+        scripts,
+        tallies,
+        writer,
+    )
 }

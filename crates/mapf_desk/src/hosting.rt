@@ -17,6 +17,7 @@ use std::rt::Files;
 use std::sync::Wait;
 use std::thread;
 use std::thread::{Builder, Threads};
+use std::time::Clock;
 
 /// The bytes of stack of the thread that hosts, in which each planner takes some.
 const HOST_STACK: usize = 4_194_304;
@@ -29,7 +30,7 @@ const HOST_STACK: usize = 4_194_304;
 ///
 /// What the words lack, a file that can't be read or written, two planners of one file, want of memory
 /// for a thread, the run's fault, or that of the save.
-pub fn host_files<R: Threads + Wait + Sync>(
+pub fn host_files<R: Threads + Wait + Clock + Sync>(
     rt: &R,
     host: &HostRuntime,
     words: &HostWords,
@@ -50,7 +51,7 @@ pub fn host_files<R: Threads + Wait + Sync>(
 }
 
 // Hosts the planners of the words, in this thread.
-fn host_named<R: Threads + Wait + Sync>(
+fn host_named<R: Threads + Wait + Clock + Sync>(
     rt: &R,
     host: &HostRuntime,
     words: &HostWords,
@@ -67,7 +68,8 @@ fn host_named<R: Threads + Wait + Sync>(
         release(held);
         return Err(ProgramFault::Host(HostFault::TooManyPlanners));
     }
-    let pipes = match Pipes::new(alloc, host, words.names.as_slice(), stages) {
+    let (names, version) = (words.names.as_slice(), words.desk.lines);
+    let pipes = match Pipes::new(alloc, host, names, version, stages) {
         Ok(pipes) => pipes,
         Err(fault) => {
             drop(desk);
@@ -159,7 +161,7 @@ fn end_of(end: &HostEnd, same: bool) -> RunEnd
 
 // Hosts the planners until all have ended, who may take as long to come as the words say: threads see
 // to those who haven't come yet.
-fn host_all<R: Threads + Wait + Sync>(
+fn host_all<R: Threads + Wait + Clock + Sync>(
     rt: &R,
     alloc: Global,
     desk: Desk,
