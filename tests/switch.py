@@ -42,7 +42,7 @@ READS = "    let (words, verbose) = match read_words(alloc, given.leak()) {"
 TELLS = """    let asked = read_words(alloc, given.leak());
     if switch::has(b"%s", b"1") {
         let mut text = String::new(alloc);
-        if read_as::put_asked(&mut text, &asked).is_ok() {
+        if telling::put_asked(&mut text, &asked).is_ok() {
             let _told = println!(&rt; "{text}");
         }
         return ExitCode::SUCCESS;
@@ -104,11 +104,12 @@ def copy(top):
     lines = read(f"{TOP}/crates.txt").splitlines()
     write(f"{top}/crates.txt", "".join(f"{it} os\n" if it.split(":")[0] in CRATES else f"{it}\n" for it in lines))
     source = f"{top}/crates/{PROGRAM}/src"
-    shutil.copy2(f"{top}/crates/demo_texts/src/telling.rt", f"{source}/read_as.rt")
+    for file in ("telling", "values"):
+        shutil.copy2(f"{top}/crates/demo_texts/src/{file}.rt", source)
     text = read(f"{source}/main.rt")
     if text.count(READS) != 1:
         raise ValueError("main.rt doesn't read its words as it did")
-    write(f"{source}/main.rt", text.replace(READS, TELLS).replace("\nmod ", "\nmod read_as;\nmod ", 1))
+    write(f"{source}/main.rt", text.replace(READS, TELLS).replace("\nmod ", "\nmod telling;\nmod values;\nmod ", 1))
 
 
 def build(top, to):

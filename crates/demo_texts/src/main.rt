@@ -8,6 +8,7 @@ mod journals;
 mod paths;
 mod tasks;
 mod telling;
+mod values;
 mod words;
 
 use bstr::ByteSlice;

@@ -1,12 +1,14 @@
 //! What words are read as, in a line. What is as it is where no word names it is left out.
+use crate::values::{
+    put_all_kinds, put_file, put_form, put_given, put_kinds, put_lines, put_mode, put_number,
+    put_shown,
+};
 use clap::Error;
 use desk_cli::{
     Asked, AuditWords, CheckWords, DrawWords, DrillWords, HostWords, PageWords, ServeWords, Words,
 };
-use desk_report::Kinds;
-use grid_cells::Agent;
-use path_files::Form;
 use plan_table::Mode;
+use session_lines::LinesVersion;
 use std::alloc::AllocError;
 
 /// What words are read as.
@@ -47,7 +49,8 @@ fn put_words(text: &mut String, words: &Words) -> Result<(), AllocError> {
 
 fn put_serve(text: &mut String, words: &ServeWords) -> Result<(), AllocError> {
     text.push_str("serve")?;
-    put_desk(text, words)
+    put_desk(text, words)?;
+    put_lines(text, words.lines, LinesVersion::One)
 }
 
 fn put_desk(text: &mut String, words: &ServeWords) -> Result<(), AllocError> {
@@ -84,6 +87,7 @@ fn put_audit(text: &mut String, words: &AuditWords) -> Result<(), AllocError> {
 fn put_drill(text: &mut String, words: &DrillWords) -> Result<(), AllocError> {
     text.push_str("drill")?;
     put_opening(text, words.map, words.scen, words.agents, words.mode)?;
+    put_lines(text, words.lines, LinesVersion::One)?;
     put_number(text, "workers", words.workers, 4)?;
     for script in words.scripts.as_slice() {
         put_file(text, "script", Some(*script))?;
@@ -94,6 +98,7 @@ fn put_drill(text: &mut String, words: &DrillWords) -> Result<(), AllocError> {
 fn put_host(text: &mut String, words: &HostWords) -> Result<(), AllocError> {
     text.push_str("host")?;
     put_desk(text, &words.desk)?;
+    put_lines(text, words.desk.lines, LinesVersion::Two)?;
     put_given(text, "wait", words.wait)?;
     put_number(text, "workers", words.workers, 4)?;
     for name in words.names.as_slice() {
@@ -144,75 +149,4 @@ fn put_page(text: &mut String, words: &PageWords) -> Result<(), AllocError> {
     put_file(text, "paths", words.paths)?;
     put_kinds(text, words.kinds)?;
     put_file(text, "title", words.title)
-}
-
-fn put_shown(text: &mut String, shown: Option<(Agent, Agent)>) -> Result<(), AllocError> {
-    let Some((least, greatest)) = shown else {
-        return Ok(());
-    };
-    let (least, greatest) = (least.number(), greatest.number());
-    write!(text, " shown={least}-{greatest}")
-}
-
-fn put_given(text: &mut String, name: &str, number: Option<u32>) -> Result<(), AllocError> {
-    match number {
-        None => Ok(()),
-        Some(number) => write!(text, " {name}={number}"),
-    }
-}
-
-fn put_form(text: &mut String, form: Option<Form>) -> Result<(), AllocError> {
-    match form {
-        None => Ok(()),
-        Some(Form::ByTime) => text.push_str(" form=time"),
-        Some(Form::ByAgent) => text.push_str(" form=agent"),
-        Some(Form::BySession) => text.push_str(" form=session"),
-    }
-}
-
-// The kinds; none where they are those of the classical problem.
-fn put_kinds(text: &mut String, kinds: Kinds) -> Result<(), AllocError> {
-    let others = kinds.edge || kinds.follow || kinds.cycle;
-    if kinds.vertex && kinds.swap && !others {
-        return Ok(());
-    }
-    put_all_kinds(text, kinds)
-}
-
-// The kinds, in the order of a report's entries.
-fn put_all_kinds(text: &mut String, kinds: Kinds) -> Result<(), AllocError> {
-    put_kind(text, "vertex", kinds.vertex)?;
-    put_kind(text, "edge", kinds.edge)?;
-    put_kind(text, "follow", kinds.follow)?;
-    put_kind(text, "swap", kinds.swap)?;
-    put_kind(text, "cycle", kinds.cycle)
-}
-
-fn put_kind(text: &mut String, kind: &str, named: bool) -> Result<(), AllocError> {
-    if named {
-        put_file(text, "solves", Some(kind))
-    } else {
-        Ok(())
-    }
-}
-
-fn put_file(text: &mut String, name: &str, file: Option<&str>) -> Result<(), AllocError> {
-    match file {
-        None => Ok(()),
-        Some(file) => write!(text, " {name}={file}"),
-    }
-}
-
-fn put_number(text: &mut String, name: &str, number: u32, usual: u32) -> Result<(), AllocError> {
-    if number == usual {
-        return Ok(());
-    }
-    write!(text, " {name}={number}")
-}
-
-fn put_mode(text: &mut String, mode: Mode) -> Result<(), AllocError> {
-    match mode {
-        Mode::Stay => Ok(()),
-        Mode::Disappear => text.push_str(" mode=disappear"),
-    }
 }
