@@ -16,13 +16,15 @@ class Session:
         self.lines, self.answers = lines, answers
 
     def ask(self, line):
-        """The answer to a line; of `report` all its lines."""
+        """The answer to a line; of `report`, and `report AGENT..`, all its lines."""
         self.lines.write(line + "\n")
         self.lines.flush()
         answer = [self.hear()]
-        while line == "report" and answer[-1] not in ("end", "refused memory"):
+        if line.split()[0] != "report":
+            return answer[0]
+        while answer[-1] != "end" and answer[0].startswith("version "):
             answer.append(self.hear())
-        return answer if line == "report" else answer[0]
+        return answer
 
     def hear(self):
         line = self.answers.readline()
