@@ -9,7 +9,7 @@ import re
 from .running import TOP, Wrong, want
 
 WORKED = f"{TOP}/tests/worked"
-KEYS = {"map", "mode", "limit", "session", "answers", "journal", "scenario", "agents", "input", "lines", "script", "upgrade", "printed"}
+KEYS = {"map", "mode", "limit", "version", "session", "answers", "journal", "scenario", "agents", "input", "lines", "script", "upgrade", "printed"}
 REPEATED = re.compile(r"\{(\d+) ([^}]*)\}")
 ESCAPED = re.compile(r"\\(?:x([0-9a-f]{2})|([trn\\]))")
 ESCAPES = {"t": "\t", "r": "\r", "n": "\n", "\\": "\\"}

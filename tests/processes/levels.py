@@ -46,6 +46,7 @@ class Session:
         self.mode, self.limit = example.value("mode") or "stay", example.value("limit")
         self.scene, self.over_map = words, words[2:]  # behind `--map FILE`
         self.bounds = ["--limit", self.limit] if self.limit else []
+        self.version = ["--lines", example.value("version") or "1"]
         self.journal, self.report = example.text("journal"), ""
 
     def going_on(self):
@@ -67,7 +68,7 @@ def is_saved_again(session):
 
 def over_a_desk(session):
     """Its journal is the example's, if that has one, and tells the plain report."""
-    words = ["serve", *session.scene, *session.bounds]
+    words = ["serve", *session.scene, *session.bounds, *session.version]
     remove("worked_kept", "worked_again")
     is_answered([*words, "--save", "worked_kept"], session.text, session.answers)
     kept = bytes_of("worked_kept")
@@ -77,7 +78,7 @@ def over_a_desk(session):
 
 
 def behind_a_map(session):
-    session.heard(["serve", *session.over_map, *session.bounds], session.map)
+    session.heard(["serve", *session.over_map, *session.bounds, *session.version], session.map)
 
 
 def from_its_journal(session):
@@ -94,7 +95,7 @@ def through_windows(session, workers):
 
     On another such desk a planner at its files has the session, and goes on.
     """
-    words = ["-v", *session.scene[2:], *session.bounds, "--save", "worked_again", "--workers", str(workers)]
+    words = ["-v", *session.scene[2:], *session.bounds, *session.version, "--save", "worked_again", "--workers", str(workers)]
     with Hosted(["east"], *words, ground=session.scene[1]) as hosted:
         hosted.operator.send(session.text + (b"\n" if session.text[-1:] not in (b"", b"\n") else b""))
         hosted.operator.process.stdin.close()
@@ -109,14 +110,14 @@ def through_windows(session, workers):
     is_saved_again(session)
     lines, answers = session.going_on()
     put("west.in", lines)
-    is_answered(["host", *session.scene, *session.bounds, "west"], b"", "audit same\n")
+    is_answered(["host", *session.scene, *session.bounds, *session.version, "west"], b"", "audit same\n")
     want("the planner's answers", bytes_of("west.out").decode(), answers)
     remove("west.in", "west.out")
 
 
 def as_a_drill(session, workers):
     """The session is a drill's only script. A drill has no limit to its journal but that of all."""
-    is_answered(["drill", *session.scene, "--workers", str(workers), "worked_script"], b"", f"{session.report}audit same\n")
+    is_answered(["drill", *session.scene, *session.version, "--workers", str(workers), "worked_script"], b"", f"{session.report}audit same\n")
 
 
 def levels(example, words):
