@@ -6,7 +6,7 @@ ghost use Rattle.session_lines.specs.Questions.{question_command_of, report_of, 
 
 use crate::agents::agents_of;
 use crate::inquiries::Inquiry;
-use crate::requests::{LineFault, Request, read_line};
+use crate::requests::{LineFault, Request, alone, read_line};
 use crate::shapes::{only_agent, only_cell, time_and_cell, version_and_seconds};
 use crate::values::is_word;
 use crate::versions::LinesVersion;
@@ -17,6 +17,7 @@ use std::alloc::Global;
 #[derive(Clone, Copy)]
 pub enum QuestionCommand {
     Report,
+    Try,
     Plan,
     Cell,
     At,
@@ -29,6 +30,8 @@ fn question_command_of(word: &[u8]) -> Option<QuestionCommand>
 {
     if is_word(word, b"report") {
         Some(QuestionCommand::Report)
+    } else if is_word(word, b"try") {
+        Some(QuestionCommand::Try)
     } else if is_word(word, b"plan") {
         Some(QuestionCommand::Plan)
     } else if is_word(word, b"cell") {
@@ -76,6 +79,7 @@ fn question_of(alloc: Global, command: QuestionCommand, line: &[u8]) -> Result<R
 {
     match command {
         QuestionCommand::Report => report_of(alloc, line),
+        QuestionCommand::Try => alone(Request::Try, line),
         QuestionCommand::Plan => only_agent(line)
             .map(|agent| Request::Ask(Inquiry::Plan(agent)))
             .ok_or(LineFault::Shape),

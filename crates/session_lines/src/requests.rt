@@ -32,6 +32,8 @@ pub enum Request {
     Commit,
     /// To gather no more, and let go what is gathered.
     Cancel,
+    /// What committing what is gathered would be answered, and would change.
+    Try,
     /// The version.
     Version,
     /// The version and the report.
@@ -92,7 +94,7 @@ fn request_of(alloc: Global, command: Command, line: &[u8]) -> Result<Request, L
 }
 
 // The request, where the line has no word.
-fn alone(request: Request, line: &[u8]) -> Result<Request, LineFault>
+pub(crate) fn alone(request: Request, line: &[u8]) -> Result<Request, LineFault>
     ensures { result ≡ ok_or (alone request (words_of line.now)) LineFault.Shape }
 {
     match next_word(line) {

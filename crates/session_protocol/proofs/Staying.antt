@@ -58,6 +58,8 @@ module _ {S : Type 0} (version : LinesVersion) (c : Counting S) (Keeps : S → S
   obeys number (Gathering draft) ask.Commit at then reply next done = kept.commits _ _ _ _ done.1
   obeys number Idle ask.Cancel at then reply next done = stays at then done.2
   obeys number (Gathering draft) ask.Cancel at then reply next done = stays at then done.2
+  obeys number Idle ask.Try at then reply next done = stays at then done.2
+  obeys number (Gathering draft) ask.Try at then reply next done = kept.asks _ _ _ _ _ done.0.1
   obeys number session ask.Version at then reply next done = kept.versions _ _ _ done.0.1
   obeys number session ask.Report at then reply next done = kept.reads _ _ _ done.0.1
   obeys number session (ask.Distance agent cell) at then reply next done = kept.tells _ _ _ _ _ done.0.1

@@ -1,6 +1,7 @@
 pub mod Drafts
 pub mod RefusalText
 pub mod Replies
+pub mod Trials
 pub mod Tellings
 pub mod Table
 pub mod LinesOf

@@ -1,16 +1,18 @@
 -- The text of a reply, and of a session (this project's choice).
-use Rattle.std.specs.Prelude.{◌||◌, ℕ, nat_eq, Bool, true, false, not, List, [], ◌∷◌, ◌++◌, length, map, take_while, codes, decimal}
+use Rattle.std.specs.Prelude.{◌||◌, ℕ, ◌-◌, nat_eq, Bool, true, false, not, List, [], ◌∷◌, ◌++◌, length, map, take_while, codes, decimal}
 use Rattle.std.specs.List.{flat_map}
 use Rattle.std.specs.Str.{bytes_eq}
 use Rattle.plan_table.specs.declared.plans.Row.{Row}
 use Rattle.desk_report.specs.LineText.{line_text, cell_text, given_text, answer_text}
 use Rattle.desk_report.specs.ReportText.{report_text}
+use Rattle.desk_report.specs.ChangesText.{trial_text}
+use Rattle.desk_report.specs.declared.changed.Changes.{Changes}
 use Rattle.desk_report.specs.declared.reports.Report.{Report}
 use Rattle.session_protocol.specs.RefusalText.{refusal_words, asked_words, refused_line}
 use Rattle.session_protocol.specs.declared.replies.BadLine.{BadLine}
 use Rattle.session_protocol.specs.declared.replies.BadLine.TheVariants.{Word, Shape, NotBegun, Full}
 use Rattle.session_protocol.specs.declared.replies.Reply.{Reply}
-use Rattle.session_protocol.specs.declared.replies.Reply.TheVariants.{Silent, Bad, NoMemory, Version, Base, Kept, Cancelled, Refused, Shown, Far, NotAsked, Solves, Planned, Open, Standing}
+use Rattle.session_protocol.specs.declared.replies.Reply.TheVariants.{Silent, Bad, NoMemory, Version, Base, Kept, Cancelled, Refused, Would, Shown, Far, NotAsked, Solves, Planned, Open, Standing}
 
 abbrev pub bad_word : BadLine → List ℕ
 bad_word Word = codes "word"
@@ -38,6 +40,10 @@ cell_word false = codes "closed"
 abbrev pub standing_line : List ℕ → List ℕ
 standing_line agents = line_text (codes "at" ∷ decimal (length agents) ∷ map decimal agents)
 
+-- what a commit would change from the version before the one that it would make
+abbrev pub would_text : ℕ → Changes → List ℕ
+would_text version changes = trial_text version (version - 1) changes
+
 abbrev pub reply_text : Reply → List ℕ
 reply_text Silent = []
 reply_text (Bad line why) = line_text (codes "bad" ∷ decimal line ∷ bad_word why ∷ [])
@@ -47,6 +53,7 @@ reply_text (Base version) = line_text (codes "base" ∷ decimal version ∷ [])
 reply_text Kept = line_text (codes "kept" ∷ [])
 reply_text Cancelled = line_text (codes "cancelled" ∷ [])
 reply_text (Refused refusal) = refused_line (refusal_words refusal)
+reply_text (Would version changes) = would_text version changes
 reply_text (Shown reading) = reported_text reading.version reading.report
 reply_text (Far distance) = line_text (codes "distance" ∷ given_text distance ∷ [])
 reply_text (NotAsked fault) = refused_line (asked_words fault)
@@ -59,7 +66,7 @@ reply_text (Standing agents) = standing_line agents
 abbrev pub is_acceptance : List ℕ → Bool
 is_acceptance word =
     bytes_eq word (codes "version") || bytes_eq word (codes "base") || bytes_eq word (codes "kept")
-    || bytes_eq word (codes "cancelled") || bytes_eq word (codes "distance") || bytes_eq word (codes "solves")
+    || bytes_eq word (codes "cancelled") || bytes_eq word (codes "would") || bytes_eq word (codes "distance") || bytes_eq word (codes "solves")
     || bytes_eq word (codes "plan") || bytes_eq word (codes "cell") || bytes_eq word (codes "at")
 
 -- what stands in a text before its first blank or line feed

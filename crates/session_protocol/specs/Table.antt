@@ -14,7 +14,9 @@ use Rattle.desk_commits.specs.Counting.{Counting}
 use Rattle.session_protocol.specs.Drafts.{Draft, blank, entry_of}
 use Rattle.desk_commits.specs.Questions.{TellsCut, TellsPlan, TellsOpen, TellsStanding}
 use Rattle.desk_commits.specs.State.{DeskState}
-use Rattle.session_protocol.specs.Tellings.{commit_reply, after_commit, reading_reply, SolvesReply, distance_reply, asked_reply}
+use Rattle.desk_report.specs.declared.changed.Changes.{Changes}
+use Rattle.session_protocol.specs.Trials.{TellsTrial}
+use Rattle.session_protocol.specs.Tellings.{commit_reply, trial_reply, after_commit, reading_reply, SolvesReply, distance_reply, asked_reply}
 use Rattle.session_protocol.specs.declared.drafts.Session.{Session}
 use Rattle.session_protocol.specs.declared.drafts.Session.TheVariants.{Idle, Gathering}
 use Rattle.session_protocol.specs.declared.replies.BadLine.TheVariants.{NotBegun, Full}
@@ -41,6 +43,12 @@ KeepsEdit number draft edit given new =
 abbrev pub Commits : {S : Type 0} → Counting S → S → Draft → (Result ℕ (Refusal × Entry) → Session) → Reply → Session → S → Type 0
 Commits {S} c at draft where_then given new then =
     (result : Result ℕ (Refusal × Entry)) × c.commits at (entry_of (c.planner at) draft) result then × (given ≡ commit_reply result) × (new ≡ where_then result)
+
+-- the trial of the commit of a draft, and what it tells
+abbrev pub TriesOut : {S : Type 0} → Counting S → S → Draft → Reply → S → Type 0
+TriesOut {S} c at draft given then =
+    (result : Result (ℕ × Changes) Refusal) × c.asks (Result (ℕ × Changes) Refusal) at (λ desk. TellsTrial desk (entry_of (c.planner at) draft)) result then
+    × (given ≡ trial_reply result)
 
 -- an edit line outside a gathering: a commit of this edit, with no watch, on the counter's version
 abbrev pub CommitsAlone : {S : Type 0} → Counting S → S → Edit → Reply → Session → S → Type 0
@@ -94,6 +102,8 @@ Obeys c number Idle at ask.Commit given new then = IsNotBegun number at given ne
 Obeys c number (Gathering draft) at ask.Commit given new then = Commits c at draft (after_commit draft) given new then
 Obeys c number Idle at ask.Cancel given new then = IsNotBegun number at given new then
 Obeys c number (Gathering draft) at ask.Cancel given new then = (given ≡ reply.Cancelled) × (new ≡ Idle) × (then ≡ at)
+Obeys c number Idle at ask.Try given new then = IsNotBegun number at given new then
+Obeys c number (Gathering draft) at ask.Try given new then = TriesOut c at draft given then × (new ≡ Gathering draft)
 Obeys c number old at ask.Version given new then = TellsVersion c at given then × (new ≡ old)
 Obeys c number old at ask.Report given new then = TellsReport c at given then × (new ≡ old)
 Obeys c number old at (ask.Distance agent cell) given new then = TellsDistance c at agent cell given then × (new ≡ old)

@@ -7,6 +7,7 @@ use Rattle.desk_commits.specs.Entries.{Entry}
 use Rattle.desk_commits.specs.declared.answers.Refusal.{Refusal}
 use Rattle.desk_commits.specs.declared.answers.Reading.{Reading}
 use Rattle.desk_commits.specs.declared.answers.AskFault.{AskFault}
+use Rattle.desk_report.specs.declared.changed.Changes.{Changes}
 use Rattle.session_protocol.specs.Drafts.{Draft}
 use Rattle.session_protocol.specs.declared.drafts.Session.{Session}
 use Rattle.session_protocol.specs.declared.drafts.Session.TheVariants.{Idle, Gathering}
@@ -22,6 +23,11 @@ commit_reply (Err (refusal, back)) = reply.Refused refusal
 abbrev pub after_commit : Draft → Result ℕ (Refusal × Entry) → Session
 after_commit draft (Ok version) = Idle
 after_commit draft (Err refused) = Gathering draft
+
+-- a trial's answer: the version that the commit would make and what it would change, or the refusal
+abbrev pub trial_reply : Result (ℕ × Changes) Refusal → Reply
+trial_reply (Ok (version, changes)) = reply.Would version changes
+trial_reply (Err refusal) = reply.Refused refusal
 
 -- a reading's answer
 abbrev pub reading_reply : Result Reading OutOfMemory → Reply

@@ -4,7 +4,7 @@ ghost use Rattle.session_protocol.specs.Answer.{answering_in};
 ghost use Rattle.session_protocol.specs.Table.{MayObey, TellsReport, TellsSolves, TellsDistance};
 
 use crate::drafts::{Gathered, Session};
-use crate::gathering::{commit, commit_alone, keep_edit, keep_watch};
+use crate::gathering::{commit, commit_alone, keep_edit, keep_watch, try_out};
 use crate::inquiries::inquire;
 use crate::replies::{BadLine, Reply};
 use crate::waiting::Waiting;
@@ -70,7 +70,7 @@ fn obey_idle<C: Counter, P: Waiting<C>>(
             )
         }
         Request::Edit(edit) => (commit_alone(alloc, counter, edit), Session::Idle),
-        Request::Watch(_) | Request::Commit | Request::Cancel => {
+        Request::Watch(_) | Request::Commit | Request::Cancel | Request::Try => {
             (bad(number, BadLine::NotBegun), Session::Idle)
         }
         Request::Version => (Reply::Version(counter.version()), Session::Idle),
@@ -105,6 +105,7 @@ fn obey_gathering<C: Counter, P: Waiting<C>>(
         Request::Edit(edit) => keep_edit(number, gathered, edit),
         Request::Commit => commit(counter, gathered),
         Request::Cancel => (Reply::Cancelled, Session::Idle),
+        Request::Try => try_out(alloc, counter, gathered),
         Request::Version => (
             Reply::Version(counter.version()),
             Session::Gathering(gathered),

@@ -1,10 +1,11 @@
 //! Watches and edits that are kept, and commits that are made.
 ghost use Rattle.std.specs.Prelude.{◌≡◌, ◌⊎◌, ◌<◌, ◌≤◌, [], ◌∷◌, ◌++◌, length};
-ghost use Rattle.session_protocol.specs.Table.{FindsNoMemory, KeepsWatch, KeepsEdit, Commits, CommitsAlone};
+ghost use Rattle.session_protocol.specs.Table.{FindsNoMemory, KeepsWatch, KeepsEdit, Commits, CommitsAlone, TriesOut};
 ghost use Rattle.session_protocol.specs.Tellings.{after_commit};
 
 use crate::drafts::{Gathered, Session};
 use crate::replies::{BadLine, Reply};
+use crate::trials::Trying;
 use desk_commits::{Commit, MOST_EDITS, MOST_WATCHES};
 use desk_core::Counter;
 use grid_cells::List;
@@ -74,6 +75,34 @@ pub(crate) fn commit<C: Counter>(counter: &mut C, gathered: Gathered) -> (Reply,
             (Reply::Refused(refusal), Session::Gathering(gathered))
         }
     }
+}
+
+// What the commit of what was gathered would be answered, and would change.
+pub(crate) fn try_out<C: Counter>(
+    alloc: Global,
+    counter: &mut C,
+    gathered: Gathered,
+) -> (Reply, Session)
+    ensures tried { TriesOut C.counting counter.old gathered result.0 counter.new }
+    ensures kept { result.1 ≡ Session.Gathering gathered }
+{
+    let Gathered { base, watch, edits } = gathered;
+    let planner = counter.planner();
+    let Ok(commit) = Commit::new(planner, base, watch.into_items(), edits.into_items()) else {
+        unreachable!()
+    };
+    let trying = Trying::new(alloc, commit);
+    let reply = match counter.ask(&trying) {
+        Ok((version, changes)) => Reply::Would(version, changes),
+        Err(refusal) => Reply::Refused(refusal),
+    };
+    let (watch, edits) = trying.into_commit().into_parts();
+    let gathered = Gathered {
+        base,
+        watch: List::new(watch),
+        edits: List::new(edits),
+    };
+    (reply, Session::Gathering(gathered))
 }
 
 // The commit of one edit.

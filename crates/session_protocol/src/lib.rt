@@ -8,15 +8,19 @@
 
 mod answers;
 mod bounds;
+mod changing;
+mod differing;
 mod drafts;
 mod gathering;
 mod hearing;
 mod inquiries;
 mod listing;
+mod ordered;
 mod refusals;
 mod replies;
 mod serving;
 mod sessions;
+mod trials;
 mod waiting;
 mod writers;
 

@@ -1,4 +1,5 @@
 use desk_commits::{AskFault, Reading, Refusal};
+use desk_report::Changes;
 use grid_cells::{Agent, List};
 use plan_table::Row;
 
@@ -27,6 +28,8 @@ pub(crate) enum Reply {
     Kept,
     Cancelled,
     Refused(Refusal),
+    /// The version that a commit would make, and what it would change.
+    Would(u64, Changes),
     Shown(Reading),
     /// A distance in steps, if there is one.
     Far(Option<u32>),

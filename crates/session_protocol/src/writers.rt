@@ -2,12 +2,12 @@
 ghost use Rattle.std.specs.Prelude.{◌≡◌, IsTrue, OnOk, OnErr, is_err, ◌||◌};
 ghost use Rattle.std.specs.Io.KnownBytes.{Appends};
 ghost use Rattle.desk_report.specs.Bytes.{AppendsFront, Puts};
-ghost use Rattle.session_protocol.specs.Replies.{bad_word, begins_as_listed, cell_word, is_acceptance, plan_line, standing_line, version_line, reported_text, reply_text};
+ghost use Rattle.session_protocol.specs.Replies.{bad_word, begins_as_listed, cell_word, is_acceptance, plan_line, standing_line, version_line, reported_text, reply_text, would_text};
 
 use crate::listing::put_listing;
 use crate::refusals::{put_not_asked, put_refused};
 use crate::replies::{BadLine, Reply};
-use desk_report::{Report, Sink, Word, WriteFailed, put_line, write_report};
+use desk_report::{Changes, Report, Sink, Word, WriteFailed, put_line, write_report, write_trial};
 use grid_cells::{Agent, List};
 use plan_table::Row;
 
@@ -84,6 +84,13 @@ pub fn put_report<W: Sink>(sink: &mut W, version: u64, report: &Report) -> Resul
     write_report(report, sink)
 }
 
+// What a commit would change, which would make that version.
+fn put_would<W: Sink>(sink: &mut W, version: u64, changes: &Changes) -> Result<(), WriteFailed>
+    ensures { Puts W.held W.broken sink.old sink.new result (would_text version changes.now) }
+{
+    write_trial(changes, version, version.saturating_sub(1), sink)
+}
+
 // The reply.
 pub(crate) fn put_reply<W: Sink>(sink: &mut W, reply: &Reply) -> Result<(), WriteFailed>
     ensures text { Puts W.held W.broken sink.old sink.new result (reply_text reply.now) }
@@ -98,6 +105,7 @@ pub(crate) fn put_reply<W: Sink>(sink: &mut W, reply: &Reply) -> Result<(), Writ
         Reply::Kept => put_line(sink, b"kept", &[]),
         Reply::Cancelled => put_line(sink, b"cancelled", &[]),
         Reply::Refused(refusal) => put_refused(sink, *refusal),
+        Reply::Would(version, changes) => put_would(sink, *version, changes),
         Reply::Shown(reading) => put_report(sink, reading.version, &reading.report),
         Reply::Far(distance) => put_line(sink, b"distance", &[Word::given(*distance)]),
         Reply::NotAsked(fault) => put_not_asked(sink, *fault),
@@ -117,6 +125,7 @@ pub fn is_acceptance(word: &[u8]) -> bool
         || word == b"base".as_slice()
         || word == b"kept".as_slice()
         || word == b"cancelled".as_slice()
+        || word == b"would".as_slice()
         || word == b"distance".as_slice()
         || word == b"solves".as_slice()
         || word == b"plan".as_slice()
