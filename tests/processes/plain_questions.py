@@ -33,6 +33,28 @@ def standing(scene, time, cell):
     return " ".join(map(str, ("at", len(agents), *agents)))
 
 
+def lists_of(scene):
+    """The three lists of the report, each with the line of its count before it, and the totals."""
+    lines, lists = scene.report().splitlines(), []
+    for line in lines[:-5]:
+        if line.split()[0] in ("agents", "conflicts", "blocked"):
+            lists.append((line, []))
+        else:
+            lists[-1][1].append(line)
+    return lists, lines[-5:]
+
+
+def changes(scene, version, later):
+    """What changed since that version, up to the later scene: what went and what came of each list, in its order, and the later totals."""
+    (old, _), (new, totals), lines = lists_of(scene), lists_of(later), [f"since {version}"]
+    for (_, before), (count, after) in zip(old, new):
+        gone = [it for it in before if it not in after]
+        if count.startswith("agents"):
+            gone = [f"agent {it}" for it in sorted(scene.agents) if it not in later.agents]
+        lines += [count, *(f"gone {it}" for it in gone), *(it for it in after if it not in before)]
+    return lines + totals
+
+
 def answer(scene, version, question):
     """The lines that a question is answered; a wait ends with the version."""
     kind, *words = question

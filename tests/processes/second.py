@@ -4,7 +4,7 @@ import random
 from .chances import AGENTS, STARTS, Desk, some_commit, some_place
 from .hosting import Hosted
 from .plain import Scene, line_of
-from .plain_questions import answer
+from .plain_questions import answer, changes
 from .running import is_answered, is_run, put, remove, run, want
 
 TASKS = "".join(f"0 f 3 2 {x} {y} {a} {b} 0\n" for (x, y), (a, b) in STARTS)
@@ -39,6 +39,13 @@ class Session:
             self.desk.enter(self.planner, base, watch, edits)
         return f"refused {refusal}" if refusal else f"version {len(self.desk.entries)}"
 
+    def try_out(self):
+        """What the commit of what is gathered would be answered, and would change; the desk stays as it is."""
+        scene, version = self.desk.scene, len(self.desk.entries)
+        refusal = self.desk.refusal(*self.gathered)
+        later, self.desk.scene = self.desk.scene, scene
+        return [f"refused {refusal}"] if refusal else [f"would {version + 1}", *changes(scene, version, later)]
+
     def gather(self, line):
         """Keeps an edit or a watch, or commits what is gathered."""
         base, watch, edits = self.gathered
@@ -63,6 +70,8 @@ class Session:
         if line[0] == "cancel":
             self.gathered = None
             return ["cancelled"]
+        if line[0] == "try":
+            return self.try_out()
         return [self.gather(line) if self.gathered else self.commit(version, [], [line])]
 
 
@@ -72,7 +81,8 @@ def some_lines(chance, session, longest):
     if chance.random() < 0.6:
         return [some_question(chance, len(session.desk.entries), longest)]
     if session.gathered:
-        return [*(("watch", *it) for it in watch), *edits, ("commit",), ("begin",), *[("cancel",)] * chance.randint(0, 1)]
+        tries = [("try",)] * chance.randint(0, 1)
+        return [*tries, *(("watch", *it) for it in watch), *edits, *tries, ("commit",), ("begin",), *[("cancel",)] * chance.randint(0, 1)]
     return [("begin",)] if chance.random() < 0.3 else edits[:1]
 
 
@@ -93,25 +103,25 @@ def random_sessions():
         met |= {it.split(" ")[0] for it in answers} | {" ".join(it.split()[:2]) for it in answers}
         is_answered(["serve", "--map", "scene", *GROUND, "--mode", mode, "--lines", "2"], given.encode(), "".join(f"{it}\n" for it in answers))
     wanted = {"vertex", "parked", "follow", "swap", "visit", "plan", "at 0", "at 1", "at 2", "cell open", "cell closed",
-              "refused unknown-agent", "refused out-of-map", "refused faulty"}
+              "would", "gone agent", "gone vertex", "gone visit", "refused unknown-agent", "refused out-of-map", "refused faulty", "refused no-edits"}
     want("what was not met", wanted - met, set())
 
 
 def words_of_version_1():
     """In version 1, with `--lines 1` or without, the words of version 2 are unknown, and a report of some agents has too many words."""
-    lines = b"plan 0\ncell 0,0\nat 0 0,0\nwait 0 0\nreport 0\nwait\nversion\n"
-    bad = "bad 1 word\nbad 2 word\nbad 3 word\nbad 4 word\nbad 5 shape\nbad 6 word\nversion 0\n"
+    lines = b"plan 0\ncell 0,0\nat 0 0,0\nwait 0 0\nreport 0\nwait\ntry\nversion\n"
+    bad = "bad 1 word\nbad 2 word\nbad 3 word\nbad 4 word\nbad 5 shape\nbad 6 word\nbad 7 word\nversion 0\n"
     for words in ([], ["--lines", "1"]):
         is_answered(["serve", "--map", "m", *words], lines, bad)
         put("script", lines)
-        want("the counts", run(["drill", "-v", "--map", "m", *words, "script"])[2], "  script: 1 accepted, 0 refused, 6 bad\n")
+        want("the counts", run(["drill", "-v", "--map", "m", *words, "script"])[2], "  script: 1 accepted, 0 refused, 7 bad\n")
     put("script.in", b"")
     is_answered(["host", "--map", "m", "--lines", "1", "script"], lines, f"{bad}audit same\n")
     remove("script", "script.in", "script.out")
 
 
 SHAPES = b"plan\nplan 0 1\nplan x\nplan 65536\ncell\ncell 0\ncell 0,0 1,1\ncell 2048,0\nat 0\nat 0,0\nat x 0,0\nat 4294967296 0,0\nat 0 0,0 1\n" \
-         b"wait\nwait 0\nwait 0 0 0\nwait 0 86401\nwait 0 x\nwait x 0\nwait 18446744073709551616 0\nreport x\nreport 0 x\nreport 65536\n"
+         b"wait\nwait 0\nwait 0 0 0\nwait 0 86401\nwait 0 x\nwait x 0\nwait 18446744073709551616 0\nreport x\nreport 0 x\nreport 65536\ntry 0\n"
 GOOD = b"# plan\n\nplan 00\ncell 2047,2047\nat 4294967295 0,0\nwait 18446744073709551615 86400\nwait 00 00\nreport 0 0\n"
 
 

@@ -6,3 +6,5 @@ pub mod Reading
 pub mod MapLines
 pub mod ItemLines
 pub mod Staying
+pub mod WalkAlong
+pub mod InOrder

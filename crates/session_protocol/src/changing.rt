@@ -1,7 +1,7 @@
 //! What changed from one report to a later one.
 ghost use Rattle.std.specs.Prelude.{◌≡◌, IfOk};
-ghost use Rattle.desk_report.specs.Changes.{AreChanges, AreOnlyIn, HasCome, agent_key, agents_of};
-ghost use Rattle.session_protocol.specs.Trials.{AreAscending};
+ghost use Rattle.desk_report.specs.Changes.{AreChanges, AreOnlyIn, HasCome, agent_key, agents_of, line_key};
+ghost use Rattle.session_protocol.specs.Trials.{AreAscending, IsAscending};
 
 use crate::differing::only_in;
 use desk_report::{AgentLine, Changes, Report};
