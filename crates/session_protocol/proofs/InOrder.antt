@@ -1,5 +1,7 @@
 -- The lists of a report ascend, and so do the agents of its lines.
-use Rattle.std.proofs.Common.{◌≡◌, ℕ, zero, suc, ◌<◌, List, [], ◌∷◌, length, get_or, inl, inr, arith}
+use Rattle.std.proofs.Common.{◌≡◌, ℕ, zero, suc, ◌<◌, List, [], ◌∷◌, length, get_or, Result, Ok, Err, inl, inr, arith}
+use Rattle.std.specs.Prelude.{IfOk}
+use Rattle.grid_cells.specs.declared.memory.OutOfMemory.{OutOfMemory}
 use Rattle.std.proofs.lemmas.Bool.Decides.{nat_tests}
 use Rattle.std.proofs.lemmas.List.Elements.{All-map}
 use Rattle.std.proofs.lemmas.List.Kept.{AllPairs-cons}
@@ -53,3 +55,7 @@ in_order desk reading by_agent shown = record {
     visits = shown.report.visits.ascending;
   };
 }
+
+pub all_in_order : (desk : DeskState) (result : Result Reading OutOfMemory) → IsByAgent desk.scene.rows → IfOk result (Shows desk) → IfOk result (ShowsInOrder desk)
+all_in_order desk (Ok reading) by_agent shown = in_order desk reading by_agent shown
+all_in_order desk (Err refused) by_agent shown = tt
