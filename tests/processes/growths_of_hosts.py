@@ -76,6 +76,9 @@ def want_of_memory_at_a_shared_desk():
 # Agents 0 and 1 rest at 0,0, which is one conflict; each is 2 steps from its goal, and 1 step once a commit has changed it.
 SHOWN = (b"version 2\nagents 2\nagent 0 settle 0 goal no bound 1 gap none\nagent 1 settle 0 goal no bound 1 gap none\nconflicts 1\n"
          b"parked 0 0 1 0,0\nblocked 0\nsum none\nmakespan none\nbounds 2\ngap none\nend\n")
+# What changes where agent 0 gets the goal 1,0.
+WOULD = (b"would 1\nsince 0\nagents 2\nagent 0 settle 0 goal no bound 1 gap none\nconflicts 1\nblocked 0\nsum none\nmakespan none\n"
+         b"bounds 3\ngap none\nend\n")
 # A name, and lines with their answers: of the first planner, of the second one, and whether a line takes memory.
 ROWS = [
     ("stale_second_planner", [
@@ -92,6 +95,11 @@ ROWS = [
         (1, b"goal 0 1,0", b"kept\n", True), (0, b"close 1,0", b"version 1\n", True), (0, b"distance 0 0,0", b"distance none\n", False),
         (0, b"distance 9 0,0", b"refused unknown-agent\n", False), (0, b"distance 0 0,1", b"refused out-of-map\n", False),
         (1, b"commit", b"refused stale 1 map 1\n", False),
+    ]),
+    ("trial_before_and_after_a_commit", [
+        (1, b"begin", b"base 0\n", False), (1, b"goal 0 1,0", b"kept\n", True), (1, b"try", WOULD, True), (1, b"version", b"version 0\n", False),
+        (0, b"path 0 0,0 1,0", b"version 1\n", True), (1, b"try", b"refused stale 1 agent 0 1\n", False),
+        (1, b"commit", b"refused stale 1 agent 0 1\n", False),
     ]),
 ]
 

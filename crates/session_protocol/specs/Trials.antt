@@ -1,5 +1,5 @@
 -- What the trial of a commit tells: what the report would have that it hasn't, and the other way round (this project's choice).
-use Rattle.std.specs.Prelude.{◌≡◌, ◌<◌, ◌≤◌, ℕ, List, AllPairs, length, Result}
+use Rattle.std.specs.Prelude.{◌<◌, ◌≤◌, ℕ, List, AllPairs, length, Result}
 use Rattle.std.specs.List.{slice_index_or}
 use Rattle.plan_table.specs.Order.{ComesBefore}
 use Rattle.mapf_rules.specs.ConflictList.{listing_key}

@@ -55,11 +55,7 @@ fn came(alloc: Global, old: &Report, new: &Report) -> Result<Report, OutOfMemory
 /// # Errors
 ///
 /// Want of memory.
-pub(crate) fn changes(
-    alloc: Global,
-    old: &Report,
-    new: &Report,
-) -> Result<Changes, OutOfMemory>
+pub(crate) fn changes(alloc: Global, old: &Report, new: &Report) -> Result<Changes, OutOfMemory>
     requires old { AreAscending old.now }
     requires new { AreAscending new.now }
     ensures { IfOk result (AreChanges old.now new.now) }

@@ -2,8 +2,9 @@
 //!
 //! `serving` is the loop over bytes, `hearing` hears the text of a map before it. `answers` finds the
 //! reply to a request by way of a `Counter`, and where the session then is (`drafts`); `gathering`
-//! keeps edits and watches, and makes commits of them. `replies` are data, `writers` and `refusals`
-//! their texts.
+//! keeps edits and watches, and makes commits of them. `trials` asks what a commit would change: what
+//! changed between two reports (`changing`) is what one ascending list has and the other hasn't
+//! (`differing`, `ordered`). `replies` are data, `writers` and `refusals` their texts.
 #![tactic(auto)]
 
 mod answers;

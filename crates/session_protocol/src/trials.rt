@@ -11,9 +11,9 @@ use std::alloc::Global;
 
 /// The report of the scene, at its version, whose lists ascend.
 #[derive(Clone, Copy)]
-pub(crate) struct Listing;
+pub(crate) struct ShowingInOrder;
 
-impl Question for Listing {
+impl Question for ShowingInOrder {
     type Answer = Result<Reading, OutOfMemory>;
 
     ghost use Rattle.std.specs.Prelude.{IfOk};
@@ -35,7 +35,7 @@ impl Question for Listing {
 #[derive(Drop)]
 pub(crate) struct Trying {
     pub(crate) alloc: Global,
-    pub(crate) trial: Trial<Listing>,
+    pub(crate) trial: Trial<ShowingInOrder>,
 }
 
 impl Trying {
@@ -47,7 +47,7 @@ impl Trying {
             alloc,
             trial: Trial {
                 commit,
-                question: Listing,
+                question: ShowingInOrder,
             },
         }
     }
@@ -57,7 +57,10 @@ impl Trying {
         ensures { result ≡ self.trial.commit }
     {
         let Trying { alloc: _, trial } = self;
-        let Trial { commit, question: _ } = trial;
+        let Trial {
+            commit,
+            question: _,
+        } = trial;
         commit
     }
 }
@@ -75,7 +78,7 @@ impl Question for Trying {
             Ok((_, Err(_))) => return Err(Refusal::OutOfMemory),
             Err(refusal) => return Err(refusal),
         };
-        let Ok(is) = desk.ask(&Listing) else {
+        let Ok(is) = desk.ask(&ShowingInOrder) else {
             return Err(Refusal::OutOfMemory);
         };
         match changes(self.alloc, &is.report, &would.report) {

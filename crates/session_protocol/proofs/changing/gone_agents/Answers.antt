@@ -1,4 +1,4 @@
-use Rattle.std.proofs.Common.{◌≡◌, subst, sym, ◌∙◌}
+use Rattle.std.proofs.Common.{subst, sym, ◌∙◌}
 use Rattle.desk_report.specs.Changes.{agent_key}
 use Rattle.session_protocol.specs.Trials.{IsAscending}
 use Rattle.session_protocol.proofs.InOrder.{agents_ascend}

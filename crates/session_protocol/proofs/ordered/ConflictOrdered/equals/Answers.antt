@@ -10,8 +10,7 @@ returns c =
     let a = c.args.self.now in
     let b = c.args.other.now in
     let is : c.eq.result ≡ equality.ghosts.eq a b = c.eq.ensures in
-    let itself : equality.ghosts.eq a a ≡ true = laws.laws-law.refl a in
-    (
+    let itself : equality.ghosts.eq a a ≡ true = laws.laws-law.refl a in (
       λ yes. conflict_same a b (sym is ∙ search (rules, yes)),
       λ same. subst IsTrue (sym (is ∙ sym (ap (equality.ghosts.eq a) same) ∙ itself)) refl,
     )

@@ -1,7 +1,7 @@
 use Rattle.std.proofs.Common.{rules, ◌≡◌, subst}
 use Rattle.plan_table.specs.Plans.{IsByAgent}
 use Rattle.session_protocol.proofs.InOrder.{all_in_order}
-use Rattle.session_protocol.proofs.trials.ListingQuestion.put.Goals as goal
+use Rattle.session_protocol.proofs.trials.ShowingInOrderQuestion.put.Goals as goal
 
 pub returns-clause-answer : goal.returns-clause-answer
 returns-clause-answer c =
