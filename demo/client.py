@@ -16,13 +16,13 @@ class Session:
         self.lines, self.answers = lines, answers
 
     def ask(self, line):
-        """The answer to a line; of `report`, and `report AGENT..`, all its lines."""
+        """The answer to a line; of `report`, `report AGENT..` and `try`, all its lines."""
         self.lines.write(line + "\n")
         self.lines.flush()
         answer = [self.hear()]
-        if line.split()[0] != "report":
+        if line.split()[0] not in ("report", "try"):
             return answer[0]
-        while answer[-1] != "end" and answer[0].startswith("version "):
+        while answer[-1] != "end" and answer[0].startswith(("version ", "would ")):
             answer.append(self.hear())
         return answer
 

@@ -150,20 +150,23 @@ def drills_with_questions():
 
 def hosted_questions():
     """The operator and three planners commit and ask by turns, in version 2, which is the usual one of host: each answer is the plain one."""
-    chance, desk = random.Random(8), Desk("stay")
+    chance, desk, tried = random.Random(8), Desk("stay"), set()
     with Hosted(["p1", "p2", "p3"], *GROUND, ground="scene") as hosted:
         sessions = [(seat, Session(desk, number)) for number, seat in enumerate(hosted.seats(), 1)]
         for _ in range(400):
             seat, session = chance.choice(sessions)
             for line in some_lines(chance, session, 0):
                 seat.send(line_of(line).encode())
-                for said in session.hear(line):
+                answers = session.hear(line)
+                tried |= {answers[0].rstrip("0123456789 ")[:13]} if line == ("try",) else set()
+                for said in answers:
                     want(f"an answer to {line}", seat.hear(), said.encode())
             question = some_question(chance, len(desk.entries), 0)
             hosted.operator.ask(line_of(question).encode(), "".join(f"{it}\n" for it in answer(desk.scene, len(desk.entries), question)).encode())
         for seat, _ in sessions:
             seat.close()
         hosted.ends(0, b"audit same\n", b"")
+    want("whether trials were let pass and refused as stale", tried >= {"would", "refused stale"}, True)
 
 
 def tests():
