@@ -1,9 +1,17 @@
 -- How a row is added to paths, cell by cell.
-use Rattle.std.proofs.Common.{◌≡◌, ◌⊎◌, inl, inr, ℕ, ◌+◌, ◌<◌, ◌≤◌, List, [], ◌∷◌, ◌++◌, length, length-take, length-append, length-set, take, get_or, refl, ap, sym, ◌∙◌, add-one, arith}
+use Rattle.std.proofs.Common.{◌≡◌, ◌⊎◌, inl, inr, ℕ, ◌+◌, ◌-◌, ◌<◌, ◌≤◌, List, [], ◌∷◌, ◌++◌, length, length-take, length-append, length-set, take, get_or, refl, ap, sym, ◌∙◌, add-one, arith}
 use Rattle.std.proofs.Math.Seq.{take-suc}
 use Rattle.std.proofs.Math.ListN.{set}
 use Rattle.grid_cells.specs.Cell.{Point}
 use Rattle.path_files.specs.Rows.{with_row}
+
+-- a row makes no more paths than there may be, where it has no more cells
+pub with_row_few : (most : ℕ) (paths : List (List Point)) (row : List Point) → length paths ≤ most → length row ≤ most → length (with_row paths row) ≤ most
+with_row_few most paths [] few cells = few
+with_row_few most [] (cell ∷ row) few cells =
+    let rest : length (with_row [] row) ≤ most - 1 = with_row_few (most - 1) [] row (omega arith) (omega arith) in omega arith
+with_row_few most (path ∷ paths) (cell ∷ row) few cells =
+    let rest : length (with_row paths row) ≤ most - 1 = with_row_few (most - 1) paths row (omega arith) (omega arith) in omega arith
 
 -- a cell of an agent that has no path yet
 pub with_row-begins : (paths : List (List Point)) (front : List Point) (cell : Point) → length front ≡ length (with_row paths front) → with_row paths (front ++ cell ∷ []) ≡ with_row paths front ++ (cell ∷ []) ∷ []

@@ -1,3 +1,5 @@
+ghost use Rattle.std.specs.Prelude.{◌≤◌, length, IfOk};
+ghost use Rattle.scene_edits.specs.declared.scenes.TheConstants.{MOST_AGENTS};
 ghost use Rattle.path_files.specs.Texts.{IsPathsAnswer};
 
 use crate::faults::PathsFault;
@@ -18,12 +20,13 @@ pub struct SolverPaths {
 }
 
 /// Reads the text of a file of paths, in that form, or in the one that its first line that isn't
-/// blank tells.
+/// blank tells: at most `MOST_AGENTS` paths.
 ///
 /// # Errors
 /// The first fault of the text, line by line, and in a line from left to right; or want of memory.
 pub fn read_paths(alloc: Global, text: &[u8], form: Option<Form>) -> Result<SolverPaths, PathsFault>
-    ensures { IsPathsAnswer form text.now result }
+    ensures is { IsPathsAnswer form text.now result }
+    ensures few { IfOk result (λ spelled. length spelled.paths ≤ MOST_AGENTS) }
 {
     let form = match form {
         Some(form) => form,

@@ -1,4 +1,5 @@
-ghost use Rattle.std.specs.Prelude.{◌≡◌, [], ◌∷◌, ◌++◌, OnOk};
+ghost use Rattle.std.specs.Prelude.{◌≡◌, ◌≤◌, [], ◌∷◌, ◌++◌, length, IfOk, MatchOption, OnOk};
+ghost use Rattle.scene_edits.specs.declared.scenes.TheConstants.{MOST_AGENTS};
 ghost use Rattle.path_files.specs.Rows.{row_fault, row_of, with_row};
 ghost use Rattle.path_files.specs.Answers.{IsRead};
 
@@ -11,7 +12,8 @@ use std::mem;
 
 // The fault of a list of so many cells, one for each agent, where the text's first list has `count`.
 fn row_fault(line: usize, count: Option<usize>, cells: usize) -> Option<PathsFault>
-    ensures { result ≡ row_fault line count cells }
+    ensures is { result ≡ row_fault line count cells }
+    ensures few { MatchOption result (cells ≤ MOST_AGENTS) (λ _. Unit {0}) }
 {
     if cells == 0 {
         return Some(PathsFault::NoCells { line });
@@ -36,7 +38,8 @@ pub(crate) fn row_of(
     count: Option<usize>,
     text: &[u8],
 ) -> Result<List<Cell>, PathsFault>
-    ensures { IsRead (row_of line count text.now) result }
+    ensures is { IsRead (row_of line count text.now) result }
+    ensures few { IfOk result (λ row. length row ≤ MOST_AGENTS) }
 {
     let row = cells_of(alloc, Notation::Commas, line, text)?;
     match row_fault(line, count, row.items().len()) {

@@ -1,5 +1,6 @@
-ghost use Rattle.std.specs.Prelude.{◌≡◌, ◌+◌, ◌^◌, ◌<◌, ◌≤◌, length, OnOk};
+ghost use Rattle.std.specs.Prelude.{◌≡◌, ◌+◌, ◌^◌, ◌<◌, ◌≤◌, length, IfOk, OnOk};
 ghost use Rattle.bench_reader.specs.Lines.{lines_of};
+ghost use Rattle.scene_edits.specs.declared.scenes.TheConstants.{MOST_AGENTS};
 ghost use Rattle.path_files.specs.Lines.{written_from};
 ghost use Rattle.path_files.specs.Times.{row_at, times_of, by_time};
 ghost use Rattle.path_files.specs.Heads.{no_head};
@@ -26,6 +27,7 @@ fn row_at(
 ) -> Result<List<Cell>, PathsFault>
     ensures is { IsRead (row_at time count line bytes.now) result }
     ensures bound { OnOk result (time ≤ MOST_LAST_INDEX) }
+    ensures few { IfOk result (λ row. length row ≤ MOST_AGENTS) }
 {
     let Some(cells) = labelled(time, bytes) else {
         return Err(PathsFault::BadTime { line });
@@ -37,6 +39,7 @@ fn row_at(
 }
 
 // The paths of a text by time behind its line `solution=`, where its lines count from `first`.
+#[tactic(auto, using(crate::proofs::RowLemmas::with_row_few))]
 fn read_times(
     alloc: Global,
     head: Head,
@@ -44,7 +47,8 @@ fn read_times(
     first: usize,
 ) -> Result<SolverPaths, PathsFault>
     requires { first + length text.now < 2 ^ 64 }
-    ensures { IsRead (times_of head (written_from first (lines_of text.now))) result }
+    ensures is { IsRead (times_of head (written_from first (lines_of text.now))) result }
+    ensures few { IfOk result (λ spelled. length spelled.paths ≤ MOST_AGENTS) }
 {
     let mut count = agents_told(&head);
     let mut paths = Vec::new(alloc);
@@ -75,7 +79,8 @@ fn read_times(
 /// # Errors
 /// The first fault, line by line; or want of memory.
 pub(crate) fn read_by_time(alloc: Global, text: &[u8]) -> Result<SolverPaths, PathsFault>
-    ensures { IsRead (by_time no_head (written_from 1 (lines_of text.now))) result }
+    ensures is { IsRead (by_time no_head (written_from 1 (lines_of text.now))) result }
+    ensures few { IfOk result (λ spelled. length spelled.paths ≤ MOST_AGENTS) }
 {
     let mut head = Head {
         starts: None,

@@ -1,4 +1,4 @@
-ghost use Rattle.std.specs.Prelude.{◌<◌, IfOk, IfSome};
+ghost use Rattle.std.specs.Prelude.{◌<◌, ◌≤◌, length, IfOk, IfSome};
 ghost use Rattle.bench_reader.specs.Lines.{lines_of};
 ghost use Rattle.scene_edits.specs.declared.scenes.TheConstants.{MOST_AGENTS};
 ghost use Rattle.path_files.specs.Lines.{written, written_from};
@@ -36,7 +36,8 @@ fn path_told(
 /// # Errors
 /// The first fault, line by line; or want of memory.
 pub(crate) fn read_told(alloc: Global, form: Form, text: &[u8]) -> Result<SolverPaths, PathsFault>
-    ensures { IsRead (by_told form (written_from 1 (lines_of text.now))) result }
+    ensures is { IsRead (by_told form (written_from 1 (lines_of text.now))) result }
+    ensures few { IfOk result (λ spelled. length spelled.paths ≤ MOST_AGENTS) }
 {
     let mut paths = Vec::new(alloc);
     let mut agent = 0;

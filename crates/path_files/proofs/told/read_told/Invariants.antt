@@ -9,6 +9,7 @@ abbrev pub invariant-loop-line : goal.invariant-loop-line
 invariant-loop-line l = record {
   so_far : told_from l.form 0 [] (written_from 1 (lines_of l.text)) ≡ told_from l.form l.agent l.paths.items (written_from l.number (lines_of l.rest));
   room : l.number + length l.rest ≤ 1 + length l.text;
+  counted : length l.paths.items ≡ l.agent;
   few : l.agent ≤ MOST_AGENTS;
 }
 
