@@ -49,7 +49,7 @@ told-so size (edits.Close cell) why fault P told agents paths = absurd told
 pub plan_fault : (map : List ℕ) (scen : Option (List ℕ)) (agents : Option ℕ) (mode : Mode) (paths : List ℕ) (form : Option Form) (spelled : SolverPaths) (opened : SceneState) (fault : CheckFault) → paths_of form paths ≡ Ok spelled → Opens map scen (tasks_taken agents spelled) mode opened → IsRefused opened (edits_of (is_none scen) spelled) fault → IsPlanFault map scen agents mode paths form fault
 plan_fault map scen agents mode paths form spelled opened fault reads opens (inl first) =
     told-so opened.grid.size first.first.edit first.why fault (λ f. HasRefusal map scen agents mode paths form f → IsPlanFault map scen agents mode paths form f) first.told
-    (λ agent why refusal. inr refusal)
+    (λ agent why refusal. refusal)
     (λ agent time why refusal. refusal)
     (record { spelled = spelled; reads = reads; opened = opened; opens = opens; first = first })
 plan_fault map scen agents mode paths form spelled opened fault reads opens (inr none) = subst (IsPlanFault map scen agents mode paths form) (sym none) tt

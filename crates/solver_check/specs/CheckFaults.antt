@@ -1,15 +1,13 @@
 -- Why there is no verdict: the first fault of the text of paths, the map, the scenario and the tasks, the agents and the paths
 -- (this project's choice). Want of memory is one fault, wherever it came.
-use Rattle.std.specs.Prelude.{◌≡◌, ◌⊎◌, ◌<◌, ℕ, Bool, true, false, Option, List, length, unwrap_or, is_none, Result, Ok, Err}
+use Rattle.std.specs.Prelude.{◌≡◌, ◌⊎◌, ℕ, Bool, true, false, Option, List, length, unwrap_or, is_none, Result, Ok, Err}
 use Rattle.grid_cells.specs.Size.{Extent}
 use Rattle.plan_table.specs.declared.tracks.Mode.{Mode}
 use Rattle.scene_edits.specs.Scene.{SceneState}
 use Rattle.scene_edits.specs.InOrder.{IsFirstFault}
-use Rattle.scene_edits.specs.declared.scenes.TheConstants.{MOST_AGENTS}
 use Rattle.scene_edits.specs.declared.edits.Edit.{Edit}
 use Rattle.scene_edits.specs.declared.edits.Edit.TheVariants as edits
 use Rattle.scene_edits.specs.declared.edits.EditFault.{EditFault}
-use Rattle.scene_edits.specs.declared.edits.EditFault.TheVariants.{TooManyAgents}
 use Rattle.path_files.specs.Texts.{paths_of}
 use Rattle.path_files.specs.declared.forms.Form.{Form}
 use Rattle.path_files.specs.declared.paths.SolverPaths.{SolverPaths}
@@ -56,13 +54,6 @@ pub record HasOpenFault (map : List ℕ) (scen : Option (List ℕ)) (agents : Op
   pub reads : paths_of form paths ≡ Ok spelled
   pub first : IsOpenFault map scen (tasks_taken agents spelled) why
 
--- the text spells more paths than there may be agents
-pub record HasTooMany (paths : List ℕ) (form : Option Form) (fault : CheckFault) : Type 0 where
-  pub spelled : SolverPaths
-  pub reads : paths_of form paths ≡ Ok spelled
-  pub many : MOST_AGENTS < length spelled.paths
-  pub told : fault ≡ Agent MOST_AGENTS TooManyAgents
-
 -- the scene opens, and refuses an agent or a path
 pub record HasRefusal (map : List ℕ) (scen : Option (List ℕ)) (agents : Option ℕ) (mode : Mode) (paths : List ℕ) (form : Option Form) (fault : CheckFault) : Type 0 where
   pub spelled : SolverPaths
@@ -75,7 +66,7 @@ pub record HasRefusal (map : List ℕ) (scen : Option (List ℕ)) (agents : Opti
 abbrev pub IsPlanFault : List ℕ → Option (List ℕ) → Option ℕ → Mode → List ℕ → Option Form → CheckFault → Type 0
 IsPlanFault map scen agents mode paths form (Paths why) = paths_of form paths ≡ Err why
 IsPlanFault map scen agents mode paths form (Run why) = HasOpenFault map scen agents paths form why
-IsPlanFault map scen agents mode paths form (Agent agent why) = HasTooMany paths form (Agent agent why) ⊎ HasRefusal map scen agents mode paths form (Agent agent why)
+IsPlanFault map scen agents mode paths form (Agent agent why) = HasRefusal map scen agents mode paths form (Agent agent why)
 IsPlanFault map scen agents mode paths form (Path agent time why) = HasRefusal map scen agents mode paths form (Path agent time why)
 IsPlanFault map scen agents mode paths form WriteFailed = ⊥
 IsPlanFault map scen agents mode paths form OutOfMemory = Unit {0}

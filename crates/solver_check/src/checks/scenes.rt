@@ -11,9 +11,9 @@ use crate::checks::edits::edits_of;
 use crate::checks::faults::CheckFault;
 use crate::checks::times::time_of;
 use crate::scenes::{Problem, scene_of};
-use grid_cells::{Agent, OutOfMemory, Size};
+use grid_cells::{OutOfMemory, Size};
 use path_files::{Form, PathsFault, SolverPaths, read_paths};
-use scene_edits::{Edit, EditFault, EditsFault, MOST_AGENTS, Scene};
+use scene_edits::{Edit, EditFault, EditsFault, Scene};
 use std::alloc::Global;
 
 // The fault of an agent, or of a path.
@@ -57,19 +57,6 @@ fn plan(
     }
 }
 
-// The fault of a text that spells too many paths.
-fn too_many() -> CheckFault
-    ensures { result ≡ CheckFault.Agent MOST_AGENTS EditFault.TooManyAgents }
-{
-    let Some(agent) = Agent::new(MOST_AGENTS) else {
-        unreachable!()
-    };
-    CheckFault::Agent {
-        agent,
-        why: EditFault::TooManyAgents,
-    }
-}
-
 /// The scene of a problem, with the paths of a text and, where there is no scenario, their agents.
 ///
 /// # Errors
@@ -90,12 +77,7 @@ pub fn planned_scene(
         Err(PathsFault::OutOfMemory) => return Err(CheckFault::OutOfMemory),
         Err(fault) => return Err(CheckFault::Paths(fault)),
     };
-    let many = spelled.paths.items().len();
-    if many > MOST_AGENTS as usize {
-        drop(spelled);
-        return Err(too_many());
-    }
-    let tasks = problem.agents.unwrap_or(many as u32);
+    let tasks = problem.agents.unwrap_or(spelled.paths.items().len() as u32);
     let counted = Problem {
         agents: Some(tasks),
         ..problem
