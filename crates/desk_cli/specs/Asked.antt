@@ -1,10 +1,13 @@
 -- What the words ask for, by what the parser found in them (this project's choice).
-use Rattle.std.specs.Prelude.{◌≡◌, ℕ, List, [], option_map, unwrap_or, codes}
+use Rattle.std.specs.Prelude.{◌≡◌, ◌≢◌, ◌⊎◌, ℕ, List, [], Option, Some, None, false, option_map, unwrap_or, codes}
 use Rattle.std.specs.Option.{option_copied}
 use Rattle.session_lines.specs.Kinds.{named_kinds}
 use Rattle.session_lines.specs.declared.versions.LinesVersion.{LinesVersion}
 use Rattle.session_lines.specs.declared.versions.LinesVersion.TheVariants.{One, Two}
-use Rattle.clap.specs.Matches.{first_value, matched_of, raw_values}
+use Rattle.clap.specs.Matches.{first_value, found_of, has_subcommand, matched_of, one_text, raw_values, subcommand_name_of}
+use Rattle.clap.specs.Simple.{subcommand_rows_of}
+use Rattle.clap.specs.Walk.{rows_of}
+use Rattle.clap.specs.declared.parser.matches.ArgMatches.{ArgMatches}
 use Rattle.clap.specs.declared.parser.matches.Found.{Found}
 use Rattle.desk_cli.specs.Values.{number_given, texts_given, texts_in, mode_named, lines_named, form_named, kinds_named}
 use Rattle.desk_cli.specs.declared.words.ServeWords.{ServeWords}
@@ -15,6 +18,9 @@ use Rattle.desk_cli.specs.declared.words.CheckWords.{CheckWords}
 use Rattle.desk_cli.specs.declared.words.DrawWords.{DrawWords}
 use Rattle.desk_cli.specs.declared.words.PageWords.{PageWords}
 use Rattle.desk_cli.specs.declared.words.Words.{Words}
+use Rattle.desk_cli.specs.declared.words.Asked.{Asked}
+use Rattle.desk_cli.specs.declared.words.Asked.TheVariants.{For, Refused, NoMemory}
+use Rattle.plan_table.specs.declared.tracks.Mode.TheVariants.{Stay}
 use Rattle.desk_cli.specs.declared.words.Words.TheVariants.{Version, Serve, Audit, Drill, Host, Check, Draw, Page}
 
 -- a session's desk, and its version of lines, which is usually that one
@@ -91,3 +97,34 @@ AsksFor name found (Host words) = (name ≡ codes "host") × AsksToHost found wo
 AsksFor name found (Check words) = (name ≡ codes "check") × AsksToCheck found words
 AsksFor name found (Draw words) = (name ≡ codes "draw") × AsksToDraw found words
 AsksFor name found (Page words) = (name ≡ codes "page") × AsksToPage found words
+
+-- the matches of the word that the parse met ask for that
+pub record AsksInWord (matches : ArgMatches) (words : Words) : Type 0 where
+  pub name : List ℕ
+  pub inner : Found
+  pub named : subcommand_name_of matches ≡ Some name
+  pub rows : option_map (λ p. p.1) (subcommand_rows_of matches) ≡ Some (rows_of inner)
+  pub asks : AsksFor name inner words
+
+-- a session without files
+abbrev pub usual_words : ServeWords
+usual_words = record { map = None; scen = None; agents = 0; limit = 100000; mode = Stay; journal = None; save = None; lines = One }
+
+-- what all words ask for: the version by its flag, before all else; that of the word that was met; or a session, where none was
+abbrev pub Asks : ArgMatches → Words → Type 0
+Asks matches words =
+    ((words ≡ Version) × (one_text (found_of matches) (codes "version") ≢ None) × (one_text (found_of matches) (codes "version") ≢ Some (codes "false")))
+    ⊎ ((one_text (found_of matches) (codes "version") ≢ Some (codes "true"))
+    × (AsksInWord matches words ⊎ ((has_subcommand matches ≡ false) × (words ≡ Serve usual_words))))
+
+-- where something is asked for, the matches ask for that
+abbrev pub AsksSo : ArgMatches → Asked → Type 0
+AsksSo matches (For words verbose) = Asks matches words
+AsksSo matches (Refused error) = Unit {0}
+AsksSo matches NoMemory = Unit {0}
+
+-- nothing is asked for
+abbrev pub IsNothing : Asked → Type 0
+IsNothing (For words verbose) = ⊥
+IsNothing (Refused error) = Unit {0}
+IsNothing NoMemory = Unit {0}

@@ -1,5 +1,5 @@
 //! The options and files of a word, as data, and as its parser takes them.
-ghost use Rattle.std.specs.Prelude.{◌≡◌};
+ghost use Rattle.std.specs.Prelude.{◌≡◌, IfOk};
 
 use clap::builder::ValueParser;
 use clap::{Arg, ArgAction, value_parser};
@@ -63,7 +63,9 @@ fn valued<'a>(
     name: &'static str,
     parser: ValueParser<'a>,
     most: usize,
-) -> Result<Arg<'a>, AllocError> {
+) -> Result<Arg<'a>, AllocError>
+    ensures { IfOk result (λ arg. arg.id.now ≡ argument.name.now) }
+{
     Arg::new(alloc, argument.name)
         .long(argument.name)
         .help(argument.help)
@@ -87,7 +89,9 @@ fn listed<'a>(alloc: Global, argument: Argument, name: &'static str) -> Arg<'a>
 }
 
 /// An argument as the parser takes it.
-pub(crate) fn parsed<'a>(alloc: Global, argument: Argument) -> Result<Arg<'a>, AllocError> {
+pub(crate) fn parsed<'a>(alloc: Global, argument: Argument) -> Result<Arg<'a>, AllocError>
+    ensures { IfOk result (λ arg. arg.id.now ≡ argument.name.now) }
+{
     match argument.value {
         Value::Nothing => Ok(flag(alloc, argument)),
         Value::Text(name) => valued(alloc, argument, name, ValueParser::string(), 1),

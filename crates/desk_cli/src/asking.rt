@@ -1,4 +1,8 @@
 //! What the program's words ask for.
+ghost use Rattle.std.specs.Prelude.{◌≡◌, IfOk, None, Some, codes, false, true};
+ghost use Rattle.clap.specs.Matches.{found_of, has_subcommand, one_text};
+ghost use Rattle.desk_cli.specs.Asked.{Asks, AsksSo};
+
 use crate::commands::command;
 use crate::mistakes::{mistake_in, refused};
 use crate::reading::{named_words, usual_words};
@@ -7,7 +11,9 @@ use clap::{ArgMatches, Error};
 use std::alloc::{AllocError, Global};
 
 // The version is told whatever else is asked for, as help is.
-fn words_of(alloc: Global, matches: &ArgMatches<'static>) -> Result<Words, AllocError> {
+fn words_of(alloc: Global, matches: &ArgMatches<'static>) -> Result<Words, AllocError>
+    ensures { IfOk result (Asks matches.now) }
+{
     if matches.get_flag("version") {
         return Ok(Words::Version);
     }
@@ -18,7 +24,10 @@ fn words_of(alloc: Global, matches: &ArgMatches<'static>) -> Result<Words, Alloc
 }
 
 // Whether more is to be told: the flag stands before the word or behind it.
-fn is_verbose(matches: &ArgMatches<'static>) -> bool {
+fn is_verbose(matches: &ArgMatches<'static>) -> bool
+    ensures before { one_text (found_of matches.now) (codes "verbose") ≡ Some (codes "true") → result ≡ true }
+    ensures none { one_text (found_of matches.now) (codes "verbose") ≡ None → has_subcommand matches.now ≡ false → result ≡ false }
+{
     matches.get_flag("verbose")
         || match matches.subcommand() {
             Some((_, inner)) => inner.get_flag("verbose"),
@@ -27,7 +36,9 @@ fn is_verbose(matches: &ArgMatches<'static>) -> bool {
 }
 
 // What the words that were matched ask for.
-fn asked_of(alloc: Global, matches: &ArgMatches<'static>) -> Asked {
+fn asked_of(alloc: Global, matches: &ArgMatches<'static>) -> Asked
+    ensures { AsksSo matches.now result }
+{
     if let Some((name, inner)) = matches.subcommand() {
         match mistake_in(alloc, name, inner) {
             Ok(None) => (),

@@ -1,6 +1,7 @@
 //! Mistakes that the parser lets through: numbers with a sign, and agents to be drawn that are no range.
 ghost use Rattle.std.specs.Prelude.{◌≡◌, ◌↔◌, IfOk, IsSome, IsTrue, codes, is_some, true};
 ghost use Rattle.clap.specs.Matches.{first_value, found_of};
+ghost use Rattle.desk_cli.specs.Asked.{IsNothing};
 ghost use Rattle.desk_cli.specs.Values.{number_given};
 
 use crate::arguments::{Argument, Value};
@@ -73,7 +74,9 @@ pub(crate) fn mistake_in(
 }
 
 /// A mistake, as the parser tells its own.
-pub(crate) fn refused(alloc: Global, mistake: &str) -> Asked {
+pub(crate) fn refused(alloc: Global, mistake: &str) -> Asked
+    ensures { IsNothing result }
+{
     let Ok(mut command) = command(alloc) else {
         return Asked::NoMemory;
     };

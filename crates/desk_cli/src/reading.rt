@@ -2,7 +2,7 @@
 ghost use Rattle.std.specs.Prelude.{◌≡◌, IfOk, codes, unwrap_or};
 ghost use Rattle.clap.specs.Matches.{found_of};
 ghost use Rattle.desk_cli.specs.Values.{mode_named, number_given};
-ghost use Rattle.desk_cli.specs.Asked.{AsksFor, AsksToAudit, AsksToCheck, AsksToDraw, AsksToDrill, AsksToHost, AsksToServe};
+ghost use Rattle.desk_cli.specs.Asked.{AsksFor, AsksToAudit, AsksToCheck, AsksToDraw, AsksToDrill, AsksToHost, AsksToServe, usual_words};
 
 use crate::pages::page_words;
 use crate::ranges::range_of;
@@ -123,7 +123,7 @@ fn draw_words(matches: &ArgMatches<'static>) -> DrawWords
 
 /// What is asked for where no word names it.
 pub(crate) fn usual_words() -> ServeWords
-    ensures { result ≡ record { map = None; scen = None; agents = 0; limit = 100000; mode = Mode.Stay; journal = None; save = None; lines = LinesVersion.One } }
+    ensures { result ≡ usual_words }
 {
     ServeWords {
         map: None,
