@@ -1,3 +1,5 @@
 pub mod Names
+pub mod Files
 pub mod Words
+pub mod Runs
 pub mod Ends

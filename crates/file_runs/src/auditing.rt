@@ -1,37 +1,46 @@
 //! The word `audit`.
-ghost use Rattle.std.specs.Prelude.{[], IfErr, OnOk, unwrap_or};
+ghost use Rattle.std.specs.Prelude.{◌≡◌, [], ◌<◌, Some, None, Err, IfErr, OnOk, unwrap_or};
+ghost use Rattle.std.specs.Option.{option_copied};
 ghost use Rattle.single_runs.specs.Audits.{Audits, FailsAudit};
 ghost use Rattle.solver_check.specs.Opens.{bytes_of};
+ghost use Rattle.file_runs.specs.Files.{OfFiles};
+ghost use Rattle.file_runs.specs.Runs.{FailsAuditOver, HasAudited, IsUnaudited};
 
 use desk_cli::AuditWords;
-use desk_io::{More, Noting, Texts, bytes_in, finish, read_files, tell_stage};
+use desk_io::{Folder, More, Noting, Texts, bytes_in, finish, read_from, tell_stage};
 use desk_report::{Sink, Spout};
 use single_runs::run_audit;
 use solver_check::{Fault, RunFault};
 use std::alloc::Global;
 use std::io;
 use std::io::BufWriter;
-use std::rt::Files;
 use std::sync::Wait;
 use std::thread::Threads;
 
-/// Audits as the words ask for, onto standard output. Where it is wanted, its stages are told on
-/// standard error.
+/// Audits as the words ask for, of the files of a folder, onto standard output. Where it is wanted, its
+/// stages are told on standard error.
 ///
 /// # Errors
 ///
 /// What the words lack, a file that can't be read, or the run's fault.
-pub fn audit_files<R: Files + AllocGlobal + Print + Eprint + Threads + Wait>(
+pub fn audit_files<R: AllocGlobal + Print + Eprint + Threads + Wait, F: Folder>(
     rt: &R,
+    folder: &F,
     words: &AuditWords,
     stages: bool,
     more: &mut More,
-) -> Result<(), Fault> {
+) -> Result<(), Fault>
+    ensures asked { (0 < words.now.agents) × (words.now.scen ≡ None) → result ≡ Err Fault.AgentsWithoutScen }
+    ensures audited { OnOk result (OfFiles (F.holds folder.now) (Some words.now.map.now) (option_copied words.now.scen)
+        (option_copied words.now.journal) (HasAudited words.now)) }
+    ensures refused { IfErr result (FailsAuditOver ((0 < words.now.agents) × (words.now.scen ≡ None)) (F.holds folder.now) (Some words.now.map.now)
+        (option_copied words.now.scen) (option_copied words.now.journal) (IsUnaudited words.now)) }
+{
     if words.agents > 0 && words.scen.is_none() {
         return Err(Fault::AgentsWithoutScen);
     }
     tell_stage(rt, stages, "reading the files");
-    let named = match read_files(rt, Some(words.map), words.scen, words.journal, more) {
+    let named = match read_from(folder, Some(words.map), words.scen, words.journal, more) {
         Ok(named) => named,
         Err(fault) => return Err(fault),
     };
@@ -50,7 +59,10 @@ fn audit_texts<R: AllocGlobal + Print + Eprint + Threads + Wait>(
     words: &AuditWords,
     stages: bool,
     more: &mut More,
-) -> Result<(), RunFault> {
+) -> Result<(), RunFault>
+    ensures audited { OnOk result (HasAudited words.now (bytes_of texts.entry.map) (bytes_of texts.entry.scen) (bytes_of texts.entry.journal)) }
+    ensures refused { IfErr result (IsUnaudited words.now (bytes_of texts.entry.map) (bytes_of texts.entry.scen) (bytes_of texts.entry.journal)) }
+{
     let alloc = rt.alloc();
     let Ok(buffered) = BufWriter::new(alloc, io::writer(rt)) else {
         return Err(RunFault::OutOfMemory);

@@ -1,6 +1,6 @@
 //! What is done at a session's end.
-ghost use Rattle.std.specs.Prelude.{◌≡◌, IsOk, MatchOption, None, OnOk};
-ghost use Rattle.file_runs.specs.Ends.{fault_of, last_fault};
+ghost use Rattle.std.specs.Prelude.{◌≡◌, ◌⊎◌, IfErr, IsOk, MatchOption, None, OnOk, option_map};
+ghost use Rattle.file_runs.specs.Ends.{fault_of, last_fault, IsEnd, IsUnsavedIn};
 
 use crate::saving::save_held;
 use desk_core::Desk;
@@ -82,7 +82,8 @@ pub(crate) fn end_desk<R: Files<File = File> + AllocGlobal + Drop + Eprint>(
     more: &mut More,
     verbose: bool,
 ) -> Result<(), Fault>
-    ensures { OnOk result (fault ≡ None) }
+    ensures ok { OnOk result (fault ≡ None) }
+    ensures err { IfErr result (λ told. IsEnd fault told ⊎ IsUnsavedIn (option_map (λ file. file.file.now) held) told) }
 {
     let mut unsaved = More::none();
     let saved = save_held(rt, &desk, held, &mut unsaved);
@@ -107,7 +108,9 @@ fn tell_before<R: Eprint>(
     unsaved: More,
     more: &mut More,
     verbose: bool,
-) {
+)
+    ensures { more.new ≡ unsaved }
+{
     if let Some(fault) = &fault {
         let _status = tell_more(rt, fault, more, verbose);
     }

@@ -1,12 +1,15 @@
 //! The word `draw`.
-ghost use Rattle.std.specs.Prelude.{◌≡◌, [], IfErr, OnOk, unwrap_or};
+ghost use Rattle.std.specs.Prelude.{◌≡◌, [], Some, Err, IfErr, OnOk, unwrap_or};
+ghost use Rattle.std.specs.Option.{option_copied, option_or};
 ghost use Rattle.single_runs.specs.Draws.{Draws, FailsDraw};
 ghost use Rattle.solver_check.specs.Opens.{bytes_of};
+ghost use Rattle.file_runs.specs.Files.{OfFiles};
+ghost use Rattle.file_runs.specs.Runs.{FailsOver, HasDrawn, IsUndrawn, LacksTasks};
 ghost use Rattle.file_runs.specs.Words.{courses_in, courses_of};
 
 use crate::faults::ProgramFault;
 use desk_cli::DrawWords;
-use desk_io::{More, Noting, Texts, finish, problem_of, read_files, tell_stage};
+use desk_io::{Folder, More, Noting, Texts, finish, problem_of, read_from, tell_stage};
 use desk_pictures::Frame;
 use desk_report::{Sink, Spout};
 use grid_cells::Step;
@@ -15,7 +18,6 @@ use solver_check::{CheckFault, Fault};
 use std::alloc::Global;
 use std::io;
 use std::io::BufWriter;
-use std::rt::Files;
 use std::sync::Wait;
 use std::thread::Threads;
 
@@ -32,24 +34,31 @@ pub(crate) fn courses_of<'t>(paths: Option<&'static str>, text: Option<&'t [u8]>
     }
 }
 
-/// Draws as the words ask for, onto standard output. Where it is wanted, its stages are told on
-/// standard error.
+/// Draws as the words ask for, of the files of a folder, onto standard output. Where it is wanted, its
+/// stages are told on standard error.
 ///
 /// # Errors
 ///
 /// What the words lack, a file that can't be read, or why there is no picture.
-pub fn draw_files<R: Files + AllocGlobal + Print + Eprint + Threads + Wait>(
+pub fn draw_files<R: AllocGlobal + Print + Eprint + Threads + Wait, F: Folder>(
     rt: &R,
+    folder: &F,
     words: &DrawWords,
     stages: bool,
     more: &mut More,
-) -> Result<(), ProgramFault> {
+) -> Result<(), ProgramFault>
+    ensures asked { LacksTasks words.now.agents words.now.scen → result ≡ Err (ProgramFault.Desk Fault.AgentsWithoutScen) }
+    ensures drawn { OnOk result (OfFiles (F.holds folder.now) (Some words.now.map.now) (option_copied words.now.scen)
+        (option_copied (option_or words.now.journal words.now.paths)) (HasDrawn words.now)) }
+    ensures refused { IfErr result (FailsOver (LacksTasks words.now.agents words.now.scen) (F.holds folder.now) (Some words.now.map.now)
+        (option_copied words.now.scen) (option_copied (option_or words.now.journal words.now.paths)) (IsUndrawn words.now)) }
+{
     if words.agents.is_some() && words.scen.is_none() {
         return Err(ProgramFault::Desk(Fault::AgentsWithoutScen));
     }
     tell_stage(rt, stages, "reading the files");
     let journal = words.journal.or(words.paths);
-    let named = match read_files(rt, Some(words.map), words.scen, journal, more) {
+    let named = match read_from(folder, Some(words.map), words.scen, journal, more) {
         Ok(named) => named,
         Err(fault) => return Err(ProgramFault::Desk(fault)),
     };
@@ -68,7 +77,10 @@ fn draw_texts<R: AllocGlobal + Print + Threads + Wait>(
     texts: Texts<'_>,
     words: &DrawWords,
     more: &mut More,
-) -> Result<(), CheckFault> {
+) -> Result<(), CheckFault>
+    ensures drawn { OnOk result (HasDrawn words.now (bytes_of texts.entry.map) (bytes_of texts.entry.scen) (bytes_of texts.entry.journal)) }
+    ensures refused { IfErr result (IsUndrawn words.now (bytes_of texts.entry.map) (bytes_of texts.entry.scen) (bytes_of texts.entry.journal)) }
+{
     let alloc = rt.alloc();
     let Ok(buffered) = BufWriter::new(alloc, io::writer(rt)) else {
         return Err(CheckFault::OutOfMemory);

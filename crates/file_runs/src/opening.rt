@@ -1,6 +1,9 @@
 //! The desk that planners are to share.
-ghost use Rattle.std.specs.Prelude.{◌≡◌, [], IfErr, IfOk, max, min, unwrap_or};
+ghost use Rattle.std.specs.Prelude.{◌≡◌, ◌⊎◌, [], None, Err, IfErr, IfOk, max, min, option_map, unwrap_or};
 ghost use Rattle.std.specs.Option.{option_copied};
+ghost use Rattle.desk_io.specs.Texts.{LacksScen, untold};
+ghost use Rattle.file_runs.specs.Files.{OfFiles};
+ghost use Rattle.file_runs.specs.Ends.{IsOpened, IsUnnamed};
 ghost use Rattle.file_runs.specs.Names.{first_repeated, is_among};
 ghost use Rattle.single_runs.specs.Opened.{IsDeskFault, OpensDesk};
 ghost use Rattle.solver_check.specs.Opens.{bytes_of};
@@ -57,7 +60,14 @@ pub fn open_named<R: Files<File = File> + AllocGlobal + Clock + Clone + Drop>(
     rt: &R,
     words: &HostWords,
     more: &mut More,
-) -> Result<(Desk, Option<HeldFile<R>>), ProgramFault> {
+) -> Result<(Desk, Option<HeldFile<R>>), ProgramFault>
+    ensures asked { LacksScen words.now.desk → result ≡ Err (ProgramFault.Desk Fault.AgentsWithoutScen) }
+    ensures opened { IfOk result (λ opened. OfFiles untold (option_copied words.now.desk.map) (option_copied words.now.desk.scen)
+        (option_copied words.now.desk.journal) (IsOpened words.now.desk opened.0)) }
+    ensures apart { IfOk result (λ _. first_repeated [] words.now.names.items ≡ None) }
+    ensures held { IfOk result (λ opened. option_map (λ file. file.file.now) opened.1 ≡ option_copied words.now.desk.save) }
+    ensures refused { IfErr result (IsUnnamed untold words.now) }
+{
     let (named, held) = match read_named(rt, &words.desk, more) {
         Ok(ready) => ready,
         Err(fault) => return Err(ProgramFault::Desk(fault)),

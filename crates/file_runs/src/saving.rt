@@ -1,4 +1,7 @@
 //! A file that is whole at any moment.
+ghost use Rattle.std.specs.Prelude.{◌≡◌, None, IfErr, IsOk, option_map};
+ghost use Rattle.file_runs.specs.Ends.{IsUnsaved, IsUnsavedIn};
+
 use atomic_save::{SaveError, SystemFile};
 use desk_core::Desk;
 use desk_io::{HeldFile, More};
@@ -20,7 +23,10 @@ pub fn save_held<R: Files<File = File> + AllocGlobal + Drop>(
     desk: &Desk,
     held: Option<HeldFile<R>>,
     more: &mut More,
-) -> Result<(), Fault> {
+) -> Result<(), Fault>
+    ensures none { held ≡ None → IsOk result × (more.new ≡ more.old) }
+    ensures unsaved { IfErr result (IsUnsavedIn (option_map (λ file. file.file.now) held)) }
+{
     let Some(held) = held else {
         return Ok(());
     };
@@ -44,7 +50,9 @@ pub fn save_held<R: Files<File = File> + AllocGlobal + Drop>(
 fn kept<R: Files<File = File> + AllocGlobal + Drop>(
     named: SystemFile<R>,
     file: &'static str,
-) -> (Fault, Option<Error>) {
+) -> (Fault, Option<Error>)
+    ensures { IsUnsaved file.now result.0 }
+{
     let (kept, why) = named.into_kept();
     match kept {
         Some(kept) => (Fault::Kept { file, kept }, why),

@@ -1,7 +1,11 @@
 //! The word `serve`.
-ghost use Rattle.std.specs.Prelude.{◌≡◌, IfOk, max, min};
+ghost use Rattle.std.specs.Prelude.{◌≡◌, ◌⊎◌, ℕ, List, Option, Err, IfErr, IfOk, OnOk, max, min};
+ghost use Rattle.std.specs.Option.{option_copied};
 ghost use Rattle.desk_commits.specs.declared.limits.TheConstants.{MOST_ENTRIES};
 ghost use Rattle.solver_check.specs.Opens.{bytes_of};
+ghost use Rattle.desk_io.specs.Texts.{IsUnready, LacksScen, untold};
+ghost use Rattle.file_runs.specs.Files.{OfFiles};
+ghost use Rattle.file_runs.specs.Ends.{HasServeFault, HasServed, IsLeft, IsUnopened};
 ghost use Rattle.file_runs.specs.Words.{SitsFrom};
 
 use crate::closing::{end_desk, fault_of, note_end, outcome_of};
@@ -30,7 +34,13 @@ use std::time::Clock;
 /// where both have one, that of the run is told here.
 pub fn serve_streams<
     R: Files<File = File> + AllocGlobal + Clock + Clone + Drop + Print + Eprint + Input,
->(rt: &R, words: &ServeWords, typed: bool, more: &mut More, verbose: bool) -> Result<(), Fault> {
+>(rt: &R, words: &ServeWords, typed: bool, more: &mut More, verbose: bool) -> Result<(), Fault>
+    ensures asked { LacksScen words.now → result ≡ Err Fault.AgentsWithoutScen }
+    ensures served { OnOk result (OfFiles untold (option_copied words.now.map) (option_copied words.now.scen)
+        (option_copied words.now.journal) (HasServed words.now)) }
+    ensures refused { IfErr result (λ fault. IsUnready words.now fault ⊎ OfFiles untold (option_copied words.now.map)
+        (option_copied words.now.scen) (option_copied words.now.journal) (λ map scen journal. HasServeFault words.now map scen journal fault)) }
+{
     let (named, held) = match read_named(rt, words, more) {
         Ok(ready) => ready,
         Err(fault) => return Err(fault),
@@ -54,7 +64,10 @@ fn serve_typed<R: AllocGlobal + Clock + Print + Eprint + Input>(
     words: &ServeWords,
     typed: bool,
     more: &mut More,
-) -> (Option<Desk>, Option<RunFault>) {
+) -> (Option<Desk>, Option<RunFault>)
+    ensures { (left : Option (List ℕ)) × IsLeft words.now (bytes_of texts.entry.map) (bytes_of texts.entry.scen) (bytes_of texts.entry.journal)
+        left result.0 result.1 }
+{
     // (lent, since standard input has its buffer in itself)
     let (mut reader, output) = (rt.reader(), io::writer(rt));
     let input = Prompting::new(rt, &mut reader, typed, words.prompt());
@@ -70,7 +83,10 @@ fn serve_between<I: Read + Drop, O: Write + Drop>(
     input: I,
     output: O,
     more: &mut More,
-) -> (Option<Desk>, Option<RunFault>) {
+) -> (Option<Desk>, Option<RunFault>)
+    ensures { IsLeft words.now (bytes_of texts.entry.map) (bytes_of texts.entry.scen) (bytes_of texts.entry.journal)
+        (I.remaining input) result.0 result.1 }
+{
     match BufWriter::new(alloc, output) {
         Ok(buffered) => serve_buffered(alloc, texts, words, input, buffered, more),
         Err(_) => {
@@ -88,7 +104,10 @@ fn serve_buffered<I: Read + Drop, O: Write + Drop>(
     input: I,
     buffered: BufWriter<O>,
     more: &mut More,
-) -> (Option<Desk>, Option<RunFault>) {
+) -> (Option<Desk>, Option<RunFault>)
+    ensures { IsLeft words.now (bytes_of texts.entry.map) (bytes_of texts.entry.scen) (bytes_of texts.entry.journal)
+        (I.remaining input) result.0 result.1 }
+{
     let outlet = RefCell::new(Outlet::new(buffered));
     let ended = serve_lines(alloc, texts, words, input, &outlet);
     let last = send_last(&outlet);
@@ -120,8 +139,10 @@ fn serve_lines<I: Read + Drop, O: Write + Drop>(
     input: I,
     outlet: &RefCell<Outlet<O>>,
 ) -> Result<(Desk, Result<u32, ServeFault>), RunFault>
-    ensures { IfOk result (λ sat. SitsFrom words.now.lines (bytes_of texts.entry.map) (bytes_of texts.entry.scen) words.now.agents words.now.mode
+    ensures sat { IfOk result (λ sat. SitsFrom words.now.lines (bytes_of texts.entry.map) (bytes_of texts.entry.scen) words.now.agents words.now.mode
         (max 1 (min words.now.limit MOST_ENTRIES)) (bytes_of texts.entry.journal) (I.remaining input) sat) }
+    ensures unopened { IfErr result (IsUnopened words.now (bytes_of texts.entry.map) (bytes_of texts.entry.scen) (bytes_of texts.entry.journal)
+        (I.remaining input)) }
 {
     let Ok(mut reader) = Lines::new(alloc, input, outlet) else {
         return Err(RunFault::OutOfMemory);
