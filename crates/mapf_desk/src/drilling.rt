@@ -1,46 +1,51 @@
 //! The word `drill`.
-ghost use Rattle.std.specs.Prelude.{[], IfErr, IfOk, unwrap_or};
+ghost use Rattle.std.specs.Prelude.{◌≡◌, [], Err, IfErr, IfOk, unwrap_or};
 ghost use Rattle.shared_runs.specs.DrillFaults.{FailsDrill};
 ghost use Rattle.shared_runs.specs.Drills.{Drills, inputs_of};
 ghost use Rattle.solver_check.specs.Opens.{bytes_of};
+ghost use Rattle.mapf_desk.specs.Drilled.{FailsDrillOver, HasDrilled, IsUndrilled, LacksTasks, OfScripts};
 
 use desk_cli::DrillWords;
 use desk_io::{
-    More, Noting, System, Tallies, Texts, all_bytes, finish, problem_of, read_files, tell_stage,
+    Folder, More, Noting, Tallies, Texts, all_bytes, finish, problem_of, read_from, tell_stage,
 };
 use desk_report::{Sink, Spout};
 use shared_runs::{Fault, RunFault, hear_drill};
 use std::alloc::Global;
 use std::io;
 use std::io::BufWriter;
-use std::rt::Files;
 use std::sync::Wait;
 use std::thread::Threads;
 use std::time::Clock;
 
-/// Runs a drill as the words ask for, onto standard output, and answers whether the audit's report
-/// is the same. Where it is wanted, its stages are told on standard error, and more is known then of
-/// the scripts that were served.
+/// Runs a drill as the words ask for, of the files of a folder, onto standard output, and answers
+/// whether the audit's report is the same. Where it is wanted, its stages are told on standard error,
+/// and more is known then of the scripts that were served.
 ///
 /// # Errors
 ///
 /// What the words lack, a file that can't be read, or the run's fault.
-pub fn drill_files<R: Files + AllocGlobal + Print + Eprint + Threads + Wait + Clock + Sync>(
+pub fn drill_files<R: AllocGlobal + Print + Eprint + Threads + Wait + Clock + Sync, F: Folder>(
     rt: &R,
+    folder: &F,
     words: &DrillWords,
     stages: bool,
     more: &mut More,
     verbose: bool,
-) -> Result<bool, Fault> {
+) -> Result<bool, Fault>
+    ensures asked { LacksTasks words.now → result ≡ Err Fault.AgentsWithoutScen }
+    ensures drilled { IfOk result (λ same. OfScripts (F.holds folder.now) words.now (λ map scen scripts. HasDrilled words.now map scen scripts same)) }
+    ensures refused { IfErr result (FailsDrillOver (F.holds folder.now) words.now) }
+{
     if words.agents > 0 && words.scen.is_none() {
         return Err(Fault::AgentsWithoutScen);
     }
     tell_stage(rt, stages, "reading the files");
-    let named = match read_files(rt, Some(words.map), words.scen, None, more) {
+    let named = match read_from(folder, Some(words.map), words.scen, None, more) {
         Ok(named) => named,
         Err(fault) => return Err(fault),
     };
-    let scripts = match all_bytes(rt.alloc(), &System(rt), words.scripts.as_slice(), more) {
+    let scripts = match all_bytes(rt.alloc(), folder, words.scripts.as_slice(), more) {
         Ok(scripts) => scripts,
         Err(fault) => {
             drop(named);
@@ -65,7 +70,10 @@ fn drill_counted<R: AllocGlobal + Print + Threads + Wait + Clock + Sync>(
     words: &DrillWords,
     more: &mut More,
     verbose: bool,
-) -> Result<bool, RunFault> {
+) -> Result<bool, RunFault>
+    ensures drilled { IfOk result (HasDrilled words.now (bytes_of texts.entry.map) (bytes_of texts.entry.scen) scripts.items) }
+    ensures refused { IfErr result (IsUndrilled words.now (bytes_of texts.entry.map) (bytes_of texts.entry.scen) scripts.items) }
+{
     let alloc = rt.alloc();
     let Ok(buffered) = BufWriter::new(alloc, io::writer(rt)) else {
         drop(scripts);

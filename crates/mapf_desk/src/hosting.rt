@@ -1,7 +1,12 @@
 //! The word `host`.
-ghost use Rattle.std.specs.Prelude.{◌≡◌, ◌++◌, ◌||◌, IfOk, codes, is_err};
+ghost use Rattle.std.specs.Prelude.{◌≡◌, ◌++◌, ℕ, List, Option, None, IfOk, codes, is_err, length};
 ghost use Rattle.std.specs.List.{list_any};
 ghost use Rattle.shared_runs.specs.Drills.{same_line};
+ghost use Rattle.file_runs.specs.Files.{OfFiles};
+ghost use Rattle.std.specs.Option.{option_copied};
+ghost use Rattle.shared_runs.specs.Hosts.{Hosts};
+ghost use Rattle.desk_io.specs.Texts.{untold};
+ghost use Rattle.mapf_desk.specs.Hosted.{HasHosted, IsEndOf, has_fault, unseated};
 ghost use Rattle.mapf_desk.specs.Statuses.{host_end};
 
 use crate::print_line;
@@ -10,7 +15,9 @@ use desk_cli::HostWords;
 use desk_core::Desk;
 use desk_io::{HeldFile, More, Pipes, PipesFault, Steady, release};
 use file_runs::{ProgramFault, open_named, save_held};
-use shared_runs::{Fault, HostEnd, HostFault, MOST_HOSTED, Outcome, RunFault, host_planners};
+use shared_runs::{
+    Fault, HostEnd, HostFault, MOST_HOSTED, Outcome, RunFault, Seats, host_planners,
+};
 use std::alloc::Global;
 use std::fs::File;
 use std::rt::Files;
@@ -57,7 +64,10 @@ fn host_named<R: Threads + Wait + Clock + Sync>(
     words: &HostWords,
     stages: bool,
     more: &mut More,
-) -> Result<RunEnd, ProgramFault> {
+) -> Result<RunEnd, ProgramFault>
+    ensures { IfOk result (λ run. OfFiles untold (option_copied words.now.desk.map) (option_copied words.now.desk.scen) (option_copied words.now.desk.journal)
+        (HasHosted words.now run)) }
+{
     let (steady, alloc) = (Steady::new(host, host.stderr()), host.alloc());
     let (desk, held) = match open_named(&steady, words, more) {
         Ok(opened) => opened,
@@ -90,7 +100,9 @@ fn host_named<R: Threads + Wait + Clock + Sync>(
 }
 
 // Why there are no seats, as the program tells it.
-fn fault_of(fault: PipesFault) -> ProgramFault {
+fn fault_of(fault: PipesFault) -> ProgramFault
+    ensures { result ≡ unseated fault }
+{
     match fault {
         PipesFault::OutOfMemory => out_of_memory(),
         PipesFault::InUse { name } => ProgramFault::InUse { name },
@@ -105,8 +117,7 @@ fn end_hosted<R: Files<File = File> + AllocGlobal + Drop + Print>(
     held: Option<HeldFile<R>>,
     more: &mut More,
 ) -> Result<RunEnd, ProgramFault>
-    ensures { IfOk result (λ run. IfOk end.now.same (λ same.
-        run ≡ host_end (is_err end.now.operator || list_any (λ ended. is_err ended) end.now.planners.items) same)) }
+    ensures { IfOk result (IsEndOf end.now) }
 {
     match save_held(rt, &end.desk, held, more) {
         Ok(()) => {}
@@ -143,14 +154,14 @@ fn any_fault(sessions: &[Outcome]) -> bool
 
 // Whether the operator's session or a planner's had a fault.
 fn has_fault(end: &HostEnd) -> bool
-    ensures { result ≡ (is_err end.now.operator || list_any (λ ended. is_err ended) end.now.planners.items) }
+    ensures { result ≡ has_fault end.now }
 {
     end.operator.is_err() || any_fault(end.planners.as_slice())
 }
 
 // What hosting a desk comes to, whose audit is the same or not.
 fn end_of(end: &HostEnd, same: bool) -> RunEnd
-    ensures { result ≡ host_end (is_err end.now.operator || list_any (λ ended. is_err ended) end.now.planners.items) same }
+    ensures { result ≡ host_end (has_fault end.now) same }
 {
     if has_fault(end) {
         RunEnd::Faulty
@@ -167,31 +178,39 @@ fn host_all<R: Threads + Wait + Clock + Sync>(
     desk: Desk,
     pipes: &Pipes<'_>,
     words: &HostWords,
-) -> Result<HostEnd, ProgramFault> {
+) -> Result<HostEnd, ProgramFault>
+    ensures { IfOk result (Hosts (⟦<Pipes<'_> as Seats>⟧.inputs pipes.now) desk (length words.now.names.items)) }
+{
     let Ok(planners) = u32::try_from(words.names.len()) else {
         drop(desk);
         return Err(ProgramFault::Host(HostFault::TooManyPlanners));
     };
     let (workers, seconds) = (words.workers, words.wait);
-    thread::scope(thread::scope_env(), rt, move |scope| {
-        let Some(keeper) = pipes.keep(rt, scope, seconds) else {
-            drop(desk);
-            return Err(out_of_memory());
-        };
-        pipes.watch(rt, scope);
-        let opened = pipes.open(rt, alloc);
-        if let Err(fault) = opened {
-            drop(desk);
+    thread::scope(
+        thread::scope_env(),
+        rt,
+        move |scope| -> Result<HostEnd, ProgramFault>
+            ensures { IfOk result (Hosts (⟦<Pipes<'_> as Seats>⟧.inputs pipes.entry.now) desk planners) }
+        {
+            let Some(keeper) = pipes.keep(rt, scope, seconds) else {
+                drop(desk);
+                return Err(out_of_memory());
+            };
+            pipes.watch(rt, scope);
+            let opened = pipes.open(rt, alloc);
+            if let Err(fault) = opened {
+                drop(desk);
+                pipes.close(rt);
+                keeper.join(rt);
+                return Err(fault_of(fault));
+            }
+            let ended = host_planners(rt, alloc, desk, pipes, planners, workers.clamp(1, 64));
             pipes.close(rt);
             keeper.join(rt);
-            return Err(fault_of(fault));
-        }
-        let ended = host_planners(rt, alloc, desk, pipes, planners, workers.clamp(1, 64));
-        pipes.close(rt);
-        keeper.join(rt);
-        match ended {
-            Ok(end) => Ok(end),
-            Err(fault) => Err(ProgramFault::Host(fault)),
-        }
-    })
+            match ended {
+                Ok(end) => Ok(end),
+                Err(fault) => Err(ProgramFault::Host(fault)),
+            }
+        },
+    )
 }

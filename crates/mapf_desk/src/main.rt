@@ -8,6 +8,7 @@
 
 ghost use Rattle.std.specs.Prelude.{◌≡◌, ◌≢◌, ◌⊎◌, IfErr, IfOk};
 ghost use Rattle.std.specs.Process.{exit_status};
+ghost use Rattle.mapf_desk.specs.Answers.{Ends};
 ghost use Rattle.mapf_desk.specs.Questions.{IsQuestion};
 
 mod drilling;
@@ -15,7 +16,7 @@ mod hosting;
 mod statuses;
 
 use desk_cli::{Asked, VERSION, Words, read_words};
-use desk_io::{FAULT, More, Steady, fill_standard, tell, tell_more, tell_served};
+use desk_io::{FAULT, More, Steady, System, fill_standard, tell, tell_more, tell_served};
 use drilling::drill_files;
 use file_runs::{ProgramFault, audit_files, check_files, draw_files, page_files, serve_streams};
 use hosting::host_files;
@@ -51,37 +52,40 @@ fn obey<
     verbose: bool,
     stages: bool,
 ) -> Result<RunEnd, ProgramFault>
-    ensures { IfOk result (λ end. end ≢ RunEnd.Yes → IsQuestion words.now) }
+    ensures question { IfOk result (λ end. end ≢ RunEnd.Yes → IsQuestion words.now) }
+    ensures ends { IfOk result (Ends words.now) }
 {
+    let files = &System(rt);
     match words {
         Words::Version => match print_line(rt, VERSION, more) {
             Ok(()) => Ok(RunEnd::Yes),
             Err(fault) => Err(fault),
         },
         Words::Serve(serve) => {
-            match serve_streams(rt, serve, runtime.stdin().is_terminal(), more, verbose) {
+            let typed = runtime.stdin().is_terminal();
+            match serve_streams(rt, serve, typed, more, verbose) {
                 Ok(()) => Ok(RunEnd::Yes),
                 Err(fault) => Err(ProgramFault::Desk(fault)),
             }
         }
-        Words::Audit(audit) => match audit_files(rt, audit, stages, more) {
+        Words::Audit(audit) => match audit_files(rt, files, audit, stages, more) {
             Ok(()) => Ok(RunEnd::Yes),
             Err(fault) => Err(ProgramFault::Desk(fault)),
         },
-        Words::Drill(drill) => match drill_files(rt, drill, stages, more, verbose) {
+        Words::Drill(drill) => match drill_files(rt, files, drill, stages, more, verbose) {
             Ok(same) => Ok(answered(same)),
             Err(fault) => Err(ProgramFault::Desk(fault)),
         },
         Words::Host(host) => host_files(rt, runtime, host, stages || verbose, more),
-        Words::Check(check) => match check_files(rt, check, stages, more) {
+        Words::Check(check) => match check_files(rt, files, check, stages, more) {
             Ok(solved) => Ok(answered(solved)),
             Err(fault) => Err(fault),
         },
-        Words::Draw(draw) => match draw_files(rt, draw, stages, more) {
+        Words::Draw(draw) => match draw_files(rt, files, draw, stages, more) {
             Ok(()) => Ok(RunEnd::Yes),
             Err(fault) => Err(fault),
         },
-        Words::Page(page) => match page_files(rt, page, stages, more) {
+        Words::Page(page) => match page_files(rt, files, page, stages, more) {
             Ok(()) => Ok(RunEnd::Yes),
             Err(fault) => Err(fault),
         },
