@@ -4,6 +4,8 @@ use Rattle.bench_reader.specs.declared.maps.MapFault.{MapFault}
 use Rattle.bench_reader.specs.declared.maps.MapFault.TheVariants as map
 use Rattle.bench_reader.specs.declared.scens.ScenFault.{ScenFault}
 use Rattle.bench_reader.specs.declared.scens.ScenFault.TheVariants as scen
+use Rattle.path_files.specs.declared.faults.PathsFault.{PathsFault}
+use Rattle.path_files.specs.declared.faults.PathsFault.TheVariants as paths
 
 -- a row, counted from 0, stands behind the four lines of the map's header; so far as a line can be counted
 abbrev pub line_of_row : ℕ → ℕ
@@ -25,3 +27,19 @@ line_in_scen (scen.BadNumber line field) = Some line
 line_in_scen (scen.SizeMismatch line) = Some line
 line_in_scen (scen.OutOfMap line field) = Some line
 line_in_scen scen.OutOfMemory = None
+
+abbrev pub line_in_paths : PathsFault → Option ℕ
+line_in_paths (paths.NoForm line) = Some line
+line_in_paths (paths.BadHeader line) = Some line
+line_in_paths (paths.RepeatedList line) = Some line
+line_in_paths paths.MissingSolution = None
+line_in_paths (paths.BadTime line) = Some line
+line_in_paths (paths.BadAgent line) = Some line
+line_in_paths (paths.BadPath line) = Some line
+line_in_paths (paths.BadCell line cell) = Some line
+line_in_paths (paths.NoCells line) = Some line
+line_in_paths (paths.CellCount line) = Some line
+line_in_paths (paths.TooManyAgents line) = Some line
+line_in_paths (paths.TooLong line) = Some line
+line_in_paths paths.NoPaths = None
+line_in_paths paths.OutOfMemory = None

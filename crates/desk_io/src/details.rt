@@ -1,6 +1,6 @@
 //! What more is known of a run's fault, by the texts that it is about.
 ghost use Rattle.std.specs.Prelude.{◌≡◌, ◌≤◌, [], string_len, unwrap_or};
-ghost use Rattle.desk_io.specs.FaultyLines.{line_in_map, line_in_scen};
+ghost use Rattle.desk_io.specs.FaultyLines.{line_in_map, line_in_paths, line_in_scen};
 ghost use Rattle.solver_check.specs.Opens.{bytes_of};
 
 use crate::faulty_paths::{cells_of, ends_of};
@@ -90,7 +90,9 @@ impl Detailed for CheckFault {
 }
 
 // The line that a fault of a file of paths is about, counted from 1.
-fn paths_line(why: PathsFault) -> Option<usize> {
+fn paths_line(why: PathsFault) -> Option<usize>
+    ensures { result ≡ line_in_paths why }
+{
     match why {
         PathsFault::NoForm { line }
         | PathsFault::BadHeader { line }

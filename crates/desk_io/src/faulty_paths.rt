@@ -2,6 +2,7 @@
 ghost use Rattle.std.specs.Prelude.{◌≡◌, [], Ok, IfSome, unwrap_or};
 ghost use Rattle.path_files.specs.Texts.{paths_of};
 ghost use Rattle.solver_check.specs.Opens.{bytes_of};
+ghost use Rattle.desk_io.specs.Starts.{IsStartOf};
 
 use crate::details::Texts;
 use bench_reader::{read_map, read_scen};
@@ -104,7 +105,9 @@ fn shown_ends(alloc: Global, spelled: &SolverPaths, number: usize) -> Option<Str
 
 // The agent's start: that of its task, where there is a scenario, else the one that the text of paths
 // tells.
-fn start_of(alloc: Global, texts: Texts<'_>, spelled: &SolverPaths, agent: Agent) -> Option<Cell> {
+fn start_of(alloc: Global, texts: Texts<'_>, spelled: &SolverPaths, agent: Agent) -> Option<Cell>
+    ensures { IfSome result (IsStartOf (unwrap_or (bytes_of texts.entry.map) []) (bytes_of texts.entry.scen) spelled.now agent) }
+{
     let number = agent.number() as usize;
     let Some(scen) = texts.scen else {
         return spelled.starts.as_ref()?.items().get(number).copied();

@@ -1,5 +1,8 @@
 //! How a planner is met at its pair of files: by a thread for each end, until it has come or is waited
 //! for no longer.
+ghost use Rattle.std.specs.Prelude.{◌≡◌, ◌↔◌, ◌⊎◌, IsTrue, Some};
+ghost use Rattle.std.specs.IoError.{raw_os_error};
+
 use crate::doors::{Doors, Ends, Opened, Reader, Stage, Unmet};
 use crate::pipes::{Ahead, End, one_end};
 use std::fs::File;
@@ -12,8 +15,10 @@ use std::{mem, thread};
 // The milliseconds until a thread looks again.
 const PAUSE: u64 = 5;
 
-// The system's numbers for as many open files as the process, or the system, may have.
-const FULL: [i32; 2] = [24, 23];
+// The system's numbers for as many open files as the process may have (EMFILE), or the system (ENFILE).
+const FULL_PROCESS: i32 = 24;
+
+const FULL_SYSTEM: i32 = 23;
 
 /// Waits for the moment until a thread looks again.
 pub(crate) fn pause(host: &HostRuntime) {
@@ -21,11 +26,10 @@ pub(crate) fn pause(host: &HostRuntime) {
 }
 
 // Whether a file isn't opened since too many others are, as may change.
-fn is_full(why: Error) -> bool {
-    match why.raw_os_error() {
-        Some(number) => FULL.contains(&number),
-        None => false,
-    }
+fn is_full(why: Error) -> bool
+    ensures { IsTrue result ↔ ((raw_os_error why ≡ Some 24) ⊎ (raw_os_error why ≡ Some 23)) }
+{
+    matches!(why.raw_os_error(), Some(FULL_PROCESS | FULL_SYSTEM))
 }
 
 impl Doors {

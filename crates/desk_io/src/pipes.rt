@@ -1,6 +1,7 @@
 //! The desk's ends of pipes that have names, or of other files: opened with no wait, and by nobody else.
 ghost use Rattle.std.specs.Prelude.{◌≡◌, IfOk, None, is_some, string_bytes, true};
 ghost use Rattle.std.specs.Option.{option_map};
+ghost use Rattle.desk_io.specs.Opening.{both_ends, one_end};
 
 use std::alloc::{AllocError, Global};
 use std::fs;
@@ -44,7 +45,9 @@ impl From<Error> for DoorError {
 }
 
 /// How the desk's end is opened, or the other one waited for.
-pub(crate) fn one_end(end: End) -> OpenOptions {
+pub(crate) fn one_end(end: End) -> OpenOptions
+    ensures { result ≡ one_end end }
+{
     let mut options = OpenOptions::new();
     match end {
         End::Input => {
@@ -58,7 +61,9 @@ pub(crate) fn one_end(end: End) -> OpenOptions {
 }
 
 /// How both ends of a pipe are opened: that waits for nobody, and who waits there goes on.
-pub(crate) fn both_ends() -> OpenOptions {
+pub(crate) fn both_ends() -> OpenOptions
+    ensures { result ≡ both_ends }
+{
     let mut options = OpenOptions::new();
     options.read(true).write(true);
     options

@@ -84,7 +84,9 @@ impl<'a> Pipes<'a> {
     }
 
     // What is told goes to standard error.
-    pub(crate) fn errors(&self) -> Steady<'_, HostRuntime, Stderr> {
+    pub(crate) fn errors(&self) -> Steady<'_, HostRuntime, Stderr>
+        ensures { result.rt.now ≡ self.now.host.now }
+    {
         Steady::new(self.host, self.host.stderr())
     }
 

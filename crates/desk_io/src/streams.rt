@@ -53,7 +53,9 @@ pub struct Answers<'a, W: Write + Drop> {
 }
 
 impl<'a, W: Write + Drop> Answers<'a, W> {
-    pub fn new(outlet: &'a RefCell<Outlet<W>>) -> Answers<'a, W> {
+    pub fn new(outlet: &'a RefCell<Outlet<W>>) -> Answers<'a, W>
+        ensures { result.outlet ≡ outlet.entry }
+    {
         Answers { outlet }
     }
 }

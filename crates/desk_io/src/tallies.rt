@@ -1,10 +1,34 @@
 //! How the lines of a drill's scripts were answered, counted while the scripts are served.
 ghost use Rattle.std.specs.Prelude.{◌≡◌, IfOk, length};
+ghost use Rattle.desk_io.specs.Answered.{answered_by};
 
 use session_protocol::is_acceptance;
 use solver_check::{Hearing, Shown};
 use std::alloc::{AllocError, Global};
 use std::sync::atomic::{AtomicBool, AtomicU64, Ordering};
+
+// How a line is answered.
+#[derive(Clone, Copy)]
+enum Answered {
+    Accepted,
+    Refused,
+    Bad,
+}
+
+// How the line is answered whose answer begins with the word; the further lines of a report aren't.
+fn answered_by(word: &[u8]) -> Option<Answered>
+    ensures { result ≡ answered_by word.now }
+{
+    if word == b"refused".as_slice() {
+        Some(Answered::Refused)
+    } else if word == b"bad".as_slice() {
+        Some(Answered::Bad)
+    } else if is_acceptance(word) {
+        Some(Answered::Accepted)
+    } else {
+        None
+    }
+}
 
 // How many lines of a script were answered in each way.
 #[derive(Drop)]
@@ -22,19 +46,6 @@ impl Tally {
             accepted: AtomicU64::new(0),
             refused: AtomicU64::new(0),
             bad: AtomicU64::new(0),
-        }
-    }
-
-    // The count of answers that begin with the word; the further lines of a report are in none.
-    fn count(&self, word: &[u8]) -> Option<&AtomicU64> {
-        if word == b"refused".as_slice() {
-            Some(&self.refused)
-        } else if word == b"bad".as_slice() {
-            Some(&self.bad)
-        } else if is_acceptance(word) {
-            Some(&self.accepted)
-        } else {
-            None
         }
     }
 
@@ -90,9 +101,13 @@ impl Hearing for Tallies {
 
     fn hears(&self, script: u32, word: &[u8]) {
         if let Some(tally) = self.each.get(script as usize) {
-            if let Some(count) = tally.count(word) {
-                count.fetch_add(1, Ordering::SeqCst);
-            }
+            let count = match answered_by(word) {
+                Some(Answered::Accepted) => &tally.accepted,
+                Some(Answered::Refused) => &tally.refused,
+                Some(Answered::Bad) => &tally.bad,
+                None => return,
+            };
+            count.fetch_add(1, Ordering::SeqCst);
         }
     }
 }
