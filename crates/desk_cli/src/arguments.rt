@@ -29,7 +29,7 @@ pub(crate) struct Argument {
     /// The letter that names it too, if it is a flag.
     pub short: Option<char>,
     pub value: Value,
-    /// The value where none is given, if there is one: of an option with a value.
+    /// The value if none is given, if there is one: of an option with a value.
     pub usual: &'static [&'static str],
     /// Whether it has to be given: of what isn't a flag.
     pub is_needed: bool,

@@ -3,16 +3,16 @@
 /// The program's name and version, and the checker's logic that it is proved with.
 pub const VERSION: &str = "mapf_desk 1.0.0\nproved with rattle-kit-13f logic dac8208d650f15bf";
 
-/// What is told where a map is to be typed, and a session after it.
+/// What a person reads who is to type a map, and a session after it.
 pub(crate) const MAP_PROMPT: &str = "\
 mapf_desk: type a map first: type octile, height H, width W, map, and H rows of W letters, . for
 open and @ for closed; then a session line at a time, as: agent 0 0,0 2,0. The end of input (Ctrl-D)
-ends the session; mapf_desk serve --help, typed in a shell, tells all lines.";
+ends the session; mapf_desk serve --help, typed in a shell, lists all lines.";
 
-/// What is told where a session is to be typed.
+/// What a person reads who is to type a session.
 pub const SESSION_PROMPT: &str = "\
 mapf_desk: type a session line at a time, as: agent 0 0,0 2,0, or: report. The end of input (Ctrl-D)
-ends the session; mapf_desk serve --help, typed in a shell, tells all lines.";
+ends the session; mapf_desk serve --help, typed in a shell, lists all lines.";
 
 pub(crate) const ABOUT: &str =
     "A live plan desk for multi-agent path finding: it takes planners' edits of one \
@@ -31,7 +31,7 @@ Three lines of a session, and what they are answered:
   solves vertex swap         solves yes
 
 Statuses: 0 done; 1 the paths that were checked are no solution, or an audit differs; 2 a fault,
-told on standard error in one line, or in two with --verbose where more is known of it.
+reported on standard error in one line, or in two with --verbose if more is known of it.
 All lines: docs/PROTOCOL.md; files: docs/FILES.md; words and faults: docs/CLI.md; the rules: docs/RULES.md.
 
 Example:
@@ -56,75 +56,77 @@ With --save F the journal is in F when the session is over, in place of one that
 ends it, Ctrl-C kills it and saves nothing. With --journal F the next session goes on from there; both
 may name one file.
 
-Statuses: 0 the input has ended; 2 a fault, told on standard error.
+Statuses: 0 the input has ended; 2 a fault, reported on standard error.
 
 Example:
   mapf_desk serve --map demo/warehouse.map --scen demo/warehouse.scen --agents 10 --save plan";
 
 pub(crate) const AUDIT_HELP: &str = "\
 The report is made from scratch: nothing that a desk keeps is used. Each worker is a thread of its
-own and tells its share of the agents.
+own and reports on its share of the agents.
 
-Statuses: 0 done; 2 a fault, told on standard error.
+Statuses: 0 done; 2 a fault, reported on standard error.
 
 Example:
   mapf_desk audit --map demo/warehouse.map --scen demo/warehouse.scen --agents 10 --workers 4";
 
 pub(crate) const DRILL_HELP: &str = "\
 Each script is a session, as serve takes it with the same --lines, and is served as a planner of its
-own: the first is planner 1. The scripts run at once and their answers aren't kept. At the end the version and the
-report are printed, and audit same where a report made from scratch is the same, or audit differs.
-With --verbose a line on standard error tells of each script how many of its lines were accepted,
+own: the first is planner 1. The scripts run at once and their answers aren't kept. At the end the
+version and the report are printed, and audit same if a report made from scratch is the same, else
+audit differs.
+With --verbose a line on standard error says for each script how many of its lines were accepted,
 refused and bad, as: demo/east.script: 6 accepted, 0 refused, 0 bad
 
-Statuses: 0 audit same; 1 audit differs; 2 a fault, told on standard error.
+Statuses: 0 audit same; 1 audit differs; 2 a fault, reported on standard error.
 
 Example:
   mapf_desk drill --map demo/corridor.map demo/east.script demo/west.script";
 
 pub(crate) const HOST_HELP: &str = "\
 Each planner is a program of its own, in any language. It writes lines to NAME.in, as serve takes
-them with --lines 2, and reads their answers from NAME.out: two pipes that were made by mkfifo, or any files. The
-first is planner 1. Standard input and output are the operator's session, planner 0. An answer goes
-out before more is read. A planner that breaks off, also within a line, harms nobody else.
+them with --lines 2, and reads their answers from NAME.out: two pipes that were made by mkfifo, or
+any files. The first is planner 1. Standard input and output are the operator's session, planner 0.
+An answer goes out before more is read. A planner that breaks off, also within a line, harms nobody
+else.
 
-A planner that doesn't come is waited for, with --wait S no longer than S seconds. When all inputs have
-ended the journal is saved, with --save F, and audit same is printed where a report made from scratch
-is that of the desk, or audit differs.
+The host waits for a planner that doesn't come, with --wait S no longer than S seconds. When all
+inputs have ended it saves the journal, with --save F, and prints audit same if a report made from
+scratch is that of the desk, else audit differs.
 
-Statuses: 0 audit same; 1 audit differs; 2 a fault, told on standard error with the planner's NAME.
+Statuses: 0 audit same; 1 audit differs; 2 a fault, reported on standard error with the planner's NAME.
 
 Example:
   mkfifo east.in east.out west.in west.out
   mapf_desk host --map demo/corridor.map east west";
 
 pub(crate) const CHECK_HELP: &str = "\
-A solver's paths are read in one of three forms, told by the first line that isn't blank:
+A solver's paths are read in one of three forms, recognised by the first line that isn't blank:
   time      solution=, and lines 0:(X,Y),(X,Y),           as LaCAM and PIBT print them
   agent     lines Agent 0: (ROW,COLUMN)->(ROW,COLUMN)->   as CBS, EECBS, PBS and MAPF-LNS2 do
   session   lines path 0 X,Y X,Y                          as serve takes them
 Starts and goals are the scenario's first tasks; without a scenario they are what the file of paths
 says, and else the first and the last cells of the paths.
 
-Printed are the report, as audit prints it, and solves yes or solves no: yes where every agent comes
-to its goal, no path crosses a closed cell, and there is no conflict of the kinds that count. What
+check prints the report, as audit does, and solves yes or solves no: yes if every agent comes to its
+goal, no path crosses a closed cell, and there is no conflict of the kinds that count. What
 solvers call an edge conflict, two agents that change places, is swap; edge is two agents that make
 the same move.
 
-Statuses: 0 solves yes; 1 solves no; 2 a fault, told on standard error: there is no verdict.
+Statuses: 0 solves yes; 1 solves no; 2 a fault, reported on standard error: there is no verdict.
 
 Example:
   mapf_desk check --map demo/corridor.map --scen demo/corridor.scen --paths demo/corridor.paths";
 
 pub(crate) const DRAW_HELP: &str = "\
 The picture is one SVG on standard output, of the scene that audit makes of a journal, or check of a
-solver's paths. Each conflict and each visit to a closed cell that the report lists is marked where
-it is, and the mark's title is the report's line. Without --at the agents move, 0.4 seconds a step,
+solver's paths. It marks each conflict and each visit to a closed cell that the report lists, in its
+place, and the mark's title is the report's line. Without --at the agents move, 0.4 seconds a step,
 and each conflict is lit for the step of its time. With --agents-shown the other agents and their
 paths aren't drawn; what the report lists is marked all the same. With --solves the heading has the
 colour of the verdict that check gives for these kinds.
 
-Statuses: 0 done; 2 a fault, told on standard error.
+Statuses: 0 done; 2 a fault, reported on standard error.
 
 Example:
   mapf_desk draw --map demo/corridor.map --paths demo/corridor.paths > corridor.svg";
@@ -134,9 +136,9 @@ The page is one HTML file on standard output, which loads nothing: of the scene 
 journal, or check of a solver's paths, and of its report. In a browser it plays the plans, steps and
 zooms; a click on a line of the report goes to its time and place, and one on an agent shows its path
 and what it meets. The verdict is that of check for the kinds of --solves; conflicts of other kinds
-are shown where they are asked for there.
+are shown if they are asked for there.
 
-Statuses: 0 done; 2 a fault, told on standard error.
+Statuses: 0 done; 2 a fault, reported on standard error.
 
 Example:
   mapf_desk page --map demo/corridor.map --paths demo/corridor.meeting > corridor.html";

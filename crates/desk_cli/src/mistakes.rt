@@ -73,7 +73,7 @@ pub(crate) fn mistake_in(
     Ok(None)
 }
 
-/// A mistake, as the parser tells its own.
+/// A mistake, reported as the parser reports its own.
 pub(crate) fn refused(alloc: Global, mistake: &str) -> Asked
     ensures { IsNothing result }
 {

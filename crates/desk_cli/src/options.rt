@@ -54,7 +54,7 @@ pub(crate) const AGENTS: Argument = Argument {
 /// Without a number the scenario gives as many agents as there are paths.
 pub(crate) const AGENTS_OF_PATHS: Argument = Argument {
     usual: &[],
-    help: "How many agents the scenario gives, from 0 to 8192; as many as there are paths where it isn't given",
+    help: "How many agents the scenario gives, from 0 to 8192; as many as there are paths if it isn't given",
     ..AGENTS
 };
 
@@ -87,7 +87,7 @@ pub(crate) const JOURNAL_OF_AN_AUDIT: Argument = Argument {
 
 pub(crate) const SAVE: Argument = Argument {
     name: "save",
-    help: "Where the journal is saved at the end of the session, in place of one that is there",
+    help: "The file that takes the journal at the end of the session, in place of one that is there",
     ..FILE
 };
 
@@ -105,14 +105,14 @@ pub(crate) const NEEDED_PATHS: Argument = Argument {
 pub(crate) const FORM: Argument = Argument {
     name: "form",
     value: Value::OneOf("FORM", &["time", "agent", "session"]),
-    help: "How the paths are written; told by their first line where it isn't given",
+    help: "How the paths are written; if it isn't given, their first line says it",
     ..FILE
 };
 
 pub(crate) const SOLVES: Argument = Argument {
     name: "solves",
     value: Value::SomeOf("KIND", &["vertex", "edge", "follow", "swap", "cycle"]),
-    help: "The kinds of conflicts that count; vertex and swap where none is named",
+    help: "The kinds of conflicts that count; vertex and swap if none is named",
     ..FILE
 };
 
@@ -160,7 +160,7 @@ pub(crate) const SCRIPTS: Argument = Argument {
 pub(crate) const WAIT: Argument = Argument {
     name: "wait",
     value: Value::Number("S", 0, 86_400),
-    help: "How many seconds a planner may take to come, from 0 to 86400; for ever where it isn't given",
+    help: "How many seconds a planner may take to come, from 0 to 86400; for ever if it isn't given",
     ..FILE
 };
 

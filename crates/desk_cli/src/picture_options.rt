@@ -3,7 +3,7 @@ use crate::arguments::{Argument, Value};
 use crate::options::{AGENTS_OF_PATHS, FILE, JOURNAL, SOLVES};
 
 pub(crate) const AGENTS_OF_A_PICTURE: Argument = Argument {
-    help: "How many agents the scenario gives, from 0 to 8192; where it isn't given as many as there are paths, else 0",
+    help: "How many agents the scenario gives, from 0 to 8192; if it isn't given as many as there are paths, or 0 without paths",
     ..AGENTS_OF_PATHS
 };
 
@@ -23,19 +23,19 @@ pub(crate) const AT: Argument = Argument {
 pub(crate) const SHOWN: Argument = Argument {
     name: "agents-shown",
     value: Value::Text("A-B"),
-    help: "The agents that are drawn, as 0-9; all where it isn't given",
+    help: "The agents that are drawn, as 0-9; all if it isn't given",
     ..FILE
 };
 
 /// Without kinds the heading's colour goes by all of them.
 pub(crate) const SOLVES_OF_A_PICTURE: Argument = Argument {
-    help: "The kinds of conflicts that the heading's colour goes by; all where none is named",
+    help: "The kinds of conflicts that the heading's colour goes by; all if none is named",
     ..SOLVES
 };
 
 pub(crate) const TITLE: Argument = Argument {
     name: "title",
     value: Value::Text("T"),
-    help: "The page's title; the map's file where it isn't given",
+    help: "The page's title; the map's file if it isn't given",
     ..FILE
 };

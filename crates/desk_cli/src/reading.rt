@@ -16,10 +16,10 @@ use plan_table::Mode;
 use session_lines::LinesVersion;
 use std::alloc::{AllocError, Global};
 
-/// How many commits the journal takes where the words don't say.
+/// How many commits the journal takes if the words don't say.
 const USUAL_LIMIT: u32 = 100_000;
 
-/// How many threads make a report where the words don't say.
+/// How many threads make a report if the words don't say.
 const USUAL_WORKERS: u32 = 4;
 
 fn agents_of(matches: &ArgMatches<'static>) -> u32
@@ -121,7 +121,7 @@ fn draw_words(matches: &ArgMatches<'static>) -> DrawWords
     }
 }
 
-/// What is asked for where no word names it.
+/// What is asked for if no word names it.
 pub(crate) fn usual_words() -> ServeWords
     ensures { result ≡ usual_words }
 {

@@ -15,7 +15,7 @@ use plan_table::Mode;
 use session_lines::LinesVersion;
 use std::alloc::{AllocError, Global};
 
-/// The conflicts of the classical problem, which count where the words don't say.
+/// The conflicts of the classical problem, which count if the words don't say.
 const CLASSICAL: Kinds = Kinds {
     vertex: true,
     edge: false,
@@ -113,7 +113,7 @@ fn form_named(text: Option<&str>) -> Option<Form>
     }
 }
 
-/// The form of a file of paths, where it is named.
+/// The form of a file of paths, if it is named.
 pub(crate) fn form_given(matches: &ArgMatches<'static>) -> Option<Form>
     ensures { result ≡ form_named (first_value (found_of matches.now) (codes "form")) }
 {
@@ -138,7 +138,7 @@ fn named_kinds(words: &[&str]) -> Kinds
     }
 }
 
-/// The kinds of conflicts that an option names, where it stands.
+/// The kinds of conflicts that an option names, if it stands.
 pub(crate) fn kinds_asked(matches: &ArgMatches<'static>) -> Option<Kinds>
     ensures { result ≡ option_map named_kinds (option_map raw_values (matched_of (found_of matches.now) (codes "solves"))) }
 {

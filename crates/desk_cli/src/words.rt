@@ -43,7 +43,7 @@ pub struct ServeWords {
 }
 
 impl ServeWords {
-    /// What is told a person who is to type the session, and the map before it where none is named.
+    /// What a person reads who is to type the session, and the map before it if none is named.
     pub fn prompt(&self) -> &'static str
         ensures { MatchOption self.now.map (result.now ≡ MAP_PROMPT.now) (λ map. result.now ≡ SESSION_PROMPT.now) }
     {
@@ -158,7 +158,7 @@ pub struct PageWords {
 /// What the words come to.
 #[derive(Drop)]
 pub enum Asked {
-    /// What is asked for, and whether more is to be told than that asks for.
+    /// What is asked for, and whether more is to be reported than that asks for.
     For { words: Words, verbose: bool },
     /// Words that aren't the program's, or a request for help.
     Refused(Error),
