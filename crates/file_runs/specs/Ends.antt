@@ -40,6 +40,10 @@ IsLast before last = (last ≡ before) ⊎ (last ≡ Some (Serve session.WriteFa
 abbrev pub limit_of : ServeWords → ℕ
 limit_of words = max 1 (min words.limit MOST_ENTRIES)
 
+-- the session of an input over the desk of the texts and the words
+abbrev pub SitsBy : ServeWords → (map scen journal left : Option (List ℕ)) → DeskState × Result ℕ ServeFault → Type 0
+SitsBy words map scen journal left sat = SitsFrom words.lines map scen words.agents words.mode (limit_of words) journal left sat
+
 -- no desk was opened over the texts, for that fault
 abbrev pub IsUnopened : ServeWords → (map scen journal left : Option (List ℕ)) → RunFault → Type 0
 IsUnopened words map scen journal left why =
@@ -48,7 +52,7 @@ IsUnopened words map scen journal left why =
 -- a session over the texts left that desk, where one was opened, and has that fault
 abbrev pub IsLeft : ServeWords → (map scen journal left : Option (List ℕ)) → Option DeskState → Option RunFault → Type 0
 IsLeft words map scen journal left (Some desk) fault =
-    (ended : Result ℕ ServeFault) × SitsFrom words.lines map scen words.agents words.mode (limit_of words) journal left (desk, ended) × IsLast (fault_of ended) fault
+    (ended : Result ℕ ServeFault) × SitsBy words map scen journal left (desk, ended) × IsLast (fault_of ended) fault
 IsLeft words map scen journal left None fault = (why : RunFault) × IsUnopened words map scen journal left why × IsLast (Some why) fault
 
 -- a session's fault as the run has it

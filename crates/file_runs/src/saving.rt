@@ -37,13 +37,26 @@ pub fn save_held<R: Files<File = File> + AllocGlobal + Drop>(
     } = held;
     let (fault, why) = match save_journal(desk, &mut named, temporary) {
         Ok(()) => return Ok(()),
-        Err(SaveError::NotRenamed) => kept(named, file),
-        Err(_) => (Fault::CannotWrite { file }, named.into_reason()),
+        Err(why) => unsaved(named, file, why),
     };
     if let Some(why) = why {
         more.reason(rt.alloc(), &why);
     }
     Err(fault)
+}
+
+// Why the journal isn't in the file: the fault, and the system's reason.
+fn unsaved<R: Files<File = File> + AllocGlobal + Drop>(
+    named: SystemFile<R>,
+    file: &'static str,
+    why: SaveError,
+) -> (Fault, Option<Error>)
+    ensures { IsUnsaved file.now result.0 }
+{
+    match why {
+        SaveError::NotRenamed => kept(named, file),
+        _ => (Fault::CannotWrite { file }, named.into_reason()),
+    }
 }
 
 // The journal that couldn't get the file's name: the fault, and the system's reason.

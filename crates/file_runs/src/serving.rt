@@ -5,8 +5,7 @@ ghost use Rattle.desk_commits.specs.declared.limits.TheConstants.{MOST_ENTRIES};
 ghost use Rattle.solver_check.specs.Opens.{bytes_of};
 ghost use Rattle.desk_io.specs.Texts.{IsUnready, LacksScen, untold};
 ghost use Rattle.file_runs.specs.Files.{OfFiles};
-ghost use Rattle.file_runs.specs.Ends.{HasServeFault, HasServed, IsLeft, IsUnopened};
-ghost use Rattle.file_runs.specs.Words.{SitsFrom};
+ghost use Rattle.file_runs.specs.Ends.{HasServeFault, HasServed, IsLeft, IsUnopened, SitsBy};
 
 use crate::closing::{end_desk, fault_of, note_end, outcome_of};
 use desk_cli::ServeWords;
@@ -139,8 +138,8 @@ fn serve_lines<I: Read + Drop, O: Write + Drop>(
     input: I,
     outlet: &RefCell<Outlet<O>>,
 ) -> Result<(Desk, Result<u32, ServeFault>), RunFault>
-    ensures sat { IfOk result (λ sat. SitsFrom words.now.lines (bytes_of texts.entry.map) (bytes_of texts.entry.scen) words.now.agents words.now.mode
-        (max 1 (min words.now.limit MOST_ENTRIES)) (bytes_of texts.entry.journal) (I.remaining input) sat) }
+    ensures sat { IfOk result (SitsBy words.now (bytes_of texts.entry.map) (bytes_of texts.entry.scen) (bytes_of texts.entry.journal)
+        (I.remaining input)) }
     ensures unopened { IfErr result (IsUnopened words.now (bytes_of texts.entry.map) (bytes_of texts.entry.scen) (bytes_of texts.entry.journal)
         (I.remaining input)) }
 {
