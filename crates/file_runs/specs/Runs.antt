@@ -16,8 +16,6 @@ use Rattle.single_runs.specs.Audits.{Audits, FailsAudit}
 use Rattle.single_runs.specs.Draws.{Draws, FailsDraw}
 use Rattle.single_runs.specs.PageRuns.{Pages}
 use Rattle.desk_pages.specs.declared.pages.Page.{Page}
-use Rattle.page_parts.specs.declared.looks.TheConstants.{LOOKS}
-use Rattle.page_parts.specs.declared.script.TheConstants.{SCRIPT}
 use Rattle.desk_cli.specs.declared.words.AuditWords.{AuditWords}
 use Rattle.desk_cli.specs.declared.words.CheckWords.{CheckWords}
 use Rattle.desk_cli.specs.declared.words.DrawWords.{DrawWords}
@@ -47,9 +45,8 @@ pub record HasChecked (words : CheckWords) (form : Option Form) (map scen paths 
   pub checks : Checks (unwrap_or map []) scen words.agents words.mode (unwrap_or paths []) form words.kinds words.quiet held0 held1 solved
 
 -- the texts, memory or the writer failed the check; or it came to its end, and the buffer did not go out
-abbrev pub IsUnchecked : CheckWords → Option Form → (map scen paths : Option (List ℕ)) → CheckFault → Type 0
-IsUnchecked words form map scen paths fault =
-    IsCheckFault (unwrap_or map []) scen words.agents words.mode (unwrap_or paths []) form fault ⊎ ((solved : Bool) × HasChecked words form map scen paths solved)
+pub record IsUnchecked (words : CheckWords) (form : Option Form) (map scen paths : Option (List ℕ)) (fault : CheckFault) : Type 0 where
+  pub why : IsCheckFault (unwrap_or map []) scen words.agents words.mode (unwrap_or paths []) form fault ⊎ ((solved : Bool) × HasChecked words form map scen paths solved)
 
 -- the scene of the texts was drawn
 pub record HasDrawn (words : DrawWords) (map scen journal : Option (List ℕ)) : Type 0 where
@@ -65,12 +62,10 @@ pub record IsUndrawn (words : DrawWords) (map scen journal : Option (List ℕ)) 
   pub is : bytes_of text ≡ journal
   pub why : FailsDraw (unwrap_or map []) scen words.agents words.mode (courses_of words text) fault ⊎ (fault ≡ check.OutOfMemory) ⊎ HasDrawn words map scen journal
 
--- the page has the words' title, or else the map's name, the words' kinds, and the program's looks and script
+-- the page has the words' title, or else the map's name, and the words' kinds
 pub record IsPageFor (words : PageWords) (page : Page) : Type 0 where
   pub title : page.title.now ≡ unwrap_or (option_copied words.title) words.map.now
   pub kinds : page.kinds ≡ words.kinds
-  pub looks : page.looks.now ≡ LOOKS.now
-  pub script : page.script.now ≡ SCRIPT.now
 
 -- the page of the scene of the texts was written
 pub record HasPaged (words : PageWords) (map scen journal : Option (List ℕ)) : Type 0 where

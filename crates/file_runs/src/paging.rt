@@ -100,7 +100,8 @@ fn page_onto<T: Threads + Wait, W: Sink>(
 
 // What the page has beside the scene and its report.
 fn page_of(words: &PageWords) -> Page<'static>
-    ensures { IsPageFor words.now result }
+    ensures title { result.title.now ≡ unwrap_or (option_copied words.now.title) words.now.map.now }
+    ensures kinds { result.kinds ≡ words.now.kinds }
 {
     Page {
         title: words.title.unwrap_or(words.map).as_bytes(),
