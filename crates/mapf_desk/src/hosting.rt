@@ -1,26 +1,19 @@
 //! The word `host`.
-ghost use Rattle.std.specs.Prelude.{◌≡◌, ◌++◌, ℕ, List, Option, None, IfOk, codes, is_err, length};
-ghost use Rattle.std.specs.List.{list_any};
-ghost use Rattle.shared_runs.specs.Drills.{same_line};
+ghost use Rattle.std.specs.Prelude.{◌≡◌, ℕ, List, Option, None, IfOk, length};
 ghost use Rattle.file_runs.specs.Files.{OfFiles};
 ghost use Rattle.std.specs.Option.{option_copied};
 ghost use Rattle.shared_runs.specs.Hosts.{Hosts};
 ghost use Rattle.desk_io.specs.Texts.{untold};
-ghost use Rattle.mapf_desk.specs.Hosted.{HasHosted, IsEndOf, has_fault, unseated};
-ghost use Rattle.mapf_desk.specs.Statuses.{host_end};
+ghost use Rattle.mapf_desk.specs.Hosted.{HasHosted, unseated};
 
-use crate::print_line;
-use crate::statuses::{RunEnd, answered};
+use crate::hosted::{end_hosted, out_of_memory};
+use crate::statuses::RunEnd;
 use desk_cli::HostWords;
 use desk_core::Desk;
-use desk_io::{HeldFile, More, Pipes, PipesFault, Steady, release};
-use file_runs::{ProgramFault, open_named, save_held};
-use shared_runs::{
-    Fault, HostEnd, HostFault, MOST_HOSTED, Outcome, RunFault, Seats, host_planners,
-};
+use desk_io::{More, Pipes, PipesFault, Steady, release};
+use file_runs::{ProgramFault, open_named};
+use shared_runs::{HostEnd, HostFault, MOST_HOSTED, Seats, host_planners};
 use std::alloc::Global;
-use std::fs::File;
-use std::rt::Files;
 use std::sync::Wait;
 use std::thread;
 use std::thread::{Builder, Threads};
@@ -106,67 +99,6 @@ fn fault_of(fault: PipesFault) -> ProgramFault
     match fault {
         PipesFault::OutOfMemory => out_of_memory(),
         PipesFault::InUse { name } => ProgramFault::InUse { name },
-    }
-}
-
-// Saves the desk's journal where a file for it is held, and prints whether the audit's report is that
-// of the desk.
-fn end_hosted<R: Files<File = File> + AllocGlobal + Drop + Print>(
-    rt: &R,
-    end: &HostEnd,
-    held: Option<HeldFile<R>>,
-    more: &mut More,
-) -> Result<RunEnd, ProgramFault>
-    ensures { IfOk result (IsEndOf end.now) }
-{
-    match save_held(rt, &end.desk, held, more) {
-        Ok(()) => {}
-        Err(fault) => return Err(ProgramFault::Desk(fault)),
-    }
-    let Ok(same) = end.same else {
-        return Err(out_of_memory());
-    };
-    match print_line(rt, audit_text(same), more) {
-        Ok(()) => Ok(end_of(end, same)),
-        Err(fault) => Err(fault),
-    }
-}
-
-// Whether the audit's report is that of the desk, as it is told.
-fn audit_text(same: bool) -> &'static str
-    ensures { result.now ++ codes "\n" ≡ same_line same }
-{
-    if same { "audit same" } else { "audit differs" }
-}
-
-fn out_of_memory() -> ProgramFault
-    ensures { result ≡ ProgramFault.Desk (Fault.Run RunFault.OutOfMemory) }
-{
-    ProgramFault::Desk(Fault::Run(RunFault::OutOfMemory))
-}
-
-// Whether a session had a fault.
-fn any_fault(sessions: &[Outcome]) -> bool
-    ensures { result ≡ list_any (λ ended. is_err ended) sessions.now }
-{
-    sessions.iter().any(|ended| ended.is_err())
-}
-
-// Whether the operator's session or a planner's had a fault.
-fn has_fault(end: &HostEnd) -> bool
-    ensures { result ≡ has_fault end.now }
-{
-    end.operator.is_err() || any_fault(end.planners.as_slice())
-}
-
-// What hosting a desk comes to, whose audit is the same or not.
-fn end_of(end: &HostEnd, same: bool) -> RunEnd
-    ensures { result ≡ host_end (has_fault end.now) same }
-{
-    if has_fault(end) {
-        RunEnd::Faulty
-    } else {
-        answered(same)
     }
 }
 

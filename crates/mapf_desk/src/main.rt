@@ -2,8 +2,8 @@
 //! drills planners that share it, checks the paths that a solver wrote, draws pictures, and makes pages
 //! that play plans.
 //!
-//! `drilling` and `hosting` obey these two words, `main` the others, by `file_runs`; `statuses` has
-//! what the program ends with.
+//! `drilling` and `hosting` obey these two words, `main` the others, by `file_runs`; `hosted` and
+//! `statuses` have what a run and the program end with.
 #![tactic(auto)]
 
 ghost use Rattle.std.specs.Prelude.{◌≡◌, ◌≢◌, ◌⊎◌, IfErr, IfOk};
@@ -12,6 +12,7 @@ ghost use Rattle.mapf_desk.specs.Answers.{Ends};
 ghost use Rattle.mapf_desk.specs.Questions.{IsQuestion};
 
 mod drilling;
+mod hosted;
 mod hosting;
 mod statuses;
 
