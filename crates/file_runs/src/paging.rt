@@ -98,13 +98,23 @@ fn page_onto<T: Threads + Wait, W: Sink>(
     run_page(rt, alloc, problem, courses, &page, WORKERS, writer)
 }
 
+// The page's title: the words', or else the map's name.
+fn title_of(words: &PageWords) -> &'static str
+    ensures { result.now ≡ unwrap_or (option_copied words.now.title) words.now.map.now }
+{
+    match words.title {
+        Some(title) => title,
+        None => words.map,
+    }
+}
+
 // What the page has beside the scene and its report.
 fn page_of(words: &PageWords) -> Page<'static>
     ensures title { result.title.now ≡ unwrap_or (option_copied words.now.title) words.now.map.now }
     ensures kinds { result.kinds ≡ words.now.kinds }
 {
     Page {
-        title: words.title.unwrap_or(words.map).as_bytes(),
+        title: title_of(words).as_bytes(),
         kinds: words.kinds,
         looks: LOOKS,
         script: SCRIPT,
