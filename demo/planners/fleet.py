@@ -1,5 +1,5 @@
 #!/usr/bin/env python3
-"""A fleet of 40 agents on a warehouse map, among four planners in processes of their own: fleet.py DESK [AGENTS PLANNERS SECONDS]
+"""A fleet of 40 agents on a warehouse map, among four planners in processes of their own: fleet.py DESK [AGENTS PLANNERS]
 
 It makes two pipes for each planner, starts `DESK host` and the planners (planner.py), and waits until the fleet's paths
 have no conflict. Then it asks the desk, as its operator, what they cost. Status 0 where the desk says that all is solved.
@@ -26,9 +26,9 @@ def failed_of(planners, host):
 
 
 def main():
-    if len(sys.argv) not in (2, 5):
-        sys.exit("fleet.py DESK [AGENTS PLANNERS SECONDS]")
-    desk, agents, planners, seconds = sys.argv[1], *[int(it) for it in sys.argv[2:] or (40, 4, 60)]
+    if len(sys.argv) not in (2, 4):
+        sys.exit("fleet.py DESK [AGENTS PLANNERS]")
+    desk, agents, planners = sys.argv[1], *[int(it) for it in sys.argv[2:] or (40, 4)]
     with tempfile.TemporaryDirectory() as folder:
         names = [f"{folder}/{number}" for number in range(1, planners + 1)]
         for name in names:
@@ -38,7 +38,7 @@ def main():
         shares = [agents * number // planners for number in range(planners + 1)]
         run = [sys.executable, f"{HERE}/planner.py"]
         plans = [
-            subprocess.Popen([*run, name, MAP, SCEN, str(agents), str(first), str(end), str(seconds)])
+            subprocess.Popen([*run, name, MAP, SCEN, str(agents), str(first), str(end)])
             for name, first, end in zip(names, shares, shares[1:])
         ]
         failed = failed_of(plans, host)

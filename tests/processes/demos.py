@@ -55,7 +55,7 @@ def demo_fleet():
 
 def demos_called_wrongly():
     """A demo that is told nothing says what it wants; planners whose host ends at once end too."""
-    for script, usage in (("client.py", "client.py DESK MAP\n"), ("planners/fleet.py", "fleet.py DESK [AGENTS PLANNERS SECONDS]\n")):
+    for script, usage in (("client.py", "client.py DESK MAP\n"), ("planners/fleet.py", "fleet.py DESK [AGENTS PLANNERS]\n")):
         ran = subprocess.run([sys.executable, f"{DEMO}/{script}"], capture_output=True, timeout=PATIENCE, text=True)
         want("how it ends", (ran.returncode, ran.stdout, ran.stderr), (1, "", usage))
     ran = subprocess.run([sys.executable, f"{DEMO}/planners/fleet.py", "/bin/false"], capture_output=True, timeout=PATIENCE, text=True)
