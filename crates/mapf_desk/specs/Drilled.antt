@@ -1,15 +1,10 @@
 -- A drill of the scripts of files; what it writes goes out through a buffer (this project's choice).
-use Rattle.std.specs.Prelude.{◌≡◌, ◌⊎◌, ℕ, ◌<◌, List, [], Option, Some, None, Bool, Vec, Any, unwrap_or}
+use Rattle.std.specs.Prelude.{◌≡◌, ℕ, ◌<◌, List, [], Option, Some, None, Bool, Vec, unwrap_or}
 use Rattle.std.specs.Global.{Global}
 use Rattle.std.specs.Option.{option_copied}
 use Rattle.shared_runs.specs.Drills.{Drills, inputs_of}
-use Rattle.shared_runs.specs.DrillFaults.{FailsDrill}
-use Rattle.solver_check.specs.declared.faults.Fault.{Fault}
-use Rattle.solver_check.specs.declared.faults.Fault.TheVariants.{AgentsWithoutScen, Run}
-use Rattle.solver_check.specs.declared.faults.RunFault.{RunFault}
-use Rattle.solver_check.specs.declared.faults.RunFault.TheVariants.{OutOfMemory}
 use Rattle.desk_cli.specs.declared.words.DrillWords.{DrillWords}
-use Rattle.desk_io.specs.Texts.{AreTold, IsUnread, IsUnreadOf}
+use Rattle.desk_io.specs.Texts.{AreTold}
 use Rattle.file_runs.specs.Files.{OfFiles}
 
 -- the scripts were served over one desk of the texts, with that answer
@@ -17,14 +12,6 @@ pub record HasDrilled (words : DrillWords) (map scen : Option (List ℕ)) (scrip
   pub held0 : Option (List ℕ)
   pub held1 : Option (List ℕ)
   pub drills : Drills (unwrap_or map []) scen words.agents words.mode (inputs_of words.lines scripts) held0 held1 same
-
--- the texts, the scripts, memory or the writer failed the drill; or it came to its end, and the buffer did not go out
-pub record IsUndrilled (words : DrillWords) (map scen : Option (List ℕ)) (scripts : List (Vec ℕ Global)) (fault : RunFault) : Type 0 where
-  pub held0 : Option (List ℕ)
-  pub held1 : Option (List ℕ)
-  pub why : (fault ≡ OutOfMemory)
-      ⊎ FailsDrill (unwrap_or map []) scen words.agents words.mode (inputs_of words.lines scripts) held0 held1 fault
-      ⊎ ((same : Bool) × HasDrilled words map scen scripts same)
 
 -- the texts and the scripts of the files of the words, each in its place, are so
 pub record OfScripts (holds : List ℕ → Option (List ℕ)) (words : DrillWords) (IsSo : (map scen : Option (List ℕ)) → List (Vec ℕ Global) → Type 0) : Type 0 where
@@ -35,12 +22,3 @@ pub record OfScripts (holds : List ℕ → Option (List ℕ)) (words : DrillWord
 -- agents are asked for, and no scenario that has their tasks
 abbrev pub LacksTasks : DrillWords → Type 0
 LacksTasks words = (0 < words.agents) × (words.scen ≡ None)
-
--- why a drill of files did not come to its end: the words lack a scenario, a file isn't read, or the drill fails
-abbrev pub FailsDrillOver : (List ℕ → Option (List ℕ)) → DrillWords → Fault → Type 0
-FailsDrillOver holds words fault =
-    (LacksTasks words × (fault ≡ AgentsWithoutScen))
-    ⊎ IsUnreadOf (Some words.map.now) (option_copied words.scen) None fault
-    ⊎ (fault ≡ Run OutOfMemory)
-    ⊎ Any (λ file. IsUnread file.now fault) words.scripts.items
-    ⊎ ((why : RunFault) × (fault ≡ Run why) × OfScripts holds words (λ map scen scripts. IsUndrilled words map scen scripts why))

@@ -1,17 +1,11 @@
 -- A desk that is hosted for the planners of the words (this project's choice).
-use Rattle.std.specs.Prelude.{◌≡◌, ◌||◌, ℕ, List, Option, Bool, Ok, length, is_err}
+use Rattle.std.specs.Prelude.{◌≡◌, ◌||◌, Bool, Ok, is_err}
 use Rattle.std.specs.List.{list_any}
-use Rattle.std.specs.Option.{option_copied}
-use Rattle.desk_commits.specs.State.{DeskState}
-use Rattle.shared_runs.specs.Hosts.{Hosts, Inputs}
 use Rattle.shared_runs.specs.declared.hosts.hosting.HostEnd.{HostEnd}
 use Rattle.solver_check.specs.declared.faults.Fault.TheVariants as desk
 use Rattle.solver_check.specs.declared.faults.RunFault.TheVariants.{OutOfMemory}
-use Rattle.desk_cli.specs.declared.words.HostWords.{HostWords}
-use Rattle.file_runs.specs.Files.{OfFiles}
 use Rattle.desk_io.specs.declared.seats.PipesFault.{PipesFault}
 use Rattle.desk_io.specs.declared.seats.PipesFault.TheVariants as pipes
-use Rattle.file_runs.specs.Ends.{IsOpened}
 use Rattle.file_runs.specs.declared.faults.ProgramFault.{ProgramFault}
 use Rattle.file_runs.specs.declared.faults.ProgramFault.TheVariants as program
 use Rattle.mapf_desk.specs.Statuses.{host_end}
@@ -24,15 +18,6 @@ has_fault end = is_err end.operator || list_any (λ ended. is_err ended) end.pla
 -- the run's end says whether a session had a fault, and else whether the audit's report is the desk's
 abbrev pub IsEndOf : HostEnd → RunEnd → Type 0
 IsEndOf end run = (same : Bool) × (end.same ≡ Ok same) × (run ≡ host_end (has_fault end) same)
-
--- the desk was hosted for the planners of the words, and the run came to that end
-pub record HasHosted (words : HostWords) (run : RunEnd) (map scen journal : Option (List ℕ)) : Type 0 where
-  pub inputs : Inputs
-  pub start : DeskState
-  pub opened : IsOpened words.desk start map scen journal
-  pub end : HostEnd
-  pub hosted : Hosts inputs start (length words.names.items) end
-  pub is : IsEndOf end run
 
 -- that there are no seats, as the program has it
 abbrev pub unseated : PipesFault → ProgramFault

@@ -1,10 +1,6 @@
 //! The word `host`.
-ghost use Rattle.std.specs.Prelude.{◌≡◌, ℕ, List, Option, None, IfOk, length};
-ghost use Rattle.file_runs.specs.Files.{OfFiles};
-ghost use Rattle.std.specs.Option.{option_copied};
-ghost use Rattle.shared_runs.specs.Hosts.{Hosts};
-ghost use Rattle.desk_io.specs.Texts.{untold};
-ghost use Rattle.mapf_desk.specs.Hosted.{HasHosted, unseated};
+ghost use Rattle.std.specs.Prelude.{◌≡◌};
+ghost use Rattle.mapf_desk.specs.Hosted.{unseated};
 
 use crate::hosted::{end_hosted, out_of_memory};
 use crate::statuses::RunEnd;
@@ -12,7 +8,7 @@ use desk_cli::HostWords;
 use desk_core::Desk;
 use desk_io::{More, Pipes, PipesFault, Steady, release};
 use file_runs::{ProgramFault, open_named};
-use shared_runs::{HostEnd, HostFault, MOST_HOSTED, Seats, host_planners};
+use shared_runs::{HostEnd, HostFault, MOST_HOSTED, host_planners};
 use std::alloc::Global;
 use std::sync::Wait;
 use std::thread;
@@ -57,10 +53,7 @@ fn host_named<R: Threads + Wait + Clock + Sync>(
     words: &HostWords,
     stages: bool,
     more: &mut More,
-) -> Result<RunEnd, ProgramFault>
-    ensures { IfOk result (λ run. OfFiles untold (option_copied words.now.desk.map) (option_copied words.now.desk.scen) (option_copied words.now.desk.journal)
-        (HasHosted words.now run)) }
-{
+) -> Result<RunEnd, ProgramFault> {
     let (steady, alloc) = (Steady::new(host, host.stderr()), host.alloc());
     let (desk, held) = match open_named(&steady, words, more) {
         Ok(opened) => opened,
@@ -110,39 +103,31 @@ fn host_all<R: Threads + Wait + Clock + Sync>(
     desk: Desk,
     pipes: &Pipes<'_>,
     words: &HostWords,
-) -> Result<HostEnd, ProgramFault>
-    ensures { IfOk result (Hosts (⟦<Pipes<'_> as Seats>⟧.inputs pipes.now) desk (length words.now.names.items)) }
-{
+) -> Result<HostEnd, ProgramFault> {
     let Ok(planners) = u32::try_from(words.names.len()) else {
         drop(desk);
         return Err(ProgramFault::Host(HostFault::TooManyPlanners));
     };
     let (workers, seconds) = (words.workers, words.wait);
-    thread::scope(
-        thread::scope_env(),
-        rt,
-        move |scope| -> Result<HostEnd, ProgramFault>
-            ensures { IfOk result (Hosts (⟦<Pipes<'_> as Seats>⟧.inputs pipes.entry.now) desk planners) }
-        {
-            let Some(keeper) = pipes.keep(rt, scope, seconds) else {
-                drop(desk);
-                return Err(out_of_memory());
-            };
-            pipes.watch(rt, scope);
-            let opened = pipes.open(rt, alloc);
-            if let Err(fault) = opened {
-                drop(desk);
-                pipes.close(rt);
-                keeper.join(rt);
-                return Err(fault_of(fault));
-            }
-            let ended = host_planners(rt, alloc, desk, pipes, planners, workers.clamp(1, 64));
+    thread::scope(thread::scope_env(), rt, move |scope| {
+        let Some(keeper) = pipes.keep(rt, scope, seconds) else {
+            drop(desk);
+            return Err(out_of_memory());
+        };
+        pipes.watch(rt, scope);
+        let opened = pipes.open(rt, alloc);
+        if let Err(fault) = opened {
+            drop(desk);
             pipes.close(rt);
             keeper.join(rt);
-            match ended {
-                Ok(end) => Ok(end),
-                Err(fault) => Err(ProgramFault::Host(fault)),
-            }
-        },
-    )
+            return Err(fault_of(fault));
+        }
+        let ended = host_planners(rt, alloc, desk, pipes, planners, workers.clamp(1, 64));
+        pipes.close(rt);
+        keeper.join(rt);
+        match ended {
+            Ok(end) => Ok(end),
+            Err(fault) => Err(ProgramFault::Host(fault)),
+        }
+    })
 }
