@@ -1,5 +1,8 @@
 //! How a planner is met at its pair of files: by a thread for each end, until it has come or is waited
 //! for no longer.
+ghost use Rattle.std.specs.Prelude.{◌≡◌, ◌↔◌, ◌⊎◌, IsTrue, Some};
+ghost use Rattle.std.specs.IoError.{raw_os_error};
+
 use crate::doors::{Doors, Ends, Opened, Reader, Stage, Unmet};
 use crate::pipes::{Ahead, End, one_end};
 use std::fs::File;
@@ -23,7 +26,9 @@ pub(crate) fn pause(host: &HostRuntime) {
 }
 
 // Whether a file isn't opened since too many others are, as may change.
-fn is_full(why: Error) -> bool {
+fn is_full(why: Error) -> bool
+    ensures { IsTrue result ↔ ((raw_os_error why ≡ Some FULL_PROCESS) ⊎ (raw_os_error why ≡ Some FULL_SYSTEM)) }
+{
     matches!(why.raw_os_error(), Some(FULL_PROCESS | FULL_SYSTEM))
 }
 
