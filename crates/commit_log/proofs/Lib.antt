@@ -2,3 +2,4 @@ pub mod Feeds
 pub mod Commits
 pub mod Growing
 pub mod Cuts
+pub mod Digests

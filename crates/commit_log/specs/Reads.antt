@@ -1,10 +1,21 @@
--- What a text behind a head or a commit line begins with.
+-- What a log begins with, and a text behind a head or a commit line.
 use Rattle.std.specs.Prelude.{◌≡◌, ◌≢◌, ℕ, true, List, ◌∷◌, ◌++◌, length}
 use Rattle.std.specs.List.{list_all}
 use Rattle.commit_log.specs.Lines.{is_one_line, begins_commit, is_entry_line, lines_text, IsBody}
-use Rattle.commit_log.specs.Text.{check_of, commit_words, sealed}
+use Rattle.commit_log.specs.Text.{check_of, commit_words, sealed, head_check, head_text, is_digest}
+use Rattle.plan_table.specs.declared.tracks.Mode.{Mode}
 use Rattle.commit_log.specs.declared.reading.ReadFault.{ReadFault}
 use Rattle.commit_log.specs.declared.reading.ReadFault.TheVariants.{Damaged, OutOfMemory}
+
+-- a head
+pub record BeginsHead (text : List ℕ) (mode : Mode) (scene check rest : List ℕ) : Type 0 where
+  pub digest : is_digest scene ≡ true
+  pub check_is : check ≡ head_check (head_text mode scene)
+  pub is : text ≡ head_text mode scene ++ rest
+
+-- no head of that mode, whatever its scene
+abbrev pub BeginsNoHead : List ℕ → Mode → Type 0
+BeginsNoHead text mode = (scene rest : List ℕ) → is_digest scene ≡ true → text ≢ head_text mode scene ++ rest
 
 -- an entry with the commit line of that number, behind that CHECK
 pub record BeginsSealed (text : List ℕ) (number : ℕ) (before entry check rest : List ℕ) : Type 0 where

@@ -1,5 +1,6 @@
 -- The text of a log: a head, and each entry with its commit line, which has a check of all before it (this project's choice).
-use Rattle.std.specs.Prelude.{ℕ, ◌+◌, List, [], ◌∷◌, ◌++◌, take, codes, decimal}
+use Rattle.std.specs.Prelude.{ℕ, ◌+◌, Bool, ◌&&◌, ◌||◌, nat_eq, nat_le, List, [], ◌∷◌, ◌++◌, length, take, codes, decimal}
+use Rattle.std.specs.List.{list_all}
 use Rattle.sha2.specs.Sha256.{sha256}
 use Rattle.hex.specs.Hex.{encode_lower}
 use Rattle.plan_table.specs.declared.tracks.Mode.{Mode}
@@ -50,3 +51,11 @@ head_text mode digest = codes "log 1\n" ++ (mode_line mode ++ (codes "scene " ++
 -- DIGEST: SHA-256 of the map's bytes, a line feed, the scenario's bytes (none: nothing), a line feed, and the number of agents, in hex
 abbrev pub scene_digest : List ℕ → List ℕ → ℕ → List ℕ
 scene_digest map scen agents = encode_lower (sha256 ((((map ++ codes "\n") ++ scen) ++ codes "\n") ++ decimal agents))
+
+-- 0 to 9 are 48 to 57, a to f are 97 to 102
+abbrev pub is_lower_hex_digit : ℕ → Bool
+is_lower_hex_digit byte = (nat_le 48 byte && nat_le byte 57) || (nat_le 97 byte && nat_le byte 102)
+
+-- what can stand for DIGEST: 64 hex digits, none an upper case letter
+abbrev pub is_digest : List ℕ → Bool
+is_digest text = nat_eq (length text) 64 && list_all is_lower_hex_digit text

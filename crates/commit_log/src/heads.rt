@@ -1,6 +1,9 @@
 //! The head of a log: the mode, and the digest of the scene.
-ghost use Rattle.std.specs.Prelude.{◌≡◌, ◌≢◌, ◌++◌, List, ℕ, IfOk, IfSome, MatchOption};
-ghost use Rattle.commit_log.specs.Text.{mode_line, head_text, head_check, scene_digest};
+ghost use Rattle.std.specs.Prelude.{◌≡◌, ◌≢◌, ◌++◌, List, ℕ, true, false, take, drop, IfOk, MatchOption};
+ghost use Rattle.std.specs.List.{list_all};
+ghost use Rattle.plan_table.specs.declared.tracks.Mode.{Mode};
+ghost use Rattle.commit_log.specs.Text.{mode_line, head_text, scene_digest, is_lower_hex_digit, is_digest};
+ghost use Rattle.commit_log.specs.Reads.{BeginsHead, BeginsNoHead};
 
 use crate::checks::{Check, check_of};
 use hex::encode_to_slice;
@@ -69,39 +72,52 @@ fn behind<'t>(text: &'t [u8], prefix: &[u8]) -> Option<&'t [u8]>
     text.strip_prefix(prefix)
 }
 
+// Whether the byte is a hex digit, and no upper case letter.
+fn is_lower_hex_digit(byte: u8) -> bool
+    ensures { result ≡ is_lower_hex_digit byte }
+{
+    matches!(byte, b'0'..=b'9' | b'a'..=b'f')
+}
+
+fn is_lower_hex(text: &[u8]) -> bool
+    ensures { result ≡ list_all is_lower_hex_digit text.now }
+{
+    text.iter().all(|byte| is_lower_hex_digit(*byte))
+}
+
+fn is_digest(text: &[u8]) -> bool
+    ensures { result ≡ is_digest text.now }
+{
+    text.len() == 64 && is_lower_hex(text)
+}
+
 // The digest that begins at that byte of a text, if there is one.
-fn digest_at(text: &[u8], at: usize) -> Option<SceneDigest> {
+fn digest_at(text: &[u8], at: usize) -> Option<SceneDigest>
+    ensures { MatchOption result (is_digest (take 64 (drop at text.now)) ≡ false)
+        (λ scene. (is_digest scene ≡ true) × (scene ≡ take 64 (drop at text.now))) }
+{
     if at > text.len() || text.len() - at < 64 {
         return None;
     }
     let digits = &text[at..at + 64];
+    if !is_digest(digits) {
+        return None;
+    }
     let mut scene = [0u8; 64];
     scene.copy_from_slice(digits);
-    if digits
-        .iter()
-        .all(|digit| matches!(*digit, b'0'..=b'9' | b'a'..=b'f'))
-    {
-        Some(scene)
-    } else {
-        None
-    }
+    Some(scene)
 }
 
-/// The head that a text begins with, if it begins with one.
-///
-/// # Errors
-///
-/// Want of memory.
-pub fn read_head(alloc: Global, text: &[u8]) -> Result<Option<Head<'_>>, AllocError>
-    ensures { IfOk result (λ found. IfSome found (λ head. (text.now ≡ head_text head.mode head.scene ++ head.rest.now)
-        × (head.check ≡ head_check (head_text head.mode head.scene)))) }
+// The head of that mode that a text begins with, if it begins with one.
+fn head_of_mode<'t>(
+    alloc: Global,
+    text: &'t [u8],
+    mode: Mode,
+) -> Result<Option<Head<'t>>, AllocError>
+    ensures { IfOk result (λ found. MatchOption found (BeginsNoHead text.now mode)
+        (λ head. (head.mode ≡ mode) × BeginsHead text.now head.mode head.scene head.check head.rest.now)) }
 {
-    let (mode, at) = if text.starts_with(b"log 1\nmode stay\n") {
-        (Mode::Stay, 22)
-    } else {
-        (Mode::Disappear, 27)
-    };
-    let Some(scene) = digest_at(text, at) else {
+    let Some(scene) = digest_at(text, mode_line(mode).len() + 12) else {
         return Ok(None);
     };
     let head = head_text(alloc, mode, &scene)?;
@@ -115,4 +131,19 @@ pub fn read_head(alloc: Global, text: &[u8]) -> Result<Option<Head<'_>>, AllocEr
         check,
         rest,
     }))
+}
+
+/// The head that a text begins with. None if it begins with none: of neither mode, with no digest.
+///
+/// # Errors
+///
+/// Want of memory.
+pub fn read_head(alloc: Global, text: &[u8]) -> Result<Option<Head<'_>>, AllocError>
+    ensures { IfOk result (λ found. MatchOption found ((mode : Mode) → BeginsNoHead text.now mode)
+        (λ head. BeginsHead text.now head.mode head.scene head.check head.rest.now)) }
+{
+    match head_of_mode(alloc, text, Mode::Stay)? {
+        Some(head) => Ok(Some(head)),
+        None => head_of_mode(alloc, text, Mode::Disappear),
+    }
 }
