@@ -117,6 +117,7 @@ fn head_of_mode<'t>(
     ensures { IfOk result (λ found. MatchOption found (BeginsNoHead text.now mode)
         (λ head. (head.mode ≡ mode) × BeginsHead text.now head.mode head.scene head.check head.rest.now)) }
 {
+    // behind `log 1`, the mode's line and `scene `
     let Some(scene) = digest_at(text, mode_line(mode).len() + 12) else {
         return Ok(None);
     };
@@ -133,7 +134,7 @@ fn head_of_mode<'t>(
     }))
 }
 
-/// The head that a text begins with. None if it begins with none: of neither mode, with no digest.
+/// The head that a text begins with. None if it begins with none, of either mode.
 ///
 /// # Errors
 ///
