@@ -7,7 +7,7 @@ import threading
 import time
 
 from .growing import unheard
-from .running import PATIENCE, Program, bytes_of, put, remove, start, want
+from .running import PATIENCE, Planner, Program, bytes_of, is_fault, put, remove, start, want
 
 
 def with_files(names, given):
@@ -35,6 +35,26 @@ def closed_descriptors():
         want(f"the journal with {closed}", bytes_of("kept"), b"journal 2\nmode stay\nend 0\n")
         remove("kept")
     without_files(names)
+
+
+def closed_error_of_a_session():
+    """The journal alone is in its file where standard error is closed at the start."""
+    shell = 'exec "$0" serve --map m --save kept 2>&-'
+    ran = subprocess.run(["sh", "-c", shell, Program.path], capture_output=True, input=b"agent 0 0,0 2,0\nfly\n", timeout=PATIENCE)
+    want("the end", (ran.returncode, ran.stdout, ran.stderr), (0, b"version 1\nbad 2 word\n", b""))
+    want("the journal", bytes_of("kept"), b"journal 2\nmode stay\nentry 0 0 0 1\nagent 0 0,0 2,0\nend 1\n")
+    remove("kept")
+
+
+def maps_that_are_no_plain_files():
+    """A pipe as the map is waited for; a device without an end is a file that is too large."""
+    os.mkfifo("slow")
+    planner = Planner("serve", "--map", "slow")
+    put("slow", bytes_of("m"))
+    planner.ask(b"version\n", b"version 0\n")
+    want("the end", planner.end_all(), (0, b"", b""))
+    remove("slow")
+    is_fault(["serve", "--map", "/dev/zero", "-v"], "can't read /dev/zero\n  more than 1073741824 bytes")
 
 
 def unwaiting(end):
@@ -119,6 +139,6 @@ def faults_on_an_error_stream_that_does_not_wait():
 
 
 def tests():
-    for test in (closed_descriptors, serve_on_streams_that_do_not_wait, host_on_streams_that_do_not_wait,
-                 faults_on_an_error_stream_that_does_not_wait):
+    for test in (closed_descriptors, closed_error_of_a_session, maps_that_are_no_plain_files, serve_on_streams_that_do_not_wait,
+                 host_on_streams_that_do_not_wait, faults_on_an_error_stream_that_does_not_wait):
         yield test.__name__, test

@@ -13,7 +13,7 @@ import time
 
 from .growing import growths_apart, leave, settle
 from .hosting import Hosted
-from .running import PATIENCE, Planner, Wrong, bytes_of, is_answered, is_fault, is_run, put, remove, run, start, want
+from .running import PATIENCE, Planner, Program, Wrong, as_user, bytes_of, is_answered, is_fault, is_run, put, remove, run, start, want
 from .texts import ADD, FILES, JOURNAL, ONE_ENTRY
 
 WORDS = ["serve", "--map", "m", "--save"]
@@ -217,7 +217,7 @@ def one_of_those_that_saved(rounds, killing):
 
 
 def saved_at_once():
-    one_of_those_that_saved(60, False)
+    one_of_those_that_saved(100, False)
 
 
 def saved_at_once_and_killed():
@@ -285,8 +285,24 @@ def never_to_be_saved():
                              (long, "File name too long (os error 36)"), ("/proc/journal", "No such file or directory (os error 2)")):
             is_fault([*WORDS, name, "-v"], f"can't write {name}\n  {reason}", ADD)
             is_fault(["host", "--map", "m", "--save", name, "nobody"], f"can't write {name}", ADD)
-        is_answered([*WORDS, long[:240]], ADD, "version 1\n")
-        want("the files", rest(), [long[:240]])
+        for size in (244, 252, 255):
+            is_fault([*WORDS, "n" * size, "-v"], f"can't write {'n' * size}\n  File name too long (os error 36)", ADD)
+        is_answered([*WORDS, long[:243]], ADD, "version 1\n")
+        want("the files", rest(), [long[:243]])
+
+
+def folder_that_takes_no_file():
+    """One who may write no file in the folder is told before a line is read; the file is as it was."""
+    with in_a_folder() as here:
+        shutil.copy2(Program.path, "desk"), put("kept", ONE_ENTRY), put("nobody.in", b"")
+        os.chmod("desk", 0o755), os.chmod("m", 0o644), os.chmod(here, 0o555)
+
+        for words in (WORDS, ["host", "--map", "m", "nobody", "--save"]):
+            ran = subprocess.run(["./desk", *words, "kept", "-v"], input=ADD, capture_output=True, timeout=PATIENCE, preexec_fn=as_user)
+            fault = b"mapf_desk: can't write kept\n  Permission denied (os error 13)\n"
+            want("the end", (ran.returncode, ran.stdout, ran.stderr), (2, b"", fault))
+        os.chmod(here, 0o755)
+        want("the file", bytes_of("kept"), ONE_ENTRY)
 
 
 def permissions_stay():
@@ -363,7 +379,7 @@ def room_of(size):
 
 
 def saved_in_any_room():
-    """A host is given room that lessens: each commit of the operator that was answered is in the journal, unless the program was
+    """A host is given room that lessens: each commit of the operator that was answered is in the journal, also where the program was
     killed; the save takes no memory of its own."""
     lines = b"agent 0 0,0 2,0\n" + b"".join(b"path 0 %s\n" % b" ".join([b"0,0"] * (it * 40 + 1)) for it in range(60))
     saved = 0
@@ -374,6 +390,7 @@ def saved_in_any_room():
             remove("kept")
             status, said, complained = run(["host", "--map", "m", "--save", "kept", "x", "y"], lines, preexec_fn=room_of(size << 10))
             if status < 0 or status == 127:
+                want(f"what was answered in room of {size} KiB, and then lost", said, "")
                 continue
             accepted = said.count("version ")
             if os.path.exists("kept"):
@@ -388,6 +405,6 @@ def saved_in_any_room():
 def tests():
     for test in (in_use_by_another_session, in_use_by_a_host, names_alike_are_apart, folder_that_another_has_locked,
                  held_before_the_journal_is_read, saved_at_once, saved_at_once_and_killed, files_of_others, left_by_killed_sessions,
-                 never_to_be_saved, permissions_stay, kept_beside_a_folder, kept_beside_what_came_since, saved_with_no_page_more,
+                 never_to_be_saved, folder_that_takes_no_file, permissions_stay, kept_beside_a_folder, kept_beside_what_came_since, saved_with_no_page_more,
                  saved_by_a_host_with_no_page_more, saved_in_any_room):
         yield test.__name__, test

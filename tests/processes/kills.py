@@ -6,10 +6,19 @@ import signal
 import subprocess
 import time
 
+from .hosting import Hosted
 from .running import PATIENCE, Planner, bytes_of, is_run, put, remove, run, start, want
 from .texts import JOURNAL, ONE_ENTRY
 
 LAST = re.compile(rb"^end (\d+)\n\Z", re.MULTILINE)
+
+
+SIGNALS = (signal.SIGTERM, signal.SIGINT, signal.SIGHUP, signal.SIGQUIT, signal.SIGKILL)
+
+
+def without_core():
+    """What is started leaves no picture of its memory behind."""
+    resource.setrlimit(resource.RLIMIT_CORE, (0, 0))
 
 
 def stopped():
@@ -23,13 +32,32 @@ def stopped():
 def killed():
     """A session that is killed leaves the file as it was."""
     put("kept", JOURNAL)
-    for how in (signal.SIGTERM, signal.SIGINT, signal.SIGKILL):
-        planner = Planner("serve", "--map", "m", "--scen", "s", "--agents", "1", "--journal", "kept", "--save", "kept")
+    for how in SIGNALS:
+        words = ["serve", "--map", "m", "--scen", "s", "--agents", "1", "--journal", "kept", "--save", "kept"]
+        planner = Planner(*words, preexec_fn=without_core)
         planner.ask(b"version\n", b"version 1\n")
         planner.ask(b"drop 0\n", b"version 2\n")
         planner.process.send_signal(how)
         want("the end", planner.end(), (-how, b""))
         want("the file", bytes_of("kept"), JOURNAL)
+    want("what is left", left(), [".kept.0.mapf-new"])
+    is_run(["serve", "--map", "m", "--save", "kept"], b"", (0, "", ""))
+    want("what is left behind the next session", left(), [])
+    remove("kept")
+
+
+def killed_host():
+    """A host that is killed leaves the file as it was, whatever its planners have committed."""
+    put("kept", ONE_ENTRY)
+    for how in SIGNALS:
+        with Hosted(["east"], "--journal", "kept", "--save", "kept", preexec_fn=without_core) as hosted:
+            east, = hosted.seats()
+            east.ask(b"drop 0", b"version 2")
+            hosted.operator.process.send_signal(how)
+            want("the end", hosted.end(), (-how, b"", b""))
+            want("what the planner hears", east.hear(), None)
+            east.close()
+        want("the file", bytes_of("kept"), ONE_ENTRY)
     want("what is left", left(), [".kept.0.mapf-new"])
     is_run(["serve", "--map", "m", "--save", "kept"], b"", (0, "", ""))
     want("what is left behind the next session", left(), [])
@@ -92,5 +120,5 @@ def killed_within_a_write():
 
 
 def tests():
-    for test in (stopped, killed, killed_while_saving, killed_within_a_write):
+    for test in (stopped, killed, killed_host, killed_while_saving, killed_within_a_write):
         yield test.__name__, test

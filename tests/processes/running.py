@@ -8,6 +8,7 @@ import time
 
 TOP = os.path.dirname(os.path.dirname(os.path.dirname(os.path.abspath(__file__))))
 PATIENCE = int(os.environ.get("PATIENCE", 60))  # seconds that one run may take
+USER = os.geteuid() or 61234  # root may do all and has no limit of threads, so one who runs nothing else stands for it
 
 
 def processor_time():
@@ -107,6 +108,12 @@ def room_for(size):
         yield
     finally:
         resource.setrlimit(resource.RLIMIT_FSIZE, (soft, hard))
+
+
+def as_user():
+    """What is started runs as that user."""
+    if USER != os.geteuid():
+        os.setgroups([]), os.setgid(USER), os.setuid(USER)
 
 
 class Planner:

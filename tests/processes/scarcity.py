@@ -8,7 +8,7 @@ import subprocess
 
 from .comings import make_pipes, remove_pipes
 from .hosting import Hosted, Seat
-from .running import PATIENCE, Program, Wrong, bytes_of, is_answered, is_run, put, remove, run, want
+from .running import PATIENCE, USER, Program, Wrong, as_user, bytes_of, is_answered, is_run, put, remove, run, want
 
 MOST_LINE = 4 << 20  # bytes, the LF among them
 MANY = [f"p{number}" for number in range(1, 256)]
@@ -132,9 +132,6 @@ def levels_of_memory():
     remove("kept", "wide", *(f"{name}.{end}" for name in MANY for end in ("in", "out")))
 
 
-USER = os.geteuid() or 61234  # who has a limit of threads; root has none, so one who runs nothing else stands for it
-
-
 def threads_of(user):
     """How many threads that user has."""
     count = 0
@@ -158,8 +155,7 @@ def no_thread():
     most = threads_of(USER) + 10
 
     def limit():
-        if USER != os.geteuid():
-            os.setgroups([]), os.setgid(USER), os.setuid(USER)
+        as_user()
         resource.setrlimit(resource.RLIMIT_NPROC, (most, most))
 
     words = ["./desk", "host", "--map", "m", "--save", "kept", "--wait", "2", *names]
