@@ -6,7 +6,9 @@ import subprocess
 import threading
 import time
 
+from .comings import make_pipes
 from .growing import unheard
+from .hosting import Seat
 from .running import PATIENCE, Planner, Program, bytes_of, is_fault, put, remove, start, want
 
 
@@ -35,6 +37,20 @@ def closed_descriptors():
         want(f"the journal with {closed}", bytes_of("kept"), b"journal 2\nmode stay\nend 0\n")
         remove("kept")
     without_files(names)
+
+
+def closed_input_of_a_host():
+    """Each entry has its planner's number where standard input is closed at the start: no pipe gets its place."""
+    names = ["east", "west"]
+    make_pipes(*names)
+    host = subprocess.Popen(["sh", "-c", 'exec "$0" host --map m --save kept east west <&-', Program.path], stdout=subprocess.PIPE)
+    east, west = [Seat(name) for name in names]
+    east.ask(b"agent 1 0,0 2,0", b"version 1"), west.ask(b"agent 2 2,0 0,0", b"version 2")
+    east.close(), west.close()
+    want("standard output", host.communicate(timeout=PATIENCE)[0], b"audit same\n")
+    entries = b"entry 1 0 0 1\nagent 1 0,0 2,0\nentry 2 1 0 1\nagent 2 2,0 0,0\n"
+    want("the journal", bytes_of("kept"), b"journal 2\nmode stay\n" + entries + b"end 2\n")
+    remove("kept"), without_files(names)
 
 
 def closed_error_of_a_session():
@@ -139,6 +155,6 @@ def faults_on_an_error_stream_that_does_not_wait():
 
 
 def tests():
-    for test in (closed_descriptors, closed_error_of_a_session, maps_that_are_no_plain_files, serve_on_streams_that_do_not_wait,
-                 host_on_streams_that_do_not_wait, faults_on_an_error_stream_that_does_not_wait):
+    for test in (closed_descriptors, closed_input_of_a_host, closed_error_of_a_session, maps_that_are_no_plain_files,
+                 serve_on_streams_that_do_not_wait, host_on_streams_that_do_not_wait, faults_on_an_error_stream_that_does_not_wait):
         yield test.__name__, test

@@ -37,12 +37,22 @@ def two_names_of_one_pair():
                 os.close(keeps)
     remove_pipes("a", "link", "hard", "crossed")
     with Hosted(["east"]) as hosted:
-        want("a second host", run(["host", "--map", "m", "./east"]), (2, "", "mapf_desk: ./east: in use\n"))
         [east] = hosted.seats()
+        east.ask(b"version", b"version 0")
+        want("a second host", run(["host", "--map", "m", "./east"]), (2, "", "mapf_desk: ./east: in use\n"))
         east.ask(b"version", b"version 0")
         east.close()
         hosted.ends(*AUDITED)
 
 
+def odd_name_of_a_pair():
+    """A pair that is in use is told in one line, whatever its name."""
+    make_pipes("e\x1b\nast")
+    told = "mapf_desk: ./e??ast: in use\n"
+    want("a host of two names", run(["host", "--map", "m", "e\x1b\nast", "./e\x1b\nast"]), (2, "", told))
+    remove_pipes("e\x1b\nast")
+
+
 def tests():
-    yield "two_names_of_one_pair", two_names_of_one_pair
+    for test in (two_names_of_one_pair, odd_name_of_a_pair):
+        yield test.__name__, test
