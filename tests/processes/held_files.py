@@ -66,6 +66,23 @@ def in_use_by_another_session():
 RESTS = "agents 1\nagent 0 settle 0 goal no bound 2 gap none\nconflicts 0\nblocked 0\nsum none\nmakespan none\nbounds 2\ngap none\nend\n"
 
 
+# A name of two lines, the second of which commands a terminal, and how it is shown.
+ODD, SHOWN = "k\nx\x1b", "k?x?"
+
+
+def odd_names_in_one_line():
+    """A fault of a file that is in use, or that can't be replaced, is one line, whatever its name."""
+    with in_a_folder():
+        first = Planner(*WORDS, ODD)
+        first.ask(ADD, b"version 1\n")
+        is_fault([*WORDS, ODD], f"can't write {SHOWN}: in use", ADD)
+        is_fault(["host", "--map", "m", "--save", ODD, "nobody"], f"can't write {SHOWN}: in use", ADD)
+        os.mkdir(ODD)
+        fault = f"mapf_desk: can't write {SHOWN}: the journal is in {SHOWN}.0.mapf-kept\n"
+        want("the end", first.end_all(), (2, b"", fault.encode()))
+        want("the journal", bytes_of(f"{ODD}.0.mapf-kept"), ONE_ENTRY)
+
+
 def in_use_by_a_host():
     with in_a_folder():
         with Hosted(["east"], "--save", "kept") as hosted:
@@ -403,7 +420,7 @@ def saved_in_any_room():
 
 
 def tests():
-    for test in (in_use_by_another_session, in_use_by_a_host, names_alike_are_apart, folder_that_another_has_locked,
+    for test in (in_use_by_another_session, odd_names_in_one_line, in_use_by_a_host, names_alike_are_apart, folder_that_another_has_locked,
                  held_before_the_journal_is_read, saved_at_once, saved_at_once_and_killed, files_of_others, left_by_killed_sessions,
                  never_to_be_saved, folder_that_takes_no_file, permissions_stay, kept_beside_a_folder, kept_beside_what_came_since, saved_with_no_page_more,
                  saved_by_a_host_with_no_page_more, saved_in_any_room):

@@ -90,10 +90,10 @@ pub enum Fault {
     #[error("can't write {}", Shown(*.file))]
     CannotWrite { file: &'static str },
     /// Another session is to save its journal in that file.
-    #[error("can't write {file}: in use")]
+    #[error("can't write {}: in use", Shown(*.file))]
     InUse { file: &'static str },
     /// The file can't be replaced by the desk's journal, which is whole in another one.
-    #[error("can't write {file}: the journal is in {kept}")]
+    #[error("can't write {}: the journal is in {}", Shown(*.file), Shown(.kept.as_str()))]
     Kept { file: &'static str, kept: String },
     #[error("{0}")]
     Run(RunFault),
