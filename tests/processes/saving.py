@@ -1,10 +1,12 @@
 """What a session saves, and what is left where a save fails."""
+import itertools
 import os
 import resource
 import shutil
 import signal
+import subprocess
 
-from .running import Planner, bytes_of, is_answered, is_fault, is_run, put, remove, run, want
+from .running import PATIENCE, TOP, Planner, Program, bytes_of, is_answered, is_fault, is_run, put, remove, run, want
 from .texts import ADD, ARRIVED, COMMITS, FILES, JOURNAL, LEFT, MAP, MEETING, ONE_ENTRY
 
 
@@ -103,23 +105,56 @@ def small_disk():
     resource.setrlimit(resource.RLIMIT_FSIZE, (20, 20))
 
 
+# Where a journal is kept that can't be written beside its file, in this order.
+FOLDERS = ["/tmp", "/var/tmp", "/dev/shm"]
+NUMBERS = itertools.count()
+
+
+def own_name(name):
+    """A name that no other file has, in those folders too."""
+    return f"{name}{os.getpid()}-{next(NUMBERS)}"
+
+
+def kept_in(folder, name, number=0):
+    """The file that has the journal of a file of that name there."""
+    return f"{folder}/{name}.{number}.mapf-kept"
+
+
 def not_saved_on_a_full_disk():
-    """The file is as it was, and nothing of the new one is left. Where the session has a fault too, both are told."""
-    put("kept", JOURNAL)
-    words = ["serve", "--map", "m", "--save", "kept"]
-    is_fault(words, "can't write kept", ADD, "version 1\n", preexec_fn=small_disk)
-    want("the file", bytes_of("kept"), JOURNAL)
-    want("what is left", [it for it in os.listdir() if "mapf" in it], [])
+    """The file is as it was, and nothing of the new one is left, where no folder takes it. Where the session has a fault too, both are
+    told."""
+    kept = own_name("kept")
+    put(kept, JOURNAL)
+    words = ["serve", "--map", "m", "--save", kept]
+    is_fault(words, f"can't write {kept}", ADD, "version 1\n", preexec_fn=small_disk)
+    want("the file", bytes_of(kept), JOURNAL)
+    want("what is left", [it for folder in (".", *FOLDERS) for it in os.listdir(folder) if kept in it], [kept])
     _, _, complained = run([*words, "-v"], ADD, preexec_fn=small_disk)
     large, full = "  File too large (os error 27)\n", "  No space left on device (os error 28)\n"
-    want("standard error", complained, "mapf_desk: can't write kept\n" + large)
+    want("standard error", complained, f"mapf_desk: can't write {kept}\n" + large)
     for flag, first, second in (([], "", ""), (["-v"], full, large)):
         with open("/dev/full", "wb") as device:
             status, _, complained = run([*words, *flag], ADD, stdout=device, preexec_fn=small_disk)
-        want("standard error", complained, f"mapf_desk: write failed\n{first}mapf_desk: can't write kept\n{second}")
+        want("standard error", complained, f"mapf_desk: write failed\n{first}mapf_desk: can't write {kept}\n{second}")
         want("the status", status, 2)
-    want("the file", bytes_of("kept"), JOURNAL)
-    remove("kept")
+    want("the file", bytes_of(kept), JOURNAL)
+    remove(kept)
+
+
+def limit_of_files_is_told():
+    """`./desk` ignores the signal that ends who writes more than a limit of the size of files lets: the save fails, and that is told."""
+    kept = own_name("kept")
+    os.makedirs("top/tools"), os.makedirs("top/crates/mapf_desk/out")
+    shutil.copy2(f"{TOP}/desk", "top/desk")
+    put("top/tools/sources", b"#!/bin/sh\necho these\n"), put("top/crates/mapf_desk/out/mapf_desk.sources", b"these\n")
+    os.chmod("top/tools/sources", 0o755), os.symlink(Program.path, "top/crates/mapf_desk/out/mapf_desk")
+    lines = ADD + b"goal 0 1,0\n" * 1999
+    shell = f"ulimit -f 1; exec top/desk serve --map m --save {kept}"
+    ran = subprocess.run(["bash", "-c", shell], input=lines, capture_output=True, timeout=PATIENCE)
+    want("standard error", ran.stderr, f"mapf_desk: can't write {kept}\n".encode())
+    want("the end", (ran.returncode, ran.stdout), (2, b"".join(b"version %d\n" % it for it in range(1, 2001))))
+    want("what is left", [it for folder in (".", *FOLDERS) for it in os.listdir(folder) if kept in it], [])
+    shutil.rmtree("top")
 
 
 def not_saved_where_the_file_became_a_folder():
@@ -132,13 +167,19 @@ def not_saved_where_the_file_became_a_folder():
     os.rmdir("folder"), remove("folder.0.mapf-kept")
 
 
-def not_saved_where_the_folder_went():
-    os.mkdir("folder")
-    planner = Planner("serve", "--map", "m", "--save", "folder/desk", "-v")
+def kept_elsewhere_where_the_folder_went():
+    """The journal is kept in another folder, where nobody else reads it; another's file of that name stays."""
+    name = own_name("desk")
+    other, kept = kept_in(FOLDERS[0], name), kept_in(FOLDERS[0], name, 1)
+    os.mkdir("folder"), put(other, b"precious")
+    planner = Planner("serve", "--map", "m", "--save", f"folder/{name}", "-v")
     planner.ask(ADD, b"version 1\n")
     shutil.rmtree("folder")
-    more = b"  No such file or directory (os error 2)\n"
-    want("the end", planner.end_all(), (2, b"", b"mapf_desk: can't write folder/desk\n" + more))
+    fault = f"mapf_desk: can't write folder/{name}: the journal is in {kept}\n  No such file or directory (os error 2)\n"
+    want("the end", planner.end_all(), (2, b"", fault.encode()))
+    want("the journals", (bytes_of(kept), bytes_of(other)), (ONE_ENTRY, b"precious"))
+    want("the mode", oct(os.stat(kept).st_mode & 0o7777), oct(0o600))
+    remove(kept, other)
 
 
 def saved_in_place_of_a_link():
@@ -165,6 +206,6 @@ def saved_into_a_folder():
 
 def tests():
     for test in (saved, saved_in_another_mode, saved_from_a_map_on_standard_input, not_saved_where_no_session_begins, not_saved_over_another_file,
-                 broken_session_is_saved, saved_after_a_fault, not_saved_on_a_full_disk, not_saved_where_the_file_became_a_folder,
-                 not_saved_where_the_folder_went, saved_in_place_of_a_link, saved_into_a_folder):
+                 broken_session_is_saved, saved_after_a_fault, not_saved_on_a_full_disk, limit_of_files_is_told, not_saved_where_the_file_became_a_folder,
+                 kept_elsewhere_where_the_folder_went, saved_in_place_of_a_link, saved_into_a_folder):
         yield test.__name__, test

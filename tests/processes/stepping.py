@@ -14,6 +14,7 @@ import struct
 
 from .journals import SECOND
 from .kills import is_whole
+from .saving import FOLDERS, kept_in, own_name
 from .running import PATIENCE, Wrong, bytes_of, is_run, put, remove, room_for, start, want
 from .texts import ONE_ENTRY
 
@@ -27,6 +28,7 @@ SAVED = ONE_ENTRY.replace(b"end 1", b"entry 0 1 0 1\ndrop 0\nend 2")
 SAVE = ["make", "write", "sync", "rename", "sync"]
 TEMPORARY, KEPT = ".kept.0.mapf-new", "kept.0.mapf-kept"
 WORDS = ["serve", "--map", "m", "--journal", "kept", "--save", "kept", "-v"]
+ELSEWHERE = ["make", "write", "sync"]  # what is done in another folder
 
 
 def code_of_filter():
@@ -103,14 +105,14 @@ class Stepped:
         return self.process.wait(PATIENCE), out, err
 
 
-def step(at=None, refused=0):
-    """A session saves, and is killed before that call of the save or has it refused. Gives the save's calls and its end."""
+def step(*at, refused=0, words=WORDS):
+    """A session saves, and is killed before that call of the save or has those calls refused. Gives the save's calls and its end."""
     put("kept", ONE_ENTRY)
-    session, seen = Stepped(b"drop 0\n"), []
+    session, seen = Stepped(b"drop 0\n", words), []
     for number, call in session.calls():
         if seen or call == "make":
             seen.append(call)
-        stops = len(seen) - 1 == at and seen[-1:] == [call]
+        stops = len(seen) - 1 in at and seen[-1:] == [call]
         if stops and not refused:
             session.process.kill()
             session.process.wait(PATIENCE)
@@ -150,24 +152,62 @@ def killed_before_each_call():
     remove("kept")
 
 
-# What is done behind a call that is refused, where the fault says that the journal is, and whether there was a session.
-REFUSED = [([], "", False), (["remove"], "", True), (["remove"], "", True), (["make", "rename"], f": the journal is in {KEPT}", True), ([], "", True)]
+# What is done behind a call of a save that is refused, and whether there was a session.
+REFUSED = [([], False), (["remove", *ELSEWHERE], True), (["remove", *ELSEWHERE], True), (["make", "rename"], True), ([], True)]
 
 
 def refused_at_each_call():
-    """A save whose call is refused is told. It leaves the file as it was, and where the journal is whole it is kept; the last call comes
-    too late for that, and the first one before any line is read."""
-    for at, (call, (does, told, served)) in enumerate(zip(SAVE, REFUSED)):
-        seen, ended = step(at, errno.EIO)
-        fault = f"mapf_desk: can't write kept{told}\n  Input/output error (os error 5)\n".encode()
+    """A save whose call is refused is told. It leaves the file as it was, and the journal is kept beside it, or in another folder where it
+    can't be written there; the last call comes too late for that, and the first one before any line is read."""
+    for at, (call, (does, served)) in enumerate(zip(SAVE, REFUSED)):
+        own = own_name("kept")
+        put(own, ONE_ENTRY)
+        seen, ended = step(at, refused=errno.EIO, words=[*WORDS[:-2], own, "-v"])
+        kept = {"rename": f"{own}.0.mapf-kept"}.get(call) or (kept_in(FOLDERS[0], own) if "write" in does else None)
+        told = f": the journal is in {kept}" if kept else ""
+        fault = f"mapf_desk: can't write {own}{told}\n  Input/output error (os error 5)\n".encode()
         want("the end", ended, (2, b"version 2\n" if served else b"", fault))
         want("the calls", (seen[: at + 1], seen[at + 1 :]), (SAVE[: at + 1], does))
-        want(f"the file behind the call {call}", bytes_of("kept"), SAVED if at == len(SAVE) - 1 else ONE_ENTRY)
-        want("what is left", left(), [KEPT] if told else [])
-        if told:
-            want("the journal that is kept", bytes_of(KEPT), SAVED)
-        remove(KEPT)
+        want(f"the file behind the call {call}", bytes_of(own), SAVED if at == len(SAVE) - 1 else ONE_ENTRY)
+        want("what is left", [it for it in os.listdir() if "mapf" in it], [kept] if call == "rename" else [])
+        if kept:
+            want("the journal that is kept", bytes_of(kept), SAVED)
+            remove(kept)
+        remove(own)
     remove("kept")
+
+
+# On a full disk: the calls of a save that are refused, what is done behind the first of them, and the folder that has the journal then.
+MAKES_LESS = ["remove", "make"]
+FULL = [((1,), ["remove", *ELSEWHERE], 0), ((2,), ["remove", *ELSEWHERE], 0), ((1, 3), [*MAKES_LESS, *ELSEWHERE], 1),
+        ((1, 4), [*MAKES_LESS, "write", "remove", *ELSEWHERE], 1), ((1, 5), [*MAKES_LESS, "write", "sync", "remove", *ELSEWHERE], 1),
+        ((1, 3, 4), [*MAKES_LESS, "make", *ELSEWHERE], 2), ((1, 3, 4, 5), [*MAKES_LESS, "make", "make"], None)]
+
+
+def kept_elsewhere_on_a_full_disk():
+    """Where the disk of the file is full, the journal is kept in the first other folder that takes it, and the fault names it; the file is
+    as it was, and nothing else is left anywhere."""
+    full = f"  {os.strerror(errno.ENOSPC)} (os error {errno.ENOSPC})\n"
+    for at, does, folder in FULL:
+        own = own_name("kept")
+        put(own, ONE_ENTRY)
+        seen, ended = step(*at, refused=errno.ENOSPC, words=[*WORDS[:-2], own, "-v"])
+        kept = [kept_in(FOLDERS[folder], own)] if folder is not None else []
+        told = "".join(f": the journal is in {it}" for it in kept)
+        want("the end", ended, (2, b"version 2\n", f"mapf_desk: can't write {own}{told}\n{full}".encode()))
+        want(f"the calls where {at} are refused", seen[at[0] + 1 :], does)
+        want("the file", bytes_of(own), ONE_ENTRY)
+        want("what is left", [it for other in (".", *FOLDERS) for it in found(other, own)], [os.path.basename(it) for it in kept])
+        for file in kept:
+            want("the journal that is kept", bytes_of(file), SAVED)
+            want("its mode", oct(os.stat(file).st_mode & 0o7777), oct(0o600))
+        remove(own, *kept)
+    remove("kept")
+
+
+def found(folder, own):
+    """The files of the program's in that folder that are named after the file."""
+    return [it for it in os.listdir(folder) if own in it and "mapf" in it]
 
 
 def a_writer_that_fails():
@@ -178,7 +218,7 @@ def a_writer_that_fails():
             session = Stepped(b"", [*WORDS, "--scen", "tasks", "--agents", "4"])
         taken = []
         for number, call in session.calls():
-            if call == "remove":
+            if call == "remove" and os.path.exists(TEMPORARY):
                 taken.append(bytes_of(TEMPORARY))
             session.answer(number)
         want("the end", session.end(), (2, b"", b"mapf_desk: can't write kept\n  File too large (os error 27)\n"))
@@ -188,5 +228,5 @@ def a_writer_that_fails():
 
 
 def tests():
-    for test in (calls_of_a_save, killed_before_each_call, refused_at_each_call, a_writer_that_fails):
+    for test in (calls_of_a_save, killed_before_each_call, refused_at_each_call, kept_elsewhere_on_a_full_disk, a_writer_that_fails):
         yield test.__name__, test

@@ -1,6 +1,6 @@
 //! A file is held by one session at a time, from before its first line to the save.
 use crate::named_files::NamedFile;
-use crate::naming::{ENDING, split};
+use crate::naming::{ENDING, is_file, split};
 use crate::system::SystemFile;
 use crate::system_temporary::SystemTemporary;
 use std::fs::{File, TryLockError};
@@ -121,9 +121,8 @@ fn is_temporary(name: &str, begins: &str) -> bool {
 // Whether a session has locked that temporary file; if none has, it is removed. Nothing else of that
 // name is touched.
 fn is_locked<R: Files<File = File>>(rt: &R, path: &str) -> Done<bool> {
-    match fs::symlink_metadata(rt, path) {
-        Ok(there) if there.is_file() => {}
-        _ => return Ok(false),
+    if !is_file(rt, path) {
+        return Ok(false);
     }
     let opened = match fs::open(rt, path) {
         Ok(opened) => opened,

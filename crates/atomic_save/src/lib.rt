@@ -3,6 +3,7 @@
 #![tactic(auto)]
 
 mod documents;
+mod elsewhere;
 mod holding;
 mod memory;
 mod named_files;

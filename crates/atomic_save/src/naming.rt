@@ -11,6 +11,9 @@ pub(crate) const ENDING: &str = ".mapf-new";
 /// How the name of one that is kept ends; it isn't hidden.
 pub(crate) const KEPT_ENDING: &str = ".mapf-kept";
 
+/// The most names that are tried for a new file.
+pub(crate) const MOST_NAMES: u32 = 1_000;
+
 /// The permissions of a new file, but for those that the process's mask takes away.
 pub(crate) const NEW_MODE: u32 = 0o666;
 
@@ -23,6 +26,14 @@ pub(crate) fn split(file: &str) -> (&str, &str) {
             file.get(end.saturating_add(1)..).unwrap_or(""),
         ),
         None => ("", file),
+    }
+}
+
+/// Whether a file has that name, and no link.
+pub(crate) fn is_file<R: Files<File = File>>(rt: &R, path: &str) -> bool {
+    match fs::symlink_metadata(rt, path) {
+        Ok(there) => there.is_file(),
+        Err(_) => false,
     }
 }
 

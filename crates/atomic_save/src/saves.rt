@@ -10,7 +10,7 @@ use crate::temporary_files::{FileFailed, TemporaryFile};
 /// How far a save came that failed.
 #[derive(Clone, Copy, Debug, PartialEq, Eq)]
 pub enum SaveError {
-    /// The document isn't whole on the disk; what was written of it is removed.
+    /// The document isn't whole on the disk beside the file; what was written of it there is removed.
     NotWritten,
     /// It is whole on the disk, and hasn't the file's name.
     NotRenamed,
@@ -50,8 +50,11 @@ pub fn save<T: TemporaryFile, F: NamedFile<T>, D: Document>(
     }
 }
 
-// Writes the document into the file, and puts that onto the disk.
-fn write_whole<T: TemporaryFile, D: Document>(document: &D, file: T) -> (T, Result<(), FileFailed>)
+/// Writes the document into the file, and puts that onto the disk.
+pub(crate) fn write_whole<T: TemporaryFile, D: Document>(
+    document: &D,
+    file: T,
+) -> (T, Result<(), FileFailed>)
     ensures bytes { OnOk result.1 (Appends (T.written file) (T.written result.0) (D.bytes document.now)) }
     ensures kept { OnOk result.1 (IfSome (T.written result.0) (λ bytes. Only (Some bytes) (T.may_keep result.0))) }
     ensures failed { T.has_failed result.0 ≡ (T.has_failed file || is_err result.1) }

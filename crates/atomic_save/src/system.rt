@@ -1,18 +1,20 @@
 //! The system's files. Std says nothing of what they hold, so nothing is claimed of that here.
 ghost use Rattle.std.specs.Prelude.{◌≡◌, ◌||◌, is_err, false, None, ⊤};
 
+use crate::documents::Document;
+use crate::elsewhere::keep_elsewhere;
 use crate::named_files::NamedFile;
-use crate::naming::{ENDING, KEPT_ENDING, NEW_MODE, is_renamed_anew, new_file, split};
+use crate::naming::{
+    ENDING, KEPT_ENDING, MOST_NAMES, NEW_MODE, is_file, is_renamed_anew, new_file, split,
+};
 use crate::system_temporary::SystemTemporary;
 use crate::temporary_files::FileFailed;
 use std::fs;
-use std::fs::{File, Permissions, TryLockError};
+use std::fs::{File, Permissions};
 use std::io::{BufWriter, Error, ErrorKind, Result as Done};
+use std::mem::swap;
 use std::os::unix::fs::PermissionsExt;
 use std::rt::Files;
-
-/// The most names that are tried for a temporary file.
-const MOST_NAMES: u32 = 1_000;
 
 /// A file of the system by its name, with its folder.
 #[derive(Drop)]
@@ -23,7 +25,7 @@ pub struct SystemFile<R: Files<File = File> + AllocGlobal + Drop> {
     permissions: Option<Permissions>,
     temporary: String,
     kept: String,
-    is_kept: bool,
+    is_left: bool,
     failed: bool,
     why: Option<Error>,
 }
@@ -45,7 +47,7 @@ impl<R: Files<File = File> + AllocGlobal + Drop> SystemFile<R> {
             permissions,
             temporary: String::new(rt.alloc()),
             kept: String::new(rt.alloc()),
-            is_kept: false,
+            is_left: false,
             failed: false,
             why: None,
         })
@@ -98,11 +100,7 @@ impl<R: Files<File = File> + AllocGlobal + Drop> SystemFile<R> {
 
     // Locks a new temporary file, gives it the file's permissions, and makes its buffer.
     fn locked(&self, file: File) -> Done<SystemTemporary> {
-        match file.try_lock() {
-            Ok(()) => {}
-            Err(TryLockError::WouldBlock) => return Err(ErrorKind::WouldBlock.into()),
-            Err(TryLockError::Error(why)) => return Err(why),
-        }
+        file.try_lock()?;
         if let Some(permissions) = &self.permissions {
             if file.metadata()?.permissions().mode() & 0o7777 != self.mode() {
                 file.set_permissions(Permissions::from_mode(permissions.mode()))?;
@@ -125,16 +123,15 @@ impl<R: Files<File = File> + AllocGlobal + Drop> SystemFile<R> {
         }
     }
 
-    /// Where the temporary file is that couldn't get the file's name, if it is there, and the system's
-    /// reason for that.
-    pub fn into_kept(self) -> (Option<String>, Option<Error>) {
-        if self.is_kept {
-            return (Some(self.kept), self.why);
+    /// Where the document is that a save couldn't give the file's name, and the system's reason for
+    /// that: in the temporary file, under this or another name, or where it isn't there in a file of
+    /// another folder, which is written now; none where no folder takes it.
+    pub fn into_kept<D: Document>(self, document: &D) -> (Option<String>, Option<Error>) {
+        if self.is_left {
+            return (Some(self.temporary), self.why);
         }
-        match fs::symlink_metadata(&self.rt, self.temporary.as_str()) {
-            Ok(there) if there.is_file() => (Some(self.temporary), self.why),
-            _ => (None, self.why),
-        }
+        let kept = keep_elsewhere(&self.rt, self.file.as_str(), document);
+        (kept, self.why)
     }
 }
 
@@ -175,7 +172,10 @@ impl<R: Files<File = File> + AllocGlobal + Drop> NamedFile<SystemTemporary> for 
     fn rename(&mut self, file: SystemTemporary) -> Result<(), FileFailed> {
         let done = fs::rename(&self.rt, self.temporary.as_str(), self.file.as_str());
         if done.is_err() {
-            self.is_kept = is_renamed_anew(&self.rt, self.temporary.as_str(), self.kept.as_str());
+            if is_renamed_anew(&self.rt, self.temporary.as_str(), self.kept.as_str()) {
+                swap(&mut self.temporary, &mut self.kept);
+            }
+            self.is_left = is_file(&self.rt, self.temporary.as_str());
         }
         // (until here it is open, and so locked)
         let (failed, _) = file.into_fault();

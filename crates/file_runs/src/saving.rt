@@ -5,7 +5,7 @@ ghost use Rattle.file_runs.specs.Ends.{IsUnsaved, IsUnsavedIn};
 use atomic_save::{SaveError, SystemFile};
 use desk_core::Desk;
 use desk_io::{HeldFile, More};
-use single_runs::save_journal;
+use single_runs::{DeskJournal, save_journal};
 use solver_check::Fault;
 use std::fs::File;
 use std::io::Error;
@@ -16,8 +16,8 @@ use std::rt::Files;
 ///
 /// # Errors
 ///
-/// It can't be saved, and why: the file is then as it was. Where the journal could be written whole, it
-/// is kept in another file.
+/// It can't be saved, and why: the file is then as it was. Where the journal can be written whole in
+/// another file, also in another folder, it is kept there.
 pub fn save_held<R: Files<File = File> + AllocGlobal + Drop>(
     rt: &R,
     desk: &Desk,
@@ -37,7 +37,7 @@ pub fn save_held<R: Files<File = File> + AllocGlobal + Drop>(
     } = held;
     let (fault, why) = match save_journal(desk, &mut named, temporary) {
         Ok(()) => return Ok(()),
-        Err(why) => unsaved(named, file, why),
+        Err(why) => unsaved(desk, named, file, why),
     };
     if let Some(why) = why {
         more.reason(rt.alloc(), &why);
@@ -47,6 +47,7 @@ pub fn save_held<R: Files<File = File> + AllocGlobal + Drop>(
 
 // Why the journal isn't in the file: the fault, and the system's reason.
 fn unsaved<R: Files<File = File> + AllocGlobal + Drop>(
+    desk: &Desk,
     named: SystemFile<R>,
     file: &'static str,
     why: SaveError,
@@ -54,19 +55,21 @@ fn unsaved<R: Files<File = File> + AllocGlobal + Drop>(
     ensures { IsUnsaved file.now result.0 }
 {
     match why {
-        SaveError::NotRenamed => kept(named, file),
-        _ => (Fault::CannotWrite { file }, named.into_reason()),
+        SaveError::NotDurable => (Fault::CannotWrite { file }, named.into_reason()),
+        _ => kept(desk, named, file),
     }
 }
 
-// The journal that couldn't get the file's name: the fault, and the system's reason.
+// The journal that couldn't get the file's name, or be written beside it: the fault, and the system's
+// reason.
 fn kept<R: Files<File = File> + AllocGlobal + Drop>(
+    desk: &Desk,
     named: SystemFile<R>,
     file: &'static str,
 ) -> (Fault, Option<Error>)
     ensures { IsUnsaved file.now result.0 }
 {
-    let (kept, why) = named.into_kept();
+    let (kept, why) = named.into_kept(&DeskJournal { desk });
     match kept {
         Some(kept) => (Fault::Kept { file, kept }, why),
         None => (Fault::CannotWrite { file }, why),

@@ -20,5 +20,5 @@ pub use drawing::run_draw;
 pub use laws::saved_desks_come_back;
 pub use opening::open_desk;
 pub use paging::run_page;
-pub use saving::{save_desk, save_journal};
+pub use saving::{DeskJournal, save_desk, save_journal};
 pub use serving::{run_serve, serve_desk};

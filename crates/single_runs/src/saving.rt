@@ -48,10 +48,10 @@ pub fn save_journal<T: TemporaryFile, F: NamedFile<T>>(
     save(named, temporary, &DeskJournal { desk })
 }
 
-// The journal of a desk, as it is saved.
+/// The journal of a desk, as it is saved.
 #[derive(Drop)]
-struct DeskJournal<'d> {
-    desk: &'d Desk,
+pub struct DeskJournal<'d> {
+    pub desk: &'d Desk,
 }
 
 impl<'d> Document for DeskJournal<'d> {
