@@ -15,7 +15,7 @@ from wrong_body import refused_by_tests
 TOP = os.path.dirname(os.path.dirname(os.path.abspath(__file__)))
 PROGRAM, READERS = "mapf_desk", "desk_cli"
 # The crates that have wrong bodies which tests refuse, the program and what stands below it.
-CRATES = (PROGRAM, "file_runs", "desk_io", "atomic_save", READERS)
+CRATES = (PROGRAM, "file_runs", "desk_io", "shared_runs", "solver_check", "atomic_save", READERS)
 WRONG, TOLD = "MAPF_DESK_WRONG", "MAPF_DESK_TOLD"
 BEGIN, END = "‹", "›"
 

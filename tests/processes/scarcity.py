@@ -6,7 +6,7 @@ import resource
 import shutil
 import subprocess
 
-from .comings import make_pipes, remove_pipes
+from .comings import AUDITED, make_pipes, remove_pipes
 from .hosting import Hosted, Seat
 from .running import PATIENCE, USER, Program, Wrong, as_user, bytes_of, is_answered, is_run, put, remove, run, want
 
@@ -90,6 +90,35 @@ def many_planners_of_small_stacks():
     remove_pipes(*MANY)
 
 
+def stacks_of(process):
+    """The bytes of what is mapped behind pages that nobody may touch, as the stack of a thread is."""
+    found, guard = [], None
+    with open(f"/proc/{process.pid}/maps") as maps:
+        for line in maps:
+            span, rights = line.split()[:2]
+            first, last = (int(it, 16) for it in span.split("-"))
+            if rights.startswith("rw") and guard == first:
+                found.append(last - first)
+            guard = last if rights.startswith("---") else None
+    return found
+
+
+def stacks_of_sessions():
+    """Each session, the operator's too, has a stack of 1 MiB, and hosting one of 4, whatever size the system gives."""
+    for size in (512 << 10, 2 << 20):
+        with Hosted(["east", "west"], preexec_fn=limited(STACK=size)) as hosted:
+            seats = hosted.seats()
+            for seat in seats:
+                seat.ask(b"version", b"version 0")
+            hosted.operator.ask(b"version\n", b"version 0\n")
+            stacks = stacks_of(hosted.operator.process)
+            # (an allocator may have mapped more of that size)
+            want(f"whether {stacks} has them, where {size} bytes are usual", (stacks.count(1 << 20) >= 3, 4 << 20 in stacks), (True, True))
+            for seat in seats:
+                seat.close()
+            hosted.ends(*AUDITED)
+
+
 def is_whole_where_it_is_saved(status, complained):
     """Each commit that was answered is in the journal, as that planner's, where one was saved; else it is told that it can't be."""
     if not os.path.exists("kept"):
@@ -168,5 +197,5 @@ def no_thread():
 
 
 def tests():
-    for test in (line_too_long, no_end_by_count, many_planners_of_small_stacks, levels_of_memory, no_thread):
+    for test in (line_too_long, no_end_by_count, many_planners_of_small_stacks, stacks_of_sessions, levels_of_memory, no_thread):
         yield test.__name__, test
