@@ -15,7 +15,7 @@ from pkgutil import iter_modules
 sys.dont_write_bytecode = True
 
 import processes
-from processes.running import PATIENCE, TOP, Program, Wrong, put
+from processes.running import PATIENCE, TOP, Program, Wrong, kill_all, put
 from processes.texts import FILES
 
 # The files of processes/ that list tests.
@@ -42,6 +42,7 @@ def passes(name, test):
         test()
         return True
     except (Wrong, OSError, subprocess.SubprocessError) as why:
+        kill_all()
         tell()
         print(f"{name}: FAILED: {why}", flush=True)
         return False

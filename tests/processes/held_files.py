@@ -280,6 +280,10 @@ def files_of_others():
                 is_answered([*WORDS, "kept"], ADD, "version 1\n")
                 want("the file", bytes_of("kept"), ONE_ENTRY)
                 want("what was beside it", {it: state_of(it) for it in rest() if it != "kept"}, before)
+    with in_a_folder():
+        os.rename("m", "plan.new")
+        is_answered(["serve", "--map", "plan.new", "--save", "plan"], ADD, "version 1\n")
+        want("the map and the journal", (bytes_of("plan.new"), bytes_of("plan")), (FILES["m"], ONE_ENTRY))
 
 
 def left_by_killed_sessions():

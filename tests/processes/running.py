@@ -5,6 +5,7 @@ import resource
 import select
 import subprocess
 import time
+import weakref
 
 TOP = os.path.dirname(os.path.dirname(os.path.dirname(os.path.abspath(__file__))))
 PATIENCE = int(os.environ.get("PATIENCE", 60))  # seconds that one run may take
@@ -41,10 +42,21 @@ def want(what, found, right):
         raise Wrong(f"{what} is {found!r:.300}, and not {right!r:.300}")
 
 
+STARTED = weakref.WeakSet()  # the processes that somebody still knows
+
+
 def start(words, **how):
     """The program with those words, over pipes where nothing else is said."""
     pipes = {"stdin": subprocess.PIPE, "stdout": subprocess.PIPE, "stderr": subprocess.PIPE}
-    return subprocess.Popen([Program.path, *words], **{**pipes, **how})
+    process = subprocess.Popen([Program.path, *words], **{**pipes, **how})
+    STARTED.add(process)
+    return process
+
+
+def kill_all():
+    """Kills what a test that failed leaves: without its folder it would save in others."""
+    for process in list(STARTED):
+        process.kill()
 
 
 def run(words, given=b"", **how):
