@@ -50,7 +50,8 @@ Questions: version; report; distance A X,Y; solves KIND.. of vertex, edge, follo
 What solvers call an edge conflict, two agents that change places, is swap; edge is two agents that
 make the same move.
 With --lines 2 also: report A.., of these agents alone; plan A, its goal and path; cell X,Y, open or
-closed; at TIME X,Y, the agents there; wait VERSION SECONDS, the version once it is above that one.
+closed; at TIME X,Y, the agents there; wait VERSION SECONDS, the version once it is above that one;
+try, what a commit would change.
 
 With --save F the journal is in F when the session is over, in place of one that was there: Ctrl-D
 ends it, Ctrl-C kills it and saves nothing. With --journal F the next session goes on from there; both

@@ -9,7 +9,7 @@ pub(crate) const AGENTS_OF_A_PICTURE: Argument = Argument {
 
 pub(crate) const JOURNAL_OF_A_PICTURE: Argument = Argument {
     excluded: &["paths"],
-    help: "A journal, whose entries are committed before the picture",
+    help: "A journal, whose entries are committed first",
     ..JOURNAL
 };
 
