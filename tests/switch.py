@@ -2,9 +2,10 @@
 
 The switch is a variable of the environment, which holds the name of the wrong body that is to run; where none is named
 the program is the right one. A second variable has the program print what its words are read as, in place of obeying
-them, as the program of crates/demo_texts tells it.
+them, as the program of crates/demo_texts tells it. A third has it run a test of crates/test_desks, which makes calls that it doesn't.
 """
 import os
+import re
 import shutil
 import subprocess
 import tempfile
@@ -13,10 +14,10 @@ import time
 from wrong_body import refused_by_tests
 
 TOP = os.path.dirname(os.path.dirname(os.path.abspath(__file__)))
-PROGRAM, READERS = "mapf_desk", "desk_cli"
+PROGRAM, READERS, CALLERS = "mapf_desk", "desk_cli", "test_desks"
 # The crates that have wrong bodies which tests refuse, the program and what stands below it.
-CRATES = (PROGRAM, "file_runs", "desk_io", "shared_runs", "solver_check", "atomic_save", READERS)
-WRONG, TOLD = "MAPF_DESK_WRONG", "MAPF_DESK_TOLD"
+CRATES = (PROGRAM, "file_runs", "desk_io", "atomic_save", READERS, "desk_session", "single_runs", "shared_runs", "solver_check")
+WRONG, TOLD, TRIED = "MAPF_DESK_WRONG", "MAPF_DESK_TOLD", "MAPF_DESK_TRIED"
 BEGIN, END = "‹", "›"
 
 SWITCH = """//! Which wrong body runs.
@@ -37,7 +38,8 @@ pub fn is_wrong(name: &[u8]) -> bool {
 }
 """ % WRONG
 
-# What the program's main function does with its words.
+# Where the program's main function begins, and what it does with its words.
+MAIN = "fn main(host: HostRuntime) -> ExitCode {"
 READS = "    let (words, verbose) = match read_words(alloc, given.leak()) {"
 TELLS = """    let asked = read_words(alloc, given.leak());
     if switch::has(b"%s", b"1") {
@@ -48,6 +50,14 @@ TELLS = """    let asked = read_words(alloc, given.leak());
         return ExitCode::SUCCESS;
     }
     let (words, verbose) = match asked {""" % TOLD
+# A test that takes what it may do, and what it may.
+TEST = re.compile(r"#\[test\]\nfn (\w+)\(rt: HostRuntime\)")
+MAY = "AllocGlobal + std::process::Abort + std::thread::Threads + std::sync::Wait + Sync"
+CALLS = """
+    if switch::has(b"%s", b"%s") {
+        %s(&host);
+        return ExitCode::SUCCESS;
+    }"""
 
 
 def read(path):
@@ -96,20 +106,37 @@ def plant(top, crate):
     write(root, read(root).replace("\nmod ", "\nmod switch;\nmod ", 1))
 
 
-def copy(top):
-    """A copy of the sources, whose program can tell what its words are read as."""
+def row(line, called):
+    """A line of crates.txt, with what wrong bodies call, and in the program's what the tests of CALLERS call."""
+    name, _, below = line.partition(":")
+    more = [it for it in called if it not in below.split()] if name == PROGRAM else []
+    return " ".join([line, "os", *more]) if name in CRATES else line
+
+
+def add(source, files, more):
+    """Adds to the program modules by their files, and to its main function what it does first."""
+    names = [os.path.basename(it).removesuffix(".rt") for it in files]
+    for name, file in zip(names, files):
+        write(f"{source}/{name}.rt", TEST.sub(r"pub fn \1<R: %s>(rt: &R)" % MAY, read(file)).replace("&rt", "rt"))
+    text = read(f"{source}/main.rt")
+    if text.count(READS) != 1 or text.count(MAIN) != 1:
+        raise ValueError("main.rt doesn't read its words as it did")
+    text = text.replace(READS, TELLS).replace(MAIN, MAIN + more)
+    write(f"{source}/main.rt", text.replace("\nmod ", "".join(f"\nmod {it};" for it in names) + "\nmod ", 1))
+
+
+def copy(top, tests):
+    """A copy of the sources, whose program can tell what its words are read as, and run those tests of CALLERS."""
     skip = shutil.ignore_patterns("out", "must-fail")
     shutil.copytree(f"{TOP}/crates", f"{top}/crates", ignore=skip)
     shutil.copy2(f"{TOP}/HANDLES", top)
     lines = read(f"{TOP}/crates.txt").splitlines()
-    write(f"{top}/crates.txt", "".join(f"{it} os\n" if it.split(":")[0] in CRATES else f"{it}\n" for it in lines))
-    source = f"{top}/crates/{PROGRAM}/src"
-    for file in ("telling", "values"):
-        shutil.copy2(f"{top}/crates/demo_texts/src/{file}.rt", source)
-    text = read(f"{source}/main.rt")
-    if text.count(READS) != 1:
-        raise ValueError("main.rt doesn't read its words as it did")
-    write(f"{source}/main.rt", text.replace(READS, TELLS).replace("\nmod ", "\nmod telling;\nmod values;\nmod ", 1))
+    called = next(it for it in lines if it.startswith(f"{CALLERS}:")).split()[1:]
+    write(f"{top}/crates.txt", "".join(f"{row(it, called)}\n" for it in lines))
+    files = [f"{top}/crates/demo_texts/src/{it}.rt" for it in ("telling", "values")]
+    modules = sorted({"build", *(it.partition("::")[0] for it in tests)} if tests else [])
+    files += [f"{top}/crates/{CALLERS}/src/tests/{it}.rt" for it in modules]
+    add(f"{top}/crates/{PROGRAM}/src", files, "".join(CALLS % (TRIED, it, it) for it in tests))
 
 
 def build(top, to):

@@ -3,8 +3,8 @@
 A file NAME.edit has a line `file: src/..`, pairs of lines `old: TEXT` and `new: TEXT`, and what refuses the body that has the one in
 place of the other. In crates/*/must-fail stand those that the checker refuses, where a line `refused at: F` names a function if the
 body changes none. In crates/*/must-fail/by-tests stand those that no contract refuses: `refused by: TEST` names a test of
-tests/program.py, or a line of words of tests/words.txt. There a text may go on in lines `more: TEXT`, and where a part of the old text
-is marked by ‹ and › that part alone is replaced.
+tests/program.py, or by MODULE::TEST one of crates/test_desks, or a line of words of tests/words.txt. There a text may go on in lines
+`more: TEXT`, and where a part of the old text is marked by ‹ and › that part alone is replaced.
 """
 from pathlib import Path
 
@@ -48,3 +48,8 @@ def refused_by_proofs(crate):
 def refused_by_tests(*crates):
     """The wrong bodies of crates (their names) that tests refuse."""
     return [WrongBody(it) for crate in crates for it in sorted((CRATES / crate / BY_TESTS).glob("*.edit"))]
+
+
+def is_called(test):
+    """Whether a test is one of crates/test_desks, which is told by its module."""
+    return "::" in test

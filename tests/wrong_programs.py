@@ -1,5 +1,6 @@
 #!/usr/bin/env python3
-"""Runs wrong bodies of the program, each with the test that is to refuse it: a test of tests/program.py, or a line of words.
+"""Runs wrong bodies of the program, each with the test that is to refuse it: a test of tests/program.py, one of crates/test_desks, or a
+line of words.
 
 wrong_programs.py [NAME..]     all of crates/*/must-fail/by-tests, or those
 All stand in one build that isn't proved, each behind a switch (switch.py). The right program, which is that build with
@@ -15,17 +16,26 @@ import time
 sys.dont_write_bytecode = True
 
 import switch
-from wrong_body import refused_by_tests
+from wrong_body import is_called, refused_by_tests
 
 PATIENCE = "20"  # seconds that one run of the program may take
 
 
-def tried(program, tests, wrong=""):
-    """The last line of those tests of tests/program.py, and what it said before."""
-    words = [sys.executable, f"{switch.TOP}/tests/program.py", program, *tests]
+def tried(program, test, wrong=""):
+    """The last line of a test of tests/program.py, and what it said before."""
+    if is_called(test):
+        return called(program, test, wrong)
+    words = [sys.executable, f"{switch.TOP}/tests/program.py", program, test]
     env = {**os.environ, "PATIENCE": PATIENCE, switch.WRONG: wrong}
     lines = subprocess.run(words, capture_output=True, text=True, env=env).stdout.splitlines()
     return lines[-1] if lines else "", " ".join(lines[:-1])
+
+
+def called(program, test, wrong=""):
+    """The same of a test of crates/test_desks, which ends the program where it fails."""
+    env = {**os.environ, switch.WRONG: wrong, switch.TRIED: test}
+    status = subprocess.run([program], capture_output=True, env=env, stdin=subprocess.DEVNULL).returncode
+    return f"{int(not status)} passed, {int(status != 0)} failed", f"status {status}"
 
 
 def told(program, line, wrong=""):
@@ -38,13 +48,13 @@ def told(program, line, wrong=""):
 def right_program(program, bodies):
     """The tests that the right program fails, each with why."""
     for test in dict.fromkeys(it.test for it in bodies):
-        last, said = tried(program, [test])
+        last, said = tried(program, test)
         yield f"the right program at {test}", "passes", None if last == "1 passed, 0 failed" else said or last
 
 
 def wrong_programs(program, bodies):
     for it in bodies:
-        last, said = tried(program, [it.test], it.name)
+        last, said = tried(program, it.test, it.name)
         yield it.name, f"refused by {it.test}", None if last == "0 passed, 1 failed" else f"{it.test} says {last} {said}"
 
 
@@ -63,7 +73,7 @@ def outcomes(names):
     readers = [it for it in wanted if it.crate == switch.READERS]
     bodies = [it for it in wanted if it.crate != switch.READERS]
     with tempfile.TemporaryDirectory(prefix="desk-") as top:
-        switch.copy(top)
+        switch.copy(top, [it for it in dict.fromkeys(it.test for it in bodies) if is_called(it)])
         for crate in switch.CRATES:
             switch.plant(top, crate)
         program = f"{top}/program"
