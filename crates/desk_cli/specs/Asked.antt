@@ -1,5 +1,5 @@
 -- What the words ask for, by what the parser found in them (this project's choice).
-use Rattle.std.specs.Prelude.{◌≡◌, ◌≢◌, ◌⊎◌, ℕ, List, [], Option, Some, None, false, option_map, unwrap_or, codes}
+use Rattle.std.specs.Prelude.{◌≡◌, ◌≢◌, ◌⊎◌, ℕ, Bool, List, [], Some, None, true, false, option_map, unwrap_or, codes}
 use Rattle.std.specs.Option.{option_copied}
 use Rattle.session_lines.specs.Kinds.{named_kinds}
 use Rattle.session_lines.specs.declared.versions.LinesVersion.{LinesVersion}
@@ -9,7 +9,7 @@ use Rattle.clap.specs.Simple.{subcommand_rows_of}
 use Rattle.clap.specs.Walk.{rows_of}
 use Rattle.clap.specs.declared.parser.matches.ArgMatches.{ArgMatches}
 use Rattle.clap.specs.declared.parser.matches.Found.{Found}
-use Rattle.desk_cli.specs.Values.{number_given, texts_given, texts_in, mode_named, lines_named, form_named, kinds_named}
+use Rattle.desk_cli.specs.Values.{number_given, range_of, texts_given, texts_in, mode_named, lines_named, form_named, kinds_named}
 use Rattle.desk_cli.specs.declared.words.ServeWords.{ServeWords}
 use Rattle.desk_cli.specs.declared.words.AuditWords.{AuditWords}
 use Rattle.desk_cli.specs.declared.words.DrillWords.{DrillWords}
@@ -22,6 +22,12 @@ use Rattle.desk_cli.specs.declared.words.Asked.{Asked}
 use Rattle.desk_cli.specs.declared.words.Asked.TheVariants.{For, Refused, NoMemory}
 use Rattle.plan_table.specs.declared.tracks.Mode.TheVariants.{Stay}
 use Rattle.desk_cli.specs.declared.words.Words.TheVariants.{Version, Serve, Audit, Drill, Host, Check, Draw, Page}
+
+-- whether a flag is given
+pub record IsFlag (found : Found) (name : List ℕ) (flag : Bool) : Type 0 where
+  pub given : one_text found name ≡ Some (codes "true") → flag ≡ true
+  pub left_out : one_text found name ≡ Some (codes "false") → flag ≡ false
+  pub absent : one_text found name ≡ None → flag ≡ false
 
 -- a session's desk, and its version of lines, which is usually that one
 pub record AsksToServe (usual : LinesVersion) (found : Found) (words : ServeWords) : Type 0 where
@@ -65,6 +71,7 @@ pub record AsksToCheck (found : Found) (words : CheckWords) : Type 0 where
   pub paths : words.paths.now ≡ unwrap_or (first_value found (codes "paths")) []
   pub form : words.form ≡ form_named (first_value found (codes "form"))
   pub kinds : words.kinds ≡ kinds_named (option_map raw_values (matched_of found (codes "solves")))
+  pub quiet : IsFlag found (codes "quiet") words.quiet
   pub workers : words.workers ≡ unwrap_or (number_given found (codes "workers")) 4
 
 pub record AsksToDraw (found : Found) (words : DrawWords) : Type 0 where
@@ -75,6 +82,7 @@ pub record AsksToDraw (found : Found) (words : DrawWords) : Type 0 where
   pub journal : option_copied words.journal ≡ first_value found (codes "journal")
   pub paths : option_copied words.paths ≡ first_value found (codes "paths")
   pub at : words.at ≡ number_given found (codes "at")
+  pub shown : words.shown ≡ range_of (unwrap_or (first_value found (codes "agents-shown")) [])
   pub kinds : words.kinds ≡ option_map named_kinds (option_map raw_values (matched_of found (codes "solves")))
 
 pub record AsksToPage (found : Found) (words : PageWords) : Type 0 where
@@ -117,9 +125,21 @@ Asks matches words =
     ⊎ ((one_text (found_of matches) (codes "version") ≢ Some (codes "true"))
     × (AsksInWord matches words ⊎ ((has_subcommand matches ≡ false) × (words ≡ Serve usual_words))))
 
+-- whether the flag for more to be told is given behind the word that the parse met
+abbrev pub IsToldBehind : ArgMatches → Bool → Type 0
+IsToldBehind matches told =
+    ((has_subcommand matches ≡ false) × (told ≡ false))
+    ⊎ ((inner : Found) × (option_map (λ p. p.1) (subcommand_rows_of matches) ≡ Some (rows_of inner)) × IsFlag inner (codes "verbose") told)
+
+-- whether it is given before the word, or else behind it
+abbrev pub IsVerbose : ArgMatches → Bool → Type 0
+IsVerbose matches verbose =
+    (before : Bool) × IsFlag (found_of matches) (codes "verbose") before
+    × (((before ≡ true) × (verbose ≡ true)) ⊎ ((before ≡ false) × IsToldBehind matches verbose))
+
 -- where something is asked for, the matches ask for that
 abbrev pub AsksSo : ArgMatches → Asked → Type 0
-AsksSo matches (For words verbose) = Asks matches words
+AsksSo matches (For words verbose) = Asks matches words × IsVerbose matches verbose
 AsksSo matches (Refused error) = Unit {0}
 AsksSo matches NoMemory = Unit {0}
 

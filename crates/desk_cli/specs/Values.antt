@@ -1,11 +1,13 @@
 -- What the values of options stand for (this project's choice).
-use Rattle.std.specs.Prelude.{ℕ, Bool, true, false, List, [], Option, Some, None, map, option_map, option_and_then, unwrap_or, codes, bytes_eq, if◌then◌else◌}
+use Rattle.std.specs.Prelude.{ℕ, Bool, true, false, ◌==◌, nat_le, List, [], Option, Some, None, map, option_map, option_and_then, unwrap_or, codes, bytes_eq, if◌then◌else◌}
+use Rattle.std.specs.List.{before_first, after_first}
 use Rattle.std.specs.Borrow.{Bor}
 use Rattle.bench_reader.specs.Words.{number_of}
 use Rattle.plan_table.specs.declared.tracks.Mode.{Mode}
 use Rattle.plan_table.specs.declared.tracks.Mode.TheVariants.{Stay, Disappear}
 use Rattle.mapf_rules.specs.declared.kinds.Kinds.{Kinds}
 use Rattle.session_lines.specs.Kinds.{named_kinds}
+use Rattle.session_lines.specs.Values.{agent_of, with_both}
 use Rattle.session_lines.specs.declared.versions.LinesVersion.{LinesVersion}
 use Rattle.session_lines.specs.declared.versions.LinesVersion.TheVariants.{One, Two}
 use Rattle.path_files.specs.declared.forms.Form.{Form}
@@ -52,3 +54,11 @@ classical = record { vertex = true; edge = false; follow = false; swap = true; c
 abbrev pub kinds_named : Option (List (List ℕ)) → Kinds
 kinds_named None = classical
 kinds_named (Some texts) = named_kinds texts
+
+abbrev pub is_hyphen : ℕ → Bool
+is_hyphen byte = byte == 45
+
+-- a range of agents, `A-B`: one stands before the first hyphen, and behind it one that is no less
+abbrev pub range_of : List ℕ → Option (ℕ × ℕ)
+range_of text = option_and_then (λ range. if nat_le range.0 range.1 then Some range else None)
+    (with_both (λ least greatest. (least, greatest)) (agent_of (before_first is_hyphen text)) (agent_of (after_first is_hyphen text)))

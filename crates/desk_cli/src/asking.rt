@@ -1,7 +1,6 @@
 //! What the program's words ask for.
-ghost use Rattle.std.specs.Prelude.{◌≡◌, IfOk, None, Some, codes, false, true};
-ghost use Rattle.clap.specs.Matches.{found_of, has_subcommand, one_text};
-ghost use Rattle.desk_cli.specs.Asked.{Asks, AsksSo};
+ghost use Rattle.std.specs.Prelude.{IfOk};
+ghost use Rattle.desk_cli.specs.Asked.{Asks, AsksSo, IsToldBehind, IsVerbose};
 
 use crate::commands::command;
 use crate::mistakes::{mistake_in, refused};
@@ -23,16 +22,21 @@ fn words_of(alloc: Global, matches: &ArgMatches<'static>) -> Result<Words, Alloc
     }
 }
 
+// Whether the flag for more to be told stands behind the word.
+fn is_told_behind(matches: &ArgMatches<'static>) -> bool
+    ensures { IsToldBehind matches.now result }
+{
+    match matches.subcommand() {
+        Some((_, inner)) => inner.get_flag("verbose"),
+        None => false,
+    }
+}
+
 // Whether more is to be told: the flag stands before the word or behind it.
 fn is_verbose(matches: &ArgMatches<'static>) -> bool
-    ensures before { one_text (found_of matches.now) (codes "verbose") ≡ Some (codes "true") → result ≡ true }
-    ensures none { one_text (found_of matches.now) (codes "verbose") ≡ None → has_subcommand matches.now ≡ false → result ≡ false }
+    ensures { IsVerbose matches.now result }
 {
-    matches.get_flag("verbose")
-        || match matches.subcommand() {
-            Some((_, inner)) => inner.get_flag("verbose"),
-            None => false,
-        }
+    matches.get_flag("verbose") || is_told_behind(matches)
 }
 
 // What the words that were matched ask for.

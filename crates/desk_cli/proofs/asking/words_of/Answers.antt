@@ -1,4 +1,4 @@
-use Rattle.std.proofs.Common.{◌≡◌, ◌≢◌, inl, inr, IfOk, Some, codes, true, false, sym}
+use Rattle.std.proofs.Common.{◌≡◌, ◌≢◌, inl, inr, Some, codes, true, false, sym}
 use Rattle.std.proofs.lemmas.Result.{IfOk-weaker}
 use Rattle.clap.specs.Matches.{found_of, one_text}
 use Rattle.desk_cli.specs.Asked.{Asks, AsksFor}
