@@ -16,14 +16,14 @@ class Function(NamedTuple):
     opening: int  # the line that ends in the brace before its body
     last: int
     is_recursive: bool  # it calls itself by its name
-    is_of_trait: bool  # it stands in a trait or in an impl of one, which say what functions stand there
+    trait: str  # that it stands in or in an impl of, which says what functions stand there
 
 
 class Owner(NamedTuple):
     """A trait, or the type of an impl."""
 
     names: list  # that its functions stand below
-    is_of_trait: bool
+    trait: str  # or none
 
 
 def module_of(file):
@@ -51,17 +51,17 @@ def owner_of(line, module, types):
     """What the functions of an impl or a trait stand in, where the line begins one."""
     trait = TRAIT.match(line)
     if trait:
-        return Owner([*module, trait[1]], True)
+        return Owner([*module, trait[1]], trait[1])
     if not re.match(r"impl\b", line):
         return None
     parts = without_parameters(line.removeprefix("impl")).split(" where ")[0].rstrip("{ ").split(" for ")
     name = head(parts[-1])
     if len(parts) == 1:
         places = types.get(name, [module])
-        return Owner([*(module if module in places else places[0]), name], False)
+        return Owner([*(module if module in places else places[0]), name], "")
     # (what an impl of `From<T>` or `NamedFile<T>` is called has the name of T in it)
     of = re.search(r"<(?:\w+::)*(\w+)", parts[0])
-    return Owner([*module, name + head(parts[0]) + (of[1] if of and head(parts[0]) in ("From", "NamedFile") else "")], True)
+    return Owner([*module, name + head(parts[0]) + (of[1] if of and head(parts[0]) in ("From", "NamedFile") else "")], head(parts[0]))
 
 
 def body_of(lines, first, indent):
@@ -98,8 +98,8 @@ def functions_in(file, text, types):
             opening, at = body_of(lines, first, found[1])
             if opening is not None and not is_test:
                 is_recursive = bool(own_calls(found[2], bool(found[1])).search("\n".join(lines[first + 1 : at])))
-                names, is_of_trait = owner if found[1] else (module, False)
-                yield Function((*names, found[2]), file, first, opening, at, is_recursive, is_of_trait)
+                names, trait = owner if found[1] else (module, "")
+                yield Function((*names, found[2]), file, first, opening, at, is_recursive, trait)
         at += 1
 
 

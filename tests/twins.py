@@ -71,7 +71,7 @@ def twin_of(folder, function, fault, text):
         first -= 1
     # (functions that call each other have one proof)
     is_in_cycle = any("#[cycle" in it for it in lines[first : function.first])
-    if function.is_of_trait or is_in_cycle or has_proofs_elsewhere(folder, function) or is_cited(folder, function):
+    if function.trait or is_in_cycle or has_proofs_elsewhere(folder, function) or is_cited(folder, function):
         return None
     # (no other function has a name in two such parts)
     old, new = function.path[-1], f"{function.path[-1]}__{fault}"

@@ -1,25 +1,33 @@
 -- What the end of a run says, by its words (this project's choice). The system's files say nothing of their bytes.
-use Rattle.std.specs.Prelude.{◌≡◌, ℕ, List, Option, Some, None, Bool}
-use Rattle.std.specs.Option.{option_copied}
+use Rattle.std.specs.Prelude.{◌≡◌, Some, Bool}
+use Rattle.std.specs.Option.{option_copied, option_or}
 use Rattle.desk_cli.specs.declared.words.Words.{Words}
 use Rattle.desk_cli.specs.declared.words.Words.TheVariants.{Version, Serve, Audit, Drill, Host, Check, Draw, Page}
 use Rattle.desk_io.specs.Texts.{untold}
+use Rattle.file_runs.specs.Ends.{HasServed}
 use Rattle.file_runs.specs.Files.{OfFiles}
-use Rattle.file_runs.specs.Runs.{HasChecked}
+use Rattle.file_runs.specs.Runs.{HasAudited, HasChecked, HasDrawn, HasPaged}
 use Rattle.mapf_desk.specs.Drilled.{HasDrilled, OfScripts}
 use Rattle.mapf_desk.specs.Statuses.{answered}
 use Rattle.mapf_desk.specs.declared.statuses.RunEnd.{RunEnd}
 use Rattle.mapf_desk.specs.declared.statuses.RunEnd.TheVariants.{Yes}
 
--- a check ends with its verdict, a drill with whether the reports are the same; what asks no question ends well
+-- the run of the words was done over the texts of their files, each in its place. A check ends with its verdict, a drill with whether the reports are
+-- the same, and what asks no question well
 abbrev pub Ends : Words → RunEnd → Type 0
 Ends Version end = end ≡ Yes
-Ends (Serve words) end = end ≡ Yes
-Ends (Audit words) end = end ≡ Yes
-Ends (Drill words) end = (same : Bool) × (end ≡ answered same) × OfScripts untold words (λ map scen scripts. HasDrilled words map scen scripts same)
+Ends (Serve words) end =
+    (end ≡ Yes)
+    × OfFiles untold (option_copied words.map) (option_copied words.scen) (option_copied words.journal) (HasServed words)
+Ends (Audit words) end =
+    (end ≡ Yes) × OfFiles untold (Some words.map.now) (option_copied words.scen) (option_copied words.journal) (HasAudited words)
+Ends (Drill words) end =
+    (same : Bool) × (end ≡ answered same) × OfScripts untold words (λ map scen scripts. HasDrilled words map scen scripts same)
 Ends (Host words) end = Unit {0}
 Ends (Check words) end =
     (solved : Bool) × (end ≡ answered solved)
     × OfFiles untold (Some words.map.now) (option_copied words.scen) (Some words.paths.now) (λ map scen paths. HasChecked words words.form map scen paths solved)
-Ends (Draw words) end = end ≡ Yes
-Ends (Page words) end = end ≡ Yes
+Ends (Draw words) end =
+    (end ≡ Yes) × OfFiles untold (Some words.map.now) (option_copied words.scen) (option_copied (option_or words.journal words.paths)) (HasDrawn words)
+Ends (Page words) end =
+    (end ≡ Yes) × OfFiles untold (Some words.map.now) (option_copied words.scen) (option_copied (option_or words.journal words.paths)) (HasPaged words)

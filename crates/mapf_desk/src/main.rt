@@ -10,6 +10,7 @@ ghost use Rattle.std.specs.Prelude.{◌≡◌, ◌≢◌, ◌⊎◌, IfErr, IfOk
 ghost use Rattle.std.specs.Process.{exit_status};
 ghost use Rattle.mapf_desk.specs.Answers.{Ends};
 ghost use Rattle.mapf_desk.specs.Questions.{IsQuestion};
+ghost use Rattle.mapf_desk.specs.Statuses.{run_status};
 
 mod drilling;
 mod hosted;
@@ -110,6 +111,21 @@ fn print_line<R: AllocGlobal + Print>(
     }
 }
 
+// The status of a run: that of its end, or that of a fault, which is told.
+fn status_after<R: Eprint>(
+    rt: &R,
+    ended: Result<RunEnd, ProgramFault>,
+    more: &More,
+    verbose: bool,
+) -> ExitCode
+    ensures { exit_status result ≡ run_status ended }
+{
+    match ended {
+        Ok(end) => status_of(end),
+        Err(fault) => tell_more(rt, &fault, more, verbose),
+    }
+}
+
 // Prints the words' own text: help on standard output, a mistake on standard error.
 fn tell_words<R: Print + Eprint>(rt: &R, error: clap::Error) -> ExitCode
     ensures { (exit_status result ≡ 0) ⊎ (exit_status result ≡ FAULT) }
@@ -154,10 +170,8 @@ fn main(host: HostRuntime) -> ExitCode {
     };
     let mut more = More::none();
     let terminal = host.stderr().is_terminal();
-    let status = match obey(&rt, &host, &words, &mut more, verbose, terminal) {
-        Ok(end) => status_of(end),
-        Err(fault) => tell_more(&rt, &fault, &more, verbose),
-    };
+    let ended = obey(&rt, &host, &words, &mut more, verbose, terminal);
+    let status = status_after(&rt, ended, &more, verbose);
     tell_served(&rt, &more);
     status
 }
