@@ -140,7 +140,8 @@ def least_room():
     raise Wrong("the program doesn't begin")
 
 
-LEVELS, MOST_ROOM = 40, 1 << 20  # of address space, in kB
+# of address space, in kB; where many threads ask for memory at once, the C library takes up to 2 GiB of it
+LEVELS, MOST_ROOM = 40, 1 << 22
 
 
 def levels_of_memory():
