@@ -140,12 +140,11 @@ def least_room():
     raise Wrong("the program doesn't begin")
 
 
-# of address space, in kB; where many threads ask for memory at once, the C library takes up to 2 GiB of it
-LEVELS, MOST_ROOM = 50, 1 << 22
+LEVELS, MOST_ROOM = 40, 1 << 20  # of address space, in kB
 
 
 def levels_of_memory():
-    """255 planners in 50 sizes of address space: the host is never ended by a signal, tells what it lacks, and saves what it answered."""
+    """255 planners in 40 sizes of address space: the host is never ended by a signal, tells what it lacks, and saves what it answered."""
     for number, name in enumerate(MANY, 1):
         put(f"{name}.in", agent_of(number) + b"\ngoal %d 0,0\nversion\n" % number)
     put("wide", WIDE)
