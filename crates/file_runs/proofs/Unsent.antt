@@ -1,5 +1,5 @@
 -- A run that failed, or came to its end and did not go out.
-use Rattle.std.proofs.Common.{◌≡◌, ◌⊎◌, inl, inr, ℕ, List, [], Bool, Option, Result, Ok, Err, IfOk, IfErr, OnOk, unwrap_or, refl, sym, subst}
+use Rattle.std.proofs.Common.{◌≡◌, inl, inr, ℕ, List, [], Bool, Option, Result, Ok, Err, IfOk, IfErr, OnOk, unwrap_or, refl, sym, subst}
 use Rattle.std.specs.Borrow.{Bor}
 use Rattle.desk_cli.specs.declared.words.AuditWords.{AuditWords}
 use Rattle.desk_cli.specs.declared.words.CheckWords.{CheckWords}

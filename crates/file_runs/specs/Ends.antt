@@ -13,6 +13,7 @@ use Rattle.desk_commits.specs.State.{DeskState}
 use Rattle.desk_commits.specs.declared.limits.TheConstants.{MOST_ENTRIES}
 use Rattle.single_runs.specs.Sittings.{Sits}
 use Rattle.single_runs.specs.Opened.{OpensDesk, IsDeskFault}
+use Rattle.single_runs.specs.Saved.{saved_text}
 use Rattle.desk_cli.specs.declared.words.ServeWords.{ServeWords}
 use Rattle.desk_cli.specs.declared.words.HostWords.{HostWords}
 use Rattle.desk_io.specs.Texts.{IsUnready}
@@ -70,9 +71,23 @@ IsUnsaved file other = ⊥
 abbrev pub IsUnsavedIn : Option (List ℕ) → Fault → Type 0
 IsUnsavedIn file fault = (name : List ℕ) × (file ≡ Some name) × IsUnsaved name fault
 
--- a session over the texts of the files had no fault
-abbrev pub HasServed : ServeWords → (map scen journal : Option (List ℕ)) → Type 0
-HasServed words map scen journal = (left : Option (List ℕ)) × (desk : DeskState) × IsLeft words map scen journal left (Some desk) None
+-- which files were saved with which bytes
+abbrev pub Savings : Type 1
+Savings = (file text : List ℕ) → Type 0
+
+-- the system tells of no save
+abbrev pub unsaid : Savings
+unsaid file text = Unit {0}
+
+-- the desk's journal was saved in that file, where one is named
+abbrev pub IsSavedIn : Savings → Option (List ℕ) → DeskState → Type 0
+IsSavedIn has_saved None desk = Unit {0}
+IsSavedIn has_saved (Some file) desk = has_saved file (saved_text desk)
+
+-- a session over the texts of the files had no fault, and the journal of the desk that it left was saved where the words say
+abbrev pub HasServed : Savings → ServeWords → (map scen journal : Option (List ℕ)) → Type 0
+HasServed has_saved words map scen journal =
+    (left : Option (List ℕ)) × (desk : DeskState) × IsLeft words map scen journal left (Some desk) None × IsSavedIn has_saved (option_copied words.save) desk
 
 -- it had that fault, or ended without one and was then not saved
 abbrev pub HasServeFault : ServeWords → (map scen journal : Option (List ℕ)) → Fault → Type 0

@@ -1,5 +1,5 @@
 -- What runs over the texts of files come to; what they write goes out through a buffer (this project's choice).
-use Rattle.std.specs.Prelude.{◌≡◌, ◌⊎◌, ℕ, List, [], Option, Some, None, Bool, unwrap_or, is_some, true}
+use Rattle.std.specs.Prelude.{◌≡◌, ◌⊎◌, ℕ, List, [], Option, None, Bool, unwrap_or, is_some, true}
 use Rattle.std.specs.Borrow.{Bor}
 use Rattle.std.specs.Option.{option_copied}
 use Rattle.solver_check.specs.Opens.{bytes_of}

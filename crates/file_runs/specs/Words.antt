@@ -1,11 +1,10 @@
 -- What the words say of the texts (this project's choice).
-use Rattle.std.specs.Prelude.{◌≡◌, ℕ, List, Option, Some, None, Result, Ok}
+use Rattle.std.specs.Prelude.{ℕ, List, Option, Some, None, Result, Ok}
 use Rattle.std.specs.Borrow.{Bor}
 use Rattle.plan_table.specs.declared.tracks.Mode.{Mode}
 use Rattle.desk_commits.specs.State.{DeskState}
 use Rattle.session_lines.specs.declared.versions.LinesVersion.{LinesVersion}
 use Rattle.session_protocol.specs.declared.bounds.ServeFault.{ServeFault}
-use Rattle.solver_check.specs.declared.faults.RunFault.{RunFault}
 use Rattle.desk_cli.specs.declared.words.DrawWords.{DrawWords}
 use Rattle.single_runs.specs.declared.courses.Courses.{Courses}
 use Rattle.single_runs.specs.declared.courses.Courses.TheVariants.{Journal, Solver}

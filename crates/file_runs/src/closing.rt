@@ -1,16 +1,14 @@
 //! What is done at a session's end.
 ghost use Rattle.std.specs.Prelude.{◌≡◌, ◌⊎◌, IfErr, IsOk, MatchOption, None, OnOk, option_map};
-ghost use Rattle.file_runs.specs.Ends.{fault_of, last_fault, IsEnd, IsUnsavedIn};
+ghost use Rattle.file_runs.specs.Ends.{fault_of, last_fault, IsEnd, IsSavedIn, IsUnsavedIn};
 
-use crate::saving::save_held;
+use crate::saving::{Held, Saver, save_held};
 use desk_core::Desk;
-use desk_io::{Detailed, HeldFile, More, Texts, tell_more};
+use desk_io::{Detailed, More, Texts, tell_more};
 use session_protocol::ServeFault;
 use solver_check::{Fault, RunFault};
 use std::alloc::Global;
-use std::fs::File;
 use std::io::{Error, Result as Done};
-use std::rt::Files;
 
 /// The fault of a session that ended so.
 pub(crate) fn fault_of(ended: Result<u32, ServeFault>) -> Option<RunFault>
@@ -74,19 +72,21 @@ fn with_reason(
 /// # Errors
 ///
 /// The session's fault, or that of the save: where both have one, that of the session is told here.
-pub(crate) fn end_desk<R: Files<File = File> + AllocGlobal + Drop + Eprint>(
+pub(crate) fn end_desk<R: Eprint, S: Saver>(
     rt: &R,
+    saver: &S,
     desk: Desk,
     fault: Option<RunFault>,
-    held: Option<HeldFile<R>>,
+    held: Option<Held<S::Place>>,
     more: &mut More,
     verbose: bool,
 ) -> Result<(), Fault>
     ensures ok { OnOk result (fault ≡ None) }
-    ensures err { IfErr result (λ told. IsEnd fault told ⊎ IsUnsavedIn (option_map (λ file. file.file.now) held) told) }
+    ensures saved { OnOk result (IsSavedIn (S.has_saved saver.now) (option_map (λ held. held.file.now) held) desk) }
+    ensures err { IfErr result (λ told. IsEnd fault told ⊎ IsUnsavedIn (option_map (λ held. held.file.now) held) told) }
 {
     let mut unsaved = More::none();
-    let saved = save_held(rt, &desk, held, &mut unsaved);
+    let saved = save_held(saver, &desk, held, &mut unsaved);
     drop(desk);
     match saved {
         Ok(()) => {

@@ -1,9 +1,9 @@
 //! Runs over files: the words `serve`, `audit`, `check`, `draw` and `page`, what is saved of a desk, and the
 //! desk that planners are to share.
 //!
-//! Each word has a file: `serving`, `auditing`, `checking`, `drawing`, `paging`. `saving` saves in the
-//! file that is held, `closing` is what is done at a session's end, `opening` opens the desk that
-//! planners are to share, `faults` are all faults.
+//! Each word has a file: `serving`, `auditing`, `checking`, `drawing`, `paging`. `reading` reads and
+//! holds the files of a session, `saving` saves in the one that is held, `closing` is what is done at a
+//! session's end, `opening` opens the desk that planners are to share, `faults` are all faults.
 #![tactic(auto)]
 
 mod auditing;
@@ -13,6 +13,7 @@ mod drawing;
 mod faults;
 mod opening;
 mod paging;
+mod reading;
 mod saving;
 mod serving;
 
@@ -22,5 +23,6 @@ pub use drawing::draw_files;
 pub use faults::ProgramFault;
 pub use opening::open_named;
 pub use paging::page_files;
-pub use saving::save_held;
+pub use reading::let_go;
+pub use saving::{Held, Saver, save_held};
 pub use serving::serve_streams;

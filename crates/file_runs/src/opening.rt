@@ -1,7 +1,7 @@
 //! The desk that planners are to share.
 ghost use Rattle.std.specs.Prelude.{◌≡◌, ◌⊎◌, [], None, Err, IfErr, IfOk, max, min, option_map, unwrap_or};
 ghost use Rattle.std.specs.Option.{option_copied};
-ghost use Rattle.desk_io.specs.Texts.{LacksScen, untold};
+ghost use Rattle.desk_io.specs.Texts.{LacksScen};
 ghost use Rattle.file_runs.specs.Files.{OfFiles};
 ghost use Rattle.file_runs.specs.Ends.{IsOpened, IsUnnamed};
 ghost use Rattle.file_runs.specs.Names.{first_repeated, is_among};
@@ -10,16 +10,15 @@ ghost use Rattle.solver_check.specs.Opens.{bytes_of};
 ghost use Rattle.desk_commits.specs.declared.limits.TheConstants.{MOST_ENTRIES};
 
 use crate::faults::ProgramFault;
+use crate::reading::{let_go, read_named};
+use crate::saving::{Held, Saver};
 use crate::serving::limit_of;
 use desk_cli::{HostWords, ServeWords};
 use desk_core::Desk;
-use desk_io::{Detailed, HeldFile, More, Texts, problem_of, read_named, release};
+use desk_io::{Detailed, Folder, More, Texts, problem_of};
 use single_runs::open_desk;
 use solver_check::{Fault, RunFault};
 use std::alloc::Global;
-use std::fs::File;
-use std::rt::Files;
-use std::time::Clock;
 
 fn is_among(name: &str, names: &[&'static str]) -> bool
     ensures { result ≡ is_among name.now names.now }
@@ -56,37 +55,38 @@ fn open_texts(alloc: Global, texts: Texts<'_>, words: &ServeWords) -> Result<Des
 /// # Errors
 ///
 /// What the words lack, a file that can't be read, two planners of one name, or the run's fault.
-pub fn open_named<R: Files<File = File> + AllocGlobal + Clock + Clone + Drop>(
-    rt: &R,
+pub fn open_named<F: Folder + Saver>(
+    alloc: Global,
+    files: &F,
     words: &HostWords,
     more: &mut More,
-) -> Result<(Desk, Option<HeldFile<R>>), ProgramFault>
+) -> Result<(Desk, Option<Held<F::Place>>), ProgramFault>
     ensures asked { LacksScen words.now.desk → result ≡ Err (ProgramFault.Desk Fault.AgentsWithoutScen) }
-    ensures opened { IfOk result (λ opened. OfFiles untold (option_copied words.now.desk.map) (option_copied words.now.desk.scen)
+    ensures opened { IfOk result (λ opened. OfFiles (F.holds files.now) (option_copied words.now.desk.map) (option_copied words.now.desk.scen)
         (option_copied words.now.desk.journal) (IsOpened words.now.desk opened.0)) }
     ensures apart { IfOk result (λ _. first_repeated [] words.now.names.items ≡ None) }
-    ensures held { IfOk result (λ opened. option_map (λ file. file.file.now) opened.1 ≡ option_copied words.now.desk.save) }
-    ensures refused { IfErr result (IsUnnamed untold words.now) }
+    ensures held { IfOk result (λ opened. option_map (λ held. held.file.now) opened.1 ≡ option_copied words.now.desk.save) }
+    ensures refused { IfErr result (IsUnnamed (F.holds files.now) words.now) }
 {
-    let (named, held) = match read_named(rt, &words.desk, more) {
+    let (named, held) = match read_named(files, &words.desk, more) {
         Ok(ready) => ready,
         Err(fault) => return Err(ProgramFault::Desk(fault)),
     };
     if let Some(name) = named_twice(words.names.as_slice()) {
         drop(named);
-        release(held);
+        let_go(files, held);
         return Err(ProgramFault::NamedTwice { name });
     }
     let texts = named.texts();
-    let opened = open_texts(rt.alloc(), texts, &words.desk);
+    let opened = open_texts(alloc, texts, &words.desk);
     if let Err(fault) = &opened {
-        more.put(fault.more(rt.alloc(), texts));
+        more.put(fault.more(alloc, texts));
     }
     drop(named);
     match opened {
         Ok(desk) => Ok((desk, held)),
         Err(fault) => {
-            release(held);
+            let_go(files, held);
             Err(ProgramFault::Desk(Fault::Run(fault)))
         }
     }

@@ -3,53 +3,58 @@ ghost use Rattle.std.specs.Prelude.{◌≡◌, ◌⊎◌, ℕ, List, Option, Err
 ghost use Rattle.std.specs.Option.{option_copied};
 ghost use Rattle.desk_commits.specs.declared.limits.TheConstants.{MOST_ENTRIES};
 ghost use Rattle.solver_check.specs.Opens.{bytes_of};
-ghost use Rattle.desk_io.specs.Texts.{IsUnready, LacksScen, untold};
+ghost use Rattle.desk_io.specs.Texts.{IsUnready, LacksScen};
 ghost use Rattle.file_runs.specs.Files.{OfFiles};
 ghost use Rattle.file_runs.specs.Ends.{HasServeFault, HasServed, IsLeft, IsUnopened, SitsBy};
 
 use crate::closing::{end_desk, fault_of, note_end, outcome_of};
+use crate::reading::{let_go, read_named};
+use crate::saving::Saver;
 use desk_cli::ServeWords;
 use desk_core::{Desk, Limit, MOST_ENTRIES};
-use desk_io::{Answers, Lines, More, Outlet, Prompting, Texts, read_named, release, send_last};
+use desk_io::{Answers, Folder, Lines, More, Outlet, Prompting, Texts, send_last};
 use desk_report::Spout;
 use session_protocol::ServeFault;
 use single_runs::serve_desk;
 use solver_check::{Fault, RunFault};
 use std::alloc::Global;
 use std::cell::RefCell;
-use std::fs::File;
 use std::io;
 use std::io::{BufWriter, Read, Write};
-use std::rt::Files;
 use std::time::Clock;
 
-/// Serves a session from standard input to standard output, as the words ask for, and saves the
-/// desk's journal where they ask for it. What was answered before a fault has gone out, and is
-/// saved. Who types it is told what to type.
+/// Serves a session from standard input to standard output, as the words ask for, over the files of a
+/// folder, and saves the desk's journal where they ask for it. What was answered before a fault has
+/// gone out, and is saved. Who types it is told what to type.
 ///
 /// # Errors
 ///
 /// What the words lack, a file that can't be read or written, the run's fault, or that of the save;
 /// where both have one, that of the run is told here.
-pub fn serve_streams<
-    R: Files<File = File> + AllocGlobal + Clock + Clone + Drop + Print + Eprint + Input,
->(rt: &R, words: &ServeWords, typed: bool, more: &mut More, verbose: bool) -> Result<(), Fault>
+pub fn serve_streams<R: AllocGlobal + Clock + Print + Eprint + Input, F: Folder + Saver>(
+    rt: &R,
+    files: &F,
+    words: &ServeWords,
+    typed: bool,
+    more: &mut More,
+    verbose: bool,
+) -> Result<(), Fault>
     ensures asked { LacksScen words.now → result ≡ Err Fault.AgentsWithoutScen }
-    ensures served { OnOk result (OfFiles untold (option_copied words.now.map) (option_copied words.now.scen)
-        (option_copied words.now.journal) (HasServed words.now)) }
-    ensures refused { IfErr result (λ fault. IsUnready words.now fault ⊎ OfFiles untold (option_copied words.now.map)
+    ensures served { OnOk result (OfFiles (F.holds files.now) (option_copied words.now.map) (option_copied words.now.scen)
+        (option_copied words.now.journal) (HasServed (F.has_saved files.now) words.now)) }
+    ensures refused { IfErr result (λ fault. IsUnready words.now fault ⊎ OfFiles (F.holds files.now) (option_copied words.now.map)
         (option_copied words.now.scen) (option_copied words.now.journal) (λ map scen journal. HasServeFault words.now map scen journal fault)) }
 {
-    let (named, held) = match read_named(rt, words, more) {
+    let (named, held) = match read_named(files, words, more) {
         Ok(ready) => ready,
         Err(fault) => return Err(fault),
     };
     let (desk, fault) = serve_typed(rt, named.texts(), words, typed, more);
     drop(named);
     match desk {
-        Some(desk) => end_desk(rt, desk, fault, held, more, verbose),
+        Some(desk) => end_desk(rt, files, desk, fault, held, more, verbose),
         None => {
-            release(held);
+            let_go(files, held);
             outcome_of(fault)
         }
     }

@@ -1,10 +1,10 @@
--- What the end of a run says, by its words (this project's choice). The system's files say nothing of their bytes.
+-- What the end of a run says, by its words (this project's choice). The system's files say nothing of their bytes or saves.
 use Rattle.std.specs.Prelude.{◌≡◌, Some, Bool}
 use Rattle.std.specs.Option.{option_copied, option_or}
 use Rattle.desk_cli.specs.declared.words.Words.{Words}
 use Rattle.desk_cli.specs.declared.words.Words.TheVariants.{Version, Serve, Audit, Drill, Host, Check, Draw, Page}
 use Rattle.desk_io.specs.Texts.{untold}
-use Rattle.file_runs.specs.Ends.{HasServed}
+use Rattle.file_runs.specs.Ends.{HasServed, unsaid}
 use Rattle.file_runs.specs.Files.{OfFiles}
 use Rattle.file_runs.specs.Runs.{HasAudited, HasChecked, HasDrawn, HasPaged}
 use Rattle.mapf_desk.specs.Drilled.{HasDrilled, OfScripts}
@@ -18,7 +18,7 @@ abbrev pub Ends : Words → RunEnd → Type 0
 Ends Version end = end ≡ Yes
 Ends (Serve words) end =
     (end ≡ Yes)
-    × OfFiles untold (option_copied words.map) (option_copied words.scen) (option_copied words.journal) (HasServed words)
+    × OfFiles untold (option_copied words.map) (option_copied words.scen) (option_copied words.journal) (HasServed unsaid words)
 Ends (Audit words) end =
     (end ≡ Yes) × OfFiles untold (Some words.map.now) (option_copied words.scen) (option_copied words.journal) (HasAudited words)
 Ends (Drill words) end =

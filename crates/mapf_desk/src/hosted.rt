@@ -1,17 +1,16 @@
 //! What the hosting of a desk comes to.
-ghost use Rattle.std.specs.Prelude.{◌≡◌, ◌++◌, IfOk, codes, is_err};
+ghost use Rattle.std.specs.Prelude.{◌≡◌, ◌++◌, IfOk, codes, is_err, option_map};
 ghost use Rattle.std.specs.List.{list_any};
+ghost use Rattle.file_runs.specs.Ends.{IsSavedIn};
 ghost use Rattle.shared_runs.specs.Drills.{same_line};
-ghost use Rattle.mapf_desk.specs.Hosted.{IsEndOf, has_fault};
+ghost use Rattle.mapf_desk.specs.Hosted.{IsEndOf, has_fault, unseated};
 ghost use Rattle.mapf_desk.specs.Statuses.{host_end};
 
 use crate::print_line;
 use crate::statuses::{RunEnd, answered};
-use desk_io::{HeldFile, More};
-use file_runs::{ProgramFault, save_held};
+use desk_io::{More, PipesFault};
+use file_runs::{Held, ProgramFault, Saver, save_held};
 use shared_runs::{Fault, HostEnd, Outcome, RunFault};
-use std::fs::File;
-use std::rt::Files;
 
 /// Saves the desk's journal if a file for it is held, and prints whether the audit's report is that of
 /// the desk.
@@ -19,15 +18,17 @@ use std::rt::Files;
 /// # Errors
 ///
 /// That of the save, want of memory for the audit, or that of the print.
-pub(crate) fn end_hosted<R: Files<File = File> + AllocGlobal + Drop + Print>(
+pub(crate) fn end_hosted<R: AllocGlobal + Print, S: Saver>(
     rt: &R,
+    saver: &S,
     end: &HostEnd,
-    held: Option<HeldFile<R>>,
+    held: Option<Held<S::Place>>,
     more: &mut More,
 ) -> Result<RunEnd, ProgramFault>
-    ensures { IfOk result (IsEndOf end.now) }
+    ensures end { IfOk result (IsEndOf end.now) }
+    ensures saved { IfOk result (λ _. IsSavedIn (S.has_saved saver.now) (option_map (λ held. held.file.now) held) end.now.desk) }
 {
-    match save_held(rt, &end.desk, held, more) {
+    match save_held(saver, &end.desk, held, more) {
         Ok(()) => {}
         Err(fault) => return Err(ProgramFault::Desk(fault)),
     }
@@ -52,6 +53,16 @@ pub(crate) fn out_of_memory() -> ProgramFault
     ensures { result ≡ ProgramFault.Desk (Fault.Run RunFault.OutOfMemory) }
 {
     ProgramFault::Desk(Fault::Run(RunFault::OutOfMemory))
+}
+
+/// Why there are no seats, as the program tells it.
+pub(crate) fn fault_of(fault: PipesFault) -> ProgramFault
+    ensures { result ≡ unseated fault }
+{
+    match fault {
+        PipesFault::OutOfMemory => out_of_memory(),
+        PipesFault::InUse { name } => ProgramFault::InUse { name },
+    }
 }
 
 // Whether a session had a fault.

@@ -1,15 +1,17 @@
 //! The word `host`.
-ghost use Rattle.std.specs.Prelude.{◌≡◌};
-ghost use Rattle.mapf_desk.specs.Hosted.{unseated};
+ghost use Rattle.std.specs.Prelude.{◌≡◌, IfOk, length};
+ghost use Rattle.mapf_desk.specs.Hosted.{HasHosted};
 
-use crate::hosted::{end_hosted, out_of_memory};
+use crate::hosted::{end_hosted, fault_of, out_of_memory};
 use crate::statuses::RunEnd;
 use desk_cli::HostWords;
 use desk_core::Desk;
-use desk_io::{More, Pipes, PipesFault, Steady, release};
-use file_runs::{ProgramFault, open_named};
+use desk_io::{Folder, More, Pipes, Steady, System};
+use file_runs::{ProgramFault, Saver, let_go, open_named};
 use shared_runs::{HostEnd, HostFault, MOST_HOSTED, host_planners};
 use std::alloc::Global;
+use std::fs::File;
+use std::rt::Files;
 use std::sync::Wait;
 use std::thread;
 use std::thread::{Builder, Threads};
@@ -54,44 +56,78 @@ fn host_named<R: Threads + Wait + Clock + Sync>(
     stages: bool,
     more: &mut More,
 ) -> Result<RunEnd, ProgramFault> {
-    let (steady, alloc) = (Steady::new(host, host.stderr()), host.alloc());
-    let (desk, held) = match open_named(&steady, words, more) {
+    let steady = Steady::new(host, host.stderr());
+    host_system(rt, host, &steady, words, stages, more)
+}
+
+// Hosts them over the desk of the system's files.
+fn host_system<
+    R: Threads + Wait + Clock + Sync,
+    P: Files<File = File> + AllocGlobal + Clock + Clone + Drop + Print,
+>(
+    rt: &R,
+    host: &HostRuntime,
+    out: &P,
+    words: &HostWords,
+    stages: bool,
+    more: &mut More,
+) -> Result<RunEnd, ProgramFault> {
+    host_over(rt, host, out, &System(out), words, stages, more)
+}
+
+// Hosts them over the desk of the files of a folder.
+fn host_over<R: Threads + Wait + Clock + Sync, P: AllocGlobal + Print, F: Folder + Saver>(
+    rt: &R,
+    host: &HostRuntime,
+    out: &P,
+    files: &F,
+    words: &HostWords,
+    stages: bool,
+    more: &mut More,
+) -> Result<RunEnd, ProgramFault>
+    ensures { IfOk result (HasHosted (F.holds files.now) (F.has_saved files.now) words.now) }
+{
+    let alloc = host.alloc();
+    let (desk, held) = match open_named(alloc, files, words, more) {
         Ok(opened) => opened,
         Err(fault) => return Err(fault),
     };
-    if words.names.len() > MOST_HOSTED as usize {
-        drop(desk);
-        release(held);
-        return Err(ProgramFault::Host(HostFault::TooManyPlanners));
-    }
+    let planners = match planners_of(words) {
+        Ok(planners) => planners,
+        Err(fault) => {
+            drop(desk);
+            let_go(files, held);
+            return Err(fault);
+        }
+    };
     let (names, version) = (words.names.as_slice(), words.desk.lines);
     let pipes = match Pipes::new(alloc, host, names, version, stages) {
         Ok(pipes) => pipes,
         Err(fault) => {
             drop(desk);
-            release(held);
+            let_go(files, held);
             return Err(fault_of(fault));
         }
     };
-    let end = match host_all(rt, alloc, desk, &pipes, words) {
+    let end = match host_all(rt, alloc, desk, &pipes, planners, words) {
         Ok(end) => end,
         Err(fault) => {
-            release(held);
+            let_go(files, held);
             return Err(fault);
         }
     };
-    let ended = end_hosted(&steady, &end, held, more);
+    let ended = end_hosted(out, files, &end, held, more);
     drop(end);
     ended
 }
 
-// Why there are no seats, as the program tells it.
-fn fault_of(fault: PipesFault) -> ProgramFault
-    ensures { result ≡ unseated fault }
+// How many planners the words name.
+fn planners_of(words: &HostWords) -> Result<u32, ProgramFault>
+    ensures { IfOk result (λ planners. planners ≡ length words.now.names.items) }
 {
-    match fault {
-        PipesFault::OutOfMemory => out_of_memory(),
-        PipesFault::InUse { name } => ProgramFault::InUse { name },
+    match u32::try_from(words.names.len()) {
+        Ok(planners) if planners <= MOST_HOSTED => Ok(planners),
+        _ => Err(ProgramFault::Host(HostFault::TooManyPlanners)),
     }
 }
 
@@ -102,12 +138,9 @@ fn host_all<R: Threads + Wait + Clock + Sync>(
     alloc: Global,
     desk: Desk,
     pipes: &Pipes<'_>,
+    planners: u32,
     words: &HostWords,
 ) -> Result<HostEnd, ProgramFault> {
-    let Ok(planners) = u32::try_from(words.names.len()) else {
-        drop(desk);
-        return Err(ProgramFault::Host(HostFault::TooManyPlanners));
-    };
     let (workers, seconds) = (words.workers, words.wait);
     thread::scope(thread::scope_env(), rt, move |scope| {
         let Some(keeper) = pipes.keep(rt, scope, seconds) else {

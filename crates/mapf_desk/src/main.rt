@@ -65,7 +65,7 @@ fn obey<
         },
         Words::Serve(serve) => {
             let typed = runtime.stdin().is_terminal();
-            match serve_streams(rt, serve, typed, more, verbose) {
+            match serve_streams(rt, files, serve, typed, more, verbose) {
                 Ok(()) => Ok(RunEnd::Yes),
                 Err(fault) => Err(ProgramFault::Desk(fault)),
             }
