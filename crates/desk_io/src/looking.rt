@@ -4,7 +4,7 @@ ghost use Rattle.std.specs.Option.{option_copied};
 ghost use Rattle.desk_io.specs.Texts.{IsUnheld};
 
 use crate::telling::More;
-use atomic_save::{HoldError, NamedFile, SystemFile, SystemTemporary, hold};
+use atomic_save::{HoldError, SystemFile, SystemTemporary, hold};
 use solver_check::{Fault, RunFault};
 use std::fs;
 use std::fs::File;
@@ -22,18 +22,6 @@ pub struct HeldFile<R: Files<File = File> + AllocGlobal + Drop> {
     pub file: &'static str,
     pub named: SystemFile<R>,
     pub temporary: SystemTemporary,
-}
-
-/// Releases a file, if one is held: it stays as it is.
-pub fn release<R: Files<File = File> + AllocGlobal + Drop>(held: Option<HeldFile<R>>) {
-    if let Some(held) = held {
-        let HeldFile {
-            file: _,
-            mut named,
-            temporary,
-        } = held;
-        named.remove(temporary);
-    }
 }
 
 /// Holds the file that a desk's journal is to be saved in, where one is named: it isn't there, or is a
