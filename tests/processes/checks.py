@@ -2,6 +2,7 @@
 
 What many files are checked for, and in what time and room, is in fleets.py.
 """
+from .faulty_checks import FAULTS, OTHER_FAULTS, WRONG
 from .running import TOP, is_fault, is_run, put, remove, run, want
 from .texts import ARRIVED, LEFT, STAYED
 
@@ -59,12 +60,16 @@ WORKED = [
     ("tasks_of_a_scenario", "--map m --scen s", b"path 0 0,0 1,0 2,0", ARRIVED, "yes"),
     ("not_at_the_goal_of_its_task", "--map m --scen s", b"path 0 0,0 1,0", SHORT, "no"),
     ("not_at_the_goal_that_the_file_tells", "--map m", b"goals=(2,0)\nsolution=\n0:(0,0),\n1:(1,0),\n", SHORT, "no"),
-    ("scenario_before_what_the_file_tells", "--map m --scen s", b"goals=(1,0)\nsolution=\n0:(0,0),\n1:(1,0),\n", SHORT, "no"),
+    ("scenario_before_what_the_file_tells", "--map m --scen s", b"goals=(1,0)\nsolution=\n0:(0,0),\n1:(1,0),\n",
+     SHORT + "differs goals 0 1,0 2,0\n", "no"),
     ("as_many_tasks_as_paths", "--map field --scen tasks", b"path 0 0,0 1,0 2,0", ARRIVED, "yes"),
-    ("an_agent_without_a_path", "--map field --scen tasks --agents 2", b"path 0 0,0 1,0 2,0", TWO, "yes"),
-    ("an_agent_without_a_path_and_elsewhere", "--map field --scen tasks --agents 3", b"path 0 0,0 1,0 2,0", THREE, "no"),
+    ("an_agent_without_a_path", "--map field --scen tasks --agents 2", b"path 0 0,0 1,0 2,0", TWO + "differs paths 1 2\n", "no"),
+    ("an_agent_without_a_path_and_elsewhere", "--map field --scen tasks --agents 3", b"path 0 0,0 1,0 2,0", THREE + "differs paths 1 3\n", "no"),
+    ("starts_and_goals_of_the_scenario", "--map m --scen s", b"starts=(0,0)\ngoals=(2,0)\nsolution=\n0:(0,0),\n1:(1,0),\n2:(2,0),\n", ARRIVED, "yes"),
+    ("another_start_than_the_scenario", "--map m --scen s", b"starts=(1,0)\nsolution=\n0:(0,0),\n1:(1,0),\n2:(2,0),\n",
+     ARRIVED + "differs starts 0 1,0 0,0\n", "no"),
     ("finished_counted", "--map field --scen tasks --agents 3 --quiet", b"path 0 0,0 1,0 2,0",
-     quiet(3, 2, 0, (0, 0, 0, 0, 0), 0, ("none", "none", 5, "none")), "no"),
+     quiet(3, 2, 0, (0, 0, 0, 0, 0), 0, ("none", "none", 5, "none")) + "differs paths 1 3\n", "no"),
     ("waits_at_the_end", "--map m --scen s", b"Agent 0: (0,0)->(0,1)->(0,2)->(0,2)->(0,2)->", ARRIVED, "yes"),
     ("named_form", "--map m --form time", b"Agent count=1\nsolution=\n0:(0,0),\n1:(1,0),\n2:(2,0),\n", ARRIVED, "yes"),
     ("named_form_by_agent", "--map m --form agent", b"Agent 0: (0,0)->(0,1)->(0,2)", ARRIVED, "yes"),
@@ -74,73 +79,23 @@ WORKED = [
     ("more_is_told_of_faults_alone", "--map field -v", RING, TURNED, "yes"),
 ]
 
-# Words, the paths, the fault's text, and its line or its cells, where it has one or some.
-FAULTS = [
-    ("--map m", b"", "no paths", None),
-    ("--map m", b" \n\t\r\n", "no paths", None),
-    ("--map m", b"# a remark\n", "no paths", None),
-    ("--map m", b"agents=1\nsolution=\n", "no paths", None),
-    ("--map m", b"agents=1\n", "missing solution", None),
-    ("--map m", b"\n\nhello\n", "no form of paths in line 3", "hello"),
-    ("--map m", b"agents=1\nhello\n", "bad header in line 2", "hello"),
-    ("--map m", b"starts=(0,0)\ngoals=(0,0)\nstarts=(0,0)\n", "repeated list in line 3", "starts=(0,0)"),
-    ("--map m", b"solution=\n1:(0,0),\n", "bad time in line 2", "1:(0,0),"),
-    ("--map m", b"Agent 1: (0,0)->\n", "bad agent in line 1", "Agent 1: (0,0)->"),
-    ("--map m", b"path 0 0,0\npath 0 0,0\n", "bad agent in line 2", "path 0 0,0"),
-    ("--map m", b"path 0 0,0\ngoal 0 0,0\n", "bad path in line 2", "goal 0 0,0"),
-    ("--map m", b"path 0 0,0 x\xff\n", "bad path in line 1", "path 0 0,0 x?"),
-    ("--map m", b"solution=\n0:(0,0),(x,0),\n", "bad cell 1 in line 2", "0:(0,0),(x,0),"),
-    ("--map m", b"Agent 0: (0,0)->0,1->\n", "bad cell 1 in line 1", "Agent 0: (0,0)->0,1->"),
-    ("--map m", b"Agent 0: (2048,0)->", "bad cell 0 in line 1", "Agent 0: (2048,0)->"),
-    ("--map m", b"solution=\n0:\n", "no cells in line 2", "0:"),
-    ("--map m", b"path 0\n", "no cells in line 1", "path 0"),
-    ("--map m", b"goals=(0,0),(1,0)\nsolution=\n0:(0,0),\n", "cell count in line 3", "0:(0,0),"),
-    ("--map m --form agent", b"solution=\n0:(0,0),\n", "bad agent in line 1", "solution="),
-    ("--map m --form time", b"path 0 0,0\n", "bad header in line 1", "path 0 0,0"),
-    ("--map m --form session", b"Agent 0: (0,0)->\n", "bad path in line 1", "Agent 0: (0,0)->"),
-    ("--map m", b"Agent count=1\nsolution=\n0:(0,0),\n", "bad agent in line 1", "Agent count=1"),
-    ("--map map_size", b"path 0 x\n", "bad path in line 1", "path 0 x"),
-    ("--map m --scen s", b"path 0 0,0 2,0\n", "agent 0 at time 1: not-a-step", "from 0,0 to 2,0"),
-    ("--map field", b"Agent 0: (0,0)->(1,0)->\nAgent 1: (0,1)->(0,2)->(2,3)->\n", "agent 1 at time 2: not-a-step", "from (0,2) to (2,3)"),
-    ("--map field --form time", b"Agent count=1\nsolution=\n0:(0,1),\n1:(3,1),\n", "agent 0 at time 1: not-a-step", "from (0,1) to (3,1)"),
-    ("--map m --scen s", b"path 0 0,0 0,0 1,0 1,1 2,0\n", "agent 0 at time 3: out-of-map", "1,1"),
-    ("--map m --scen s", b"path 0 1,0 2,0\n", "agent 0 at time 0: not-from-start", "starts at 0,0 and its path at 1,0"),
-    ("--map field --scen tasks", b"Agent 0: (0,0)\nAgent 1: (0,2)\n", "agent 1 at time 0: not-from-start", "starts at (2,0) and its path at (0,2)"),
-    ("--map field --scen tasks", b"solution=\n0:(0,0),(0,2),\n1:(1,0),(0,1),\n2:(2,0),(2,1),\n", "agent 1 at time 2: not-a-step", "from (0,1) to (2,1)"),
-    ("--map m", b"starts=(1,0)\nsolution=\n0:(0,0),\n", "agent 0 at time 0: not-from-start", "starts at (1,0) and its path at (0,0)"),
-    ("--map m", b"path 0 0,0\npath 1 0,0 0,1\n", "agent 1: out-of-map", "starts at 0,0, and its goal is 0,1"),
-    ("--map m", b"goals=(3,0)\nsolution=\n0:(0,0),\n", "agent 0: out-of-map", "starts at (0,0), and its goal is (3,0)"),
-    ("--map m", b"starts=(0,1)\nsolution=\n0:(0,0),\n", "agent 0: out-of-map", "starts at (0,1), and its goal is (0,0)"),
-    ("--map m", b"Agent 0: (0,0)->(1,0)->\n", "agent 0: out-of-map", "starts at (0,0), and its goal is (1,0)"),
-    ("--map m --scen s --agents 1", b"path 0 0,0\npath 1 0,0\n", "agent 1 at time 0: unknown-agent", "paths: 2, agents: 1"),
-    ("--map m --scen s --agents 0", b"path 0 0,0\n", "agent 0 at time 0: unknown-agent", "paths: 1, agents: 0"),
-]
-
-# Words, and their fault's text.
-OTHER_FAULTS = [
-    ("--map none --paths nothing --agents 1", "--agents needs --scen"),
-    ("--map m --paths p --agents 0", "--agents needs --scen"),
-    ("--map none --paths nothing", "can't read none"),
-    ("--map none --scen nothing --paths p", "can't read none"),
-    ("--map m --scen none --paths nothing", "can't read none"),
-    ("--map m --paths none", "can't read none"),
-    ("--map . --paths p", "can't read ."),
-    ("--map map_size --scen scen_size --paths none", "can't read none"),
-    ("--map map_size --scen scen_size --paths p", "map: bad size"),
-    ("--map m --scen scen_size --paths p", "scen: size mismatch in line 2"),
-    ("--map m --scen s --paths p --agents 2", "scen: too few tasks, 1"),
-    ("--map m --scen s --paths p_two", "scen: too few tasks, 1"),
-]
-
-
 def is_checked(words, paths, report, solved):
     put("worked", paths)
     is_run(["check", *words.split(), "--paths", "worked"], b"", (0 if solved == "yes" else 1, f"version 0\n{report}solves {solved}\n", ""))
     remove("worked")
 
 
+def are_wrong():
+    """Paths that aren't any, and a text without paths, are no solution, and no fault of the run; there is no report of them."""
+    for words, paths, said in WRONG:
+        put("wrong", paths)
+        for more in ([], ["-v"]):
+            is_run(["check", *words.split(), "--paths", "wrong", *more], b"", (1, f"{said}\nsolves no\n", ""))
+    remove("wrong")
+
+
 def are_faults():
-    """Each fault of paths is told in one line, and with --verbose its line, or its cells, in a second one; nothing is printed."""
+    """Each fault of a text of paths is told in one line, and with --verbose its line, or how many there are, in a second one; nothing is printed."""
     for words, paths, text, told in FAULTS:
         put("faulty", paths)
         all_words = ["check", *words.split(), "--paths", "faulty"]
@@ -154,6 +109,18 @@ def other_faults():
     """Of the files the map is read first, then the scenario, then the paths."""
     for words, text in OTHER_FAULTS:
         is_fault(["check", *words.split()], text)
+
+
+def standard_input():
+    """A dash stands for standard input, which may be a pipe or a file."""
+    for word, words in (("check", []), ("draw", []), ("page", ["--title", "p"])):
+        named = run([word, "--map", "m", *words, "--paths", "p"])
+        want(f"what {word} reads of a pipe", run([word, "--map", "m", *words, "--paths", "-"], b"path 0 0,0 1,0 2,0\n"), named)
+        with open("p", "rb") as paths:
+            want(f"what {word} reads of a file", run([word, "--map", "m", *words, "--paths=-"], stdin=paths), named)
+    put("-", b"path 0 0,0\n")
+    want("what a file of that name is", run(["check", "--map", "m", "--paths", "./-"])[0], 0)
+    remove("-")
 
 
 def demo_check():
@@ -175,5 +142,5 @@ def with_files(test):
 def tests():
     for name, words, paths, report, solved in WORKED:
         yield f"check_{name}", lambda it=(words, paths, report, solved): with_files(lambda: is_checked(*it))
-    for test in (are_faults, other_faults, demo_check):
+    for test in (are_wrong, are_faults, other_faults, standard_input, demo_check):
         yield f"check_{test.__name__}", lambda test=test: with_files(test)

@@ -1,6 +1,8 @@
 """The word `draw`: solvers' paths and journals, agents that aren't shown, its size and time, its faults, the pictures of docs/."""
 import random
 
+from .checks import FIELD, TASKS
+from .faulty_checks import DRAWING_FAULTS, UNDRAWN
 from .fleets import Fleet, verdict
 from .plain import ASKED
 from .pictures import SVG, are_marked, drawn, group, reported, routes, title
@@ -9,27 +11,6 @@ from .running import TOP, Wrong, bytes_of, is_answered, is_fault, processor_time
 DEMO = f"{TOP}/demo"
 MOST_SECONDS = 4  # of four processors together
 MOST_BYTES = 5_000_000
-
-# Words, and the text of the fault, in the order in which faults are looked for.
-FAULTS = [
-    ("--map none --paths nothing --agents 1", "--agents needs --scen"),
-    ("--map m --agents 0", "--agents needs --scen"),
-    ("--map none --scen nothing --paths nothing", "can't read none"),
-    ("--map m --scen none --journal nothing", "can't read none"),
-    ("--map m --journal none", "can't read none"),
-    ("--map m --paths none", "can't read none"),
-    ("--map map_size --scen scen_size --journal journal_line", "map: bad size"),
-    ("--map m --scen scen_size --journal journal_line", "scen: size mismatch in line 2"),
-    ("--map m --scen s --agents 2 --journal journal_line", "scen: too few tasks, 1"),
-    ("--map m --scen s --agents 1 --journal journal_line", "journal: bad line 3"),
-    ("--map m --scen s --agents 1 --journal j --mode disappear", "journal: mode differs"),
-    ("--map m --scen s --agents 1 --journal journal_entry", "journal: entry 1 refused"),
-    ("--map m --journal j", "journal: entry 1 refused"),
-    ("--map map_size --paths bad_path", "paths: bad path in line 1"),
-    ("--map map_size --scen scen_size --paths p", "map: bad size"),
-    ("--map m --scen s --paths p_two", "scen: too few tasks, 1"),
-    ("--map m --scen s --agents 1 --paths p_two", "paths: agent 1 at time 0: unknown-agent"),
-]
 
 # Words of a run with a fault, and what --verbose adds.
 MORE = [
@@ -43,11 +24,22 @@ MORE = [
 
 def faults():
     put("bad_path", b"path 0 x\n")
-    for words, text in FAULTS:
+    for words, text in DRAWING_FAULTS:
         is_fault(["draw", *words.split()], text)
     for words, text, more in MORE:
         is_fault(["draw", *words.split(), "-v"], f"{text}\n  {more}")
     remove("bad_path")
+
+
+def wrong_paths():
+    """Where a path isn't one there is no picture; --verbose adds the cells that show it."""
+    put("field", FIELD), put("tasks", TASKS)
+    for words, paths, text, cells in UNDRAWN:
+        put("faulty", paths)
+        for word in ("draw", "page"):
+            is_fault([word, *words.split(), "--paths", "faulty"], f"paths: {text}")
+            is_fault([word, *words.split(), "--paths", "faulty", "-v"], f"paths: {text}" if cells is None else f"paths: {text}\n  {cells}")
+    remove("field", "tasks", "faulty")
 
 
 def full_device():
@@ -187,7 +179,7 @@ def is_whole(ground, scene, words, file):
 def tests():
     for row in WHOLE:
         yield f"draw_{row[1]} {row[2]}".rstrip(), lambda row=row: is_whole(*row)
-    for test in (faults, full_device, forms_of_paths, agents_of_a_scenario, some_agents, colours, large_map, pictures_of_docs):
+    for test in (faults, wrong_paths, full_device, forms_of_paths, agents_of_a_scenario, some_agents, colours, large_map, pictures_of_docs):
         yield f"draw_{test.__name__}", test
     # With a fifth of the cells closed there are 39,511 blocked visits, and on the smallest map 29,382 entries, each with its mark.
     for closed, side in ((0, 256), (0.1, 256), (0.2, 256), (0, 128), (0, 100)):

@@ -40,22 +40,24 @@ def put_closed(columns, rows):
     return name
 
 
-def scene_fault(starts, goals, paths, columns, rows):
-    """Why the paths make no scene on a map of that size, or none."""
+def wrong_in(start, goal, path, columns, rows):
+    """The first fault of a path, by time, or of its goal, or none."""
     outside = lambda cell: cell[0] >= columns or cell[1] >= rows
-    for agent, path in enumerate(paths):
-        if outside(starts[agent]) or outside(goals[agent]):
-            return f"agent {agent}: out-of-map"
-    for agent, path in enumerate(paths):
-        times = [time for time, cell in enumerate(path) if outside(cell)]
-        if times:
-            return f"agent {agent} at time {times[0]}: out-of-map"
-        if path[0] != starts[agent]:
-            return f"agent {agent} at time 0: not-from-start"
-        for time, ((x, y), (a, b)) in enumerate(zip(path, path[1:]), 1):
-            if abs(x - a) + abs(y - b) > 1:
-                return f"agent {agent} at time {time}: not-a-step"
-    return None
+    told = lambda cell: "%d,%d" % cell
+    for time, (before, cell) in enumerate(zip([start, *path], path)):
+        if outside(cell):
+            return f"{time} out-of-map {told(cell)}"
+        if time == 0 and cell != start:
+            return f"0 not-from-start {told(start)} {told(cell)}"
+        if abs(before[0] - cell[0]) + abs(before[1] - cell[1]) > 1:
+            return f"{time} not-a-step {told(before)} {told(cell)}"
+    return f"0 out-of-map {told(goal)}" if outside(goal) else None
+
+
+def wrong_paths(starts, goals, paths, size):
+    """The lines of the agents whose paths aren't any."""
+    found = [(agent, wrong_in(*it, *size)) for agent, it in enumerate(zip(starts, goals, paths))]
+    return "".join(f"wrong {agent} {why}\n" for agent, why in found if why)
 
 
 def report_of(goals, paths):
@@ -79,11 +81,14 @@ def compare(text, form, size):
     status, said, complained = run(words)
     try:
         told, starts, goals, paths = read_paths(text, form)
-        fault = scene_fault(starts or [it[0] for it in paths], goals or [it[-1] for it in paths], paths, *size)
+        fault, wrong = None, wrong_paths(starts or [it[0] for it in paths], goals or [it[-1] for it in paths], paths, size)
         kind = f"read by {told}"
     except Fault as why:
         fault, kind = str(why), re.sub(r" \d+", "", str(why))
-    if fault:
+        wrong = "no paths\n" if kind == "no paths" else ""
+    if wrong:
+        want(f"the check of {text!r} by {form}", (status, said, complained), (1, f"{wrong}solves no\n", ""))
+    elif fault:
         want(f"the check of {text!r} by {form}", (status, said, complained), (2, "", f"mapf_desk: paths: {fault}\n"))
     else:
         lines = [it for it in said.splitlines() if it.split()[0] not in CONFLICTS]

@@ -7,7 +7,7 @@ import random
 
 from .memory import MEGA, room_of
 from .plain import ASKED
-from .running import Wrong, is_fault, processor_time, put, remove, run, second, want
+from .running import Wrong, is_fault, is_run, processor_time, put, remove, run, second, want
 
 
 class Fleet:
@@ -121,7 +121,7 @@ def hostile_texts():
     for text in (b"\n" * 1000, b"\x00" * 1000, b"(" * 1000, b"Agent 0: " + b"(0,0)->" * 1000, b"9" * 1000, b"path " * 1000, b"=" * 1000):
         is_lawful(text, [])
     is_fault(["check", "--map", "m", "--paths", "m"], "paths: no form of paths in line 1")
-    is_fault(["check", "--map", "m", "--paths", "/dev/null"], "paths: no paths")
+    is_run(["check", "--map", "m", "--paths", "/dev/null"], b"", (1, "no paths\nsolves no\n", ""))
     remove("hostile")
 
 

@@ -32,7 +32,7 @@ def ten_thousand_agents(form):
     put("tasks", b"version 1\n" + TASK % (3, 4) * (MOST_AGENTS - 1))
     is_fault([*words, "--agents", "8191"], "paths: agent 8191 at time 0: unknown-agent")
     put("tasks", b"version 1\n" + TASK % (3, 4) * (MOST_AGENTS - 1) + TASK % (4, 3))
-    is_fault(words, "paths: agent 8191 at time 0: not-from-start")
+    is_run(words, b"", (1, "wrong 8191 0 not-from-start 4,3 3,4\nsolves no\n", ""))
     cells = [(n % 128, n // 128) for n in range(MOST_AGENTS)]
     status, said, complained = run(check(agents(cells), "--map", put_closed(128, 64)))
     lines = said.splitlines()

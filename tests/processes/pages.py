@@ -3,7 +3,8 @@ import html
 import random
 
 from .chances import wandering
-from .drawing import FAULTS, MORE
+from .drawing import MORE
+from .faulty_checks import DRAWING_FAULTS
 from .fleets import Fleet
 from .plain import ASKED, Scene, line_of, shown
 from .running import TOP, Wrong, bytes_of, is_fault, processor_time, put, remove, run, second, want
@@ -84,7 +85,7 @@ def forms_of_paths():
 def faults():
     """The faults of `draw`, in its order, and nothing on standard output."""
     put("bad_path", b"path 0 x\n")
-    for words, text in FAULTS:
+    for words, text in DRAWING_FAULTS:
         is_fault(["page", *words.split()], text)
     for words, text, more in MORE:
         is_fault(["page", *words.split(), "-v"], f"{text}\n  {more}")

@@ -88,19 +88,22 @@ def are_told(texts, form, size, report):
 
 
 def texts_of_paths_by_time():
-    """No step goes from the first cell to the second; a map of one column or row less lacks it."""
-    for size, why in (((8, 2048), " at time 1: not-a-step"), ((7, 2048), ": out-of-map"), ((8, 2047), ": out-of-map")):
+    """No step goes from the first cell to the second; a map of one column less lacks it, and one of one row less both."""
+    for size, why in (((8, 2048), "1 not-a-step 0,2047 7,2047"), ((7, 2048), "1 out-of-map 7,2047"), ((8, 2047), "0 out-of-map 0,2047")):
         name = put_closed(*size)
         for text in LENIENT:
             put("told", text)
-            is_fault(words_of(name, None), f"paths: agent 0{why}")
+            is_run(words_of(name, None), b"", (1, f"wrong 0 {why}\nsolves no\n", ""))
         remove("told", name)
 
 
 def are_refused(rows):
     for text, form, why in rows:
         put("told", text)
-        is_fault(words_of("m", form), f"paths: {why}")
+        if why == "no paths":
+            is_run(words_of("m", form), b"", (1, "no paths\nsolves no\n", ""))
+        else:
+            is_fault(words_of("m", form), f"paths: {why}")
     remove("told")
 
 

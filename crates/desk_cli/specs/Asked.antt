@@ -9,7 +9,8 @@ use Rattle.clap.specs.Simple.{subcommand_rows_of}
 use Rattle.clap.specs.Walk.{rows_of}
 use Rattle.clap.specs.declared.parser.matches.ArgMatches.{ArgMatches}
 use Rattle.clap.specs.declared.parser.matches.Found.{Found}
-use Rattle.desk_cli.specs.Values.{number_given, range_of, texts_given, texts_in, mode_named, lines_named, form_named, kinds_named}
+use Rattle.desk_cli.specs.Values.{file_named, number_given, range_of, texts_given, texts_in, mode_named, lines_named, form_named,
+    kinds_named}
 use Rattle.desk_cli.specs.declared.words.ServeWords.{ServeWords}
 use Rattle.desk_cli.specs.declared.words.AuditWords.{AuditWords}
 use Rattle.desk_cli.specs.declared.words.DrillWords.{DrillWords}
@@ -68,7 +69,7 @@ pub record AsksToCheck (found : Found) (words : CheckWords) : Type 0 where
   pub scen : option_copied words.scen ≡ first_value found (codes "scen")
   pub agents : words.agents ≡ number_given found (codes "agents")
   pub mode : words.mode ≡ mode_named (first_value found (codes "mode"))
-  pub paths : words.paths.now ≡ unwrap_or (first_value found (codes "paths")) []
+  pub paths : words.paths.now ≡ unwrap_or (option_map file_named (first_value found (codes "paths"))) []
   pub form : words.form ≡ form_named (first_value found (codes "form"))
   pub kinds : words.kinds ≡ kinds_named (option_map raw_values (matched_of found (codes "solves")))
   pub quiet : IsFlag found (codes "quiet") words.quiet
@@ -80,7 +81,7 @@ pub record AsksToDraw (found : Found) (words : DrawWords) : Type 0 where
   pub agents : words.agents ≡ number_given found (codes "agents")
   pub mode : words.mode ≡ mode_named (first_value found (codes "mode"))
   pub journal : option_copied words.journal ≡ first_value found (codes "journal")
-  pub paths : option_copied words.paths ≡ first_value found (codes "paths")
+  pub paths : option_copied words.paths ≡ option_map file_named (first_value found (codes "paths"))
   pub at : words.at ≡ number_given found (codes "at")
   pub shown : words.shown ≡ range_of (unwrap_or (first_value found (codes "agents-shown")) [])
   pub kinds : words.kinds ≡ option_map named_kinds (option_map raw_values (matched_of found (codes "solves")))
@@ -91,7 +92,7 @@ pub record AsksToPage (found : Found) (words : PageWords) : Type 0 where
   pub agents : words.agents ≡ number_given found (codes "agents")
   pub mode : words.mode ≡ mode_named (first_value found (codes "mode"))
   pub journal : option_copied words.journal ≡ first_value found (codes "journal")
-  pub paths : option_copied words.paths ≡ first_value found (codes "paths")
+  pub paths : option_copied words.paths ≡ option_map file_named (first_value found (codes "paths"))
   pub kinds : words.kinds ≡ kinds_named (option_map raw_values (matched_of found (codes "solves")))
   pub title : option_copied words.title ≡ first_value found (codes "title")
 

@@ -19,6 +19,10 @@ use Rattle.clap.specs.declared.parser.matches.Found.{Found}
 abbrev pub number_given : Found → List ℕ → Option ℕ
 number_given found name = option_and_then number_of (first_value found name)
 
+-- the file of that name; a dash stands for standard input (as usual on Unix)
+abbrev pub file_named : List ℕ → List ℕ
+file_named name = if bytes_eq name (codes "-") then codes "/dev/stdin" else name
+
 -- the texts of references
 abbrev pub texts_in : List (Bor (List ℕ)) → List (List ℕ)
 texts_in texts = map (λ text. text.now) texts

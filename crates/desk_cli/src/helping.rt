@@ -112,7 +112,8 @@ says, and else the first and the last cells of the paths.
 check prints the report, as audit does, and solves yes or solves no: yes if every agent comes to its
 goal, no path crosses a closed cell, and there is no conflict of the kinds that count. What
 solvers call an edge conflict, two agents that change places, is swap; edge is two agents that make
-the same move.
+the same move. A path that isn't one has a line wrong AGENT TIME WHY CELL.., and there is no report.
+The paths of - come on standard input.
 
 Statuses: 0 solves yes; 1 solves no; 2 a fault, reported on standard error: there is no verdict.
 

@@ -2,7 +2,7 @@
 ghost use Rattle.clap.specs.Matches.{found_of};
 ghost use Rattle.desk_cli.specs.Asked.{AsksToPage};
 
-use crate::values::{kinds_given, mode_given, number_given, text_given};
+use crate::values::{kinds_given, mode_given, number_given, paths_given, text_given};
 use crate::words::PageWords;
 use clap::ArgMatches;
 
@@ -16,7 +16,7 @@ pub(crate) fn page_words(matches: &ArgMatches<'static>) -> PageWords
         agents: number_given(matches, "agents"),
         mode: mode_given(matches),
         journal: matches.get_str("journal"),
-        paths: matches.get_str("paths"),
+        paths: paths_given(matches),
         kinds: kinds_given(matches),
         title: matches.get_str("title"),
     }

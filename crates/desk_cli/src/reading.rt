@@ -7,8 +7,8 @@ ghost use Rattle.desk_cli.specs.Asked.{AsksFor, AsksToAudit, AsksToCheck, AsksTo
 use crate::pages::page_words;
 use crate::ranges::range_of;
 use crate::values::{
-    form_given, kinds_asked, kinds_given, lines_given, mode_given, number_given, text_given,
-    texts_given,
+    form_given, kinds_asked, kinds_given, lines_given, mode_given, number_given, paths_given,
+    text_given, texts_given,
 };
 use crate::words::{AuditWords, CheckWords, DrawWords, DrillWords, HostWords, ServeWords, Words};
 use clap::ArgMatches;
@@ -97,7 +97,7 @@ fn check_words(matches: &ArgMatches<'static>) -> CheckWords
         scen: matches.get_str("scen"),
         agents: number_given(matches, "agents"),
         mode: mode_given(matches),
-        paths: text_given(matches, "paths"),
+        paths: paths_given(matches).unwrap_or(""),
         form: form_given(matches),
         kinds: kinds_given(matches),
         quiet: matches.get_flag("quiet"),
@@ -114,7 +114,7 @@ fn draw_words(matches: &ArgMatches<'static>) -> DrawWords
         agents: number_given(matches, "agents"),
         mode: mode_given(matches),
         journal: matches.get_str("journal"),
-        paths: matches.get_str("paths"),
+        paths: paths_given(matches),
         at: number_given(matches, "at"),
         shown: range_of(text_given(matches, "agents-shown")),
         kinds: kinds_asked(matches),

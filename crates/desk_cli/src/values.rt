@@ -5,7 +5,7 @@ ghost use Rattle.std.specs.Option.{option_copied};
 ghost use Rattle.clap.specs.Matches.{first_value, found_of, matched_of, raw_values};
 ghost use Rattle.session_lines.specs.Kinds.{named_kinds};
 ghost use Rattle.bench_reader.specs.Words.{number_of};
-ghost use Rattle.desk_cli.specs.Values.{form_named, kinds_named, lines_named, mode_named, number_given, texts_given, texts_in};
+ghost use Rattle.desk_cli.specs.Values.{file_named, form_named, kinds_named, lines_named, mode_named, number_given, texts_given, texts_in};
 
 use bench_reader::number_of;
 use clap::ArgMatches;
@@ -31,6 +31,23 @@ pub(crate) fn text_given(matches: &ArgMatches<'static>, name: &str) -> &'static 
     match matches.get_str(name) {
         Some(text) => text,
         None => "",
+    }
+}
+
+// The file of that name; a dash stands for standard input.
+fn file_named(name: &'static str) -> &'static str
+    ensures { result.now ≡ file_named name.now }
+{
+    if name == "-" { "/dev/stdin" } else { name }
+}
+
+/// The file of the paths, if it is named.
+pub(crate) fn paths_given(matches: &ArgMatches<'static>) -> Option<&'static str>
+    ensures { option_copied result ≡ option_map file_named (first_value (found_of matches.now) (codes "paths")) }
+{
+    match matches.get_str("paths") {
+        Some(name) => Some(file_named(name)),
+        None => None,
     }
 }
 

@@ -1,4 +1,5 @@
 mod SameReports
 mod OfPaths
 mod Refusing
+mod Judging
 pub mod Unserved

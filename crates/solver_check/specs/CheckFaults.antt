@@ -1,6 +1,6 @@
--- Why there is no verdict: the first fault of the text of paths, the map, the scenario and the tasks, the agents and the paths
--- (this project's choice). Want of memory is one fault, wherever it came.
-use Rattle.std.specs.Prelude.{◌≡◌, ◌⊎◌, ℕ, Bool, true, false, Option, List, length, unwrap_or, is_none, Result, Ok, Err}
+-- Why there is no verdict, or no scene of a text of paths: the first fault of that text, the map, the scenario and the tasks, the
+-- agents and the paths (this project's choice). Want of memory is one fault, wherever it came.
+use Rattle.std.specs.Prelude.{◌≡◌, ◌⊎◌, ℕ, Bool, true, false, Option, List, [], length, unwrap_or, is_none, Result, Ok, Err}
 use Rattle.grid_cells.specs.Size.{Extent}
 use Rattle.plan_table.specs.declared.tracks.Mode.{Mode}
 use Rattle.scene_edits.specs.Scene.{SceneState}
@@ -9,6 +9,7 @@ use Rattle.scene_edits.specs.declared.edits.Edit.{Edit}
 use Rattle.scene_edits.specs.declared.edits.Edit.TheVariants as edits
 use Rattle.scene_edits.specs.declared.edits.EditFault.{EditFault}
 use Rattle.path_files.specs.Texts.{paths_of}
+use Rattle.path_files.specs.declared.faults.PathsFault.TheVariants.{NoPaths}
 use Rattle.path_files.specs.declared.forms.Form.{Form}
 use Rattle.path_files.specs.declared.paths.SolverPaths.{SolverPaths}
 use Rattle.solver_check.specs.Opens.{Opens, IsOpenFault}
@@ -16,6 +17,7 @@ use Rattle.solver_check.specs.declared.faults.RunFault.{RunFault}
 use Rattle.solver_check.specs.declared.faults.RunFault.TheVariants as run_fault
 use Rattle.solver_check.specs.CheckEdits.{edits_of}
 use Rattle.solver_check.specs.CheckTimes.{time_of}
+use Rattle.solver_check.specs.Wrongs.{wrongs_of}
 use Rattle.solver_check.specs.declared.checks.faults.CheckFault.{CheckFault}
 use Rattle.solver_check.specs.declared.checks.faults.CheckFault.TheVariants.{Paths, Run, Agent, Path, WriteFailed, OutOfMemory}
 
@@ -26,6 +28,11 @@ of_run why = Run why
 -- how many tasks of a scenario are taken: as many as there are paths, unless it is said
 abbrev pub tasks_taken : Option ℕ → SolverPaths → ℕ
 tasks_taken agents spelled = unwrap_or agents (length spelled.paths)
+
+-- what the text of paths spells, and the scene that opens from the map and the tasks
+pub record Spells (map : List ℕ) (scen : Option (List ℕ)) (agents : Option ℕ) (mode : Mode) (paths : List ℕ) (form : Option Form) (spelled : SolverPaths) (opened : SceneState) : Type 0 where
+  pub reads : paths_of form paths ≡ Ok spelled
+  pub opens : Opens map scen (tasks_taken agents spelled) mode opened
 
 -- the fault of an agent, or of a path at its time
 abbrev pub Tells : Extent → Edit → EditFault → CheckFault → Type 0
@@ -70,6 +77,42 @@ IsPlanFault map scen agents mode paths form (Agent agent why) = HasRefusal map s
 IsPlanFault map scen agents mode paths form (Path agent time why) = HasRefusal map scen agents mode paths form (Path agent time why)
 IsPlanFault map scen agents mode paths form WriteFailed = ⊥
 IsPlanFault map scen agents mode paths form OutOfMemory = Unit {0}
+
+-- why neither the text of paths is read nor the scene opened
+abbrev pub IsUnopened : List ℕ → Option (List ℕ) → Option ℕ → List ℕ → Option Form → CheckFault → Type 0
+IsUnopened map scen agents paths form (Paths why) = paths_of form paths ≡ Err why
+IsUnopened map scen agents paths form (Run why) = HasOpenFault map scen agents paths form why
+IsUnopened map scen agents paths form (Agent agent why) = ⊥
+IsUnopened map scen agents paths form (Path agent time why) = ⊥
+IsUnopened map scen agents paths form WriteFailed = ⊥
+IsUnopened map scen agents paths form OutOfMemory = Unit {0}
+
+-- the solver found no paths
+abbrev pub is_without_paths : CheckFault → Bool
+is_without_paths (Paths NoPaths) = true
+is_without_paths fault = false
+
+-- the text has no paths, and the map and the tasks make no scene
+pub record HasOpenFaultAlone (map : List ℕ) (scen : Option (List ℕ)) (agents : Option ℕ) (paths : List ℕ) (form : Option Form) (why : RunFault) : Type 0 where
+  pub reads : paths_of form paths ≡ Err NoPaths
+  pub first : IsOpenFault map scen (unwrap_or agents 0) why
+
+-- the scene opens, no path is wrong, and it refuses one for which it has no agent
+pub record IsBeyond (map : List ℕ) (scen : Option (List ℕ)) (agents : Option ℕ) (mode : Mode) (paths : List ℕ) (form : Option Form) (fault : CheckFault) : Type 0 where
+  pub spelled : SolverPaths
+  pub opened : SceneState
+  pub opens : Spells map scen agents mode paths form spelled opened
+  pub right : wrongs_of (is_none scen) opened spelled ≡ []
+  pub first : IsFirstRefusal opened (edits_of (is_none scen) spelled) fault
+
+-- why there is no verdict: the first fault of what a check reads, unless that is that there are no paths
+abbrev pub IsUnjudged : List ℕ → Option (List ℕ) → Option ℕ → Mode → List ℕ → Option Form → CheckFault → Type 0
+IsUnjudged map scen agents mode paths form (Paths why) = (paths_of form paths ≡ Err why) × (is_without_paths (Paths why) ≡ false)
+IsUnjudged map scen agents mode paths form (Run why) = HasOpenFault map scen agents paths form why ⊎ HasOpenFaultAlone map scen agents paths form why
+IsUnjudged map scen agents mode paths form (Agent agent why) = IsBeyond map scen agents mode paths form (Agent agent why)
+IsUnjudged map scen agents mode paths form (Path agent time why) = IsBeyond map scen agents mode paths form (Path agent time why)
+IsUnjudged map scen agents mode paths form WriteFailed = ⊥
+IsUnjudged map scen agents mode paths form OutOfMemory = Unit {0}
 
 -- the verdict could not be written
 abbrev pub has_write_failed : {T : Type 0} → Result T CheckFault → Bool

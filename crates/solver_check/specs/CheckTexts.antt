@@ -1,5 +1,6 @@
 -- The text of a verdict (this project's choice).
 use Rattle.std.specs.Prelude.{ℕ, Bool, true, false, List, [], ◌∷◌, ◌++◌, length, codes, count_by}
+use Rattle.std.specs.List.{flat_map}
 use Rattle.mapf_rules.specs.ConflictList.{kind_of}
 use Rattle.mapf_rules.specs.declared.entries.Conflict.{Conflict}
 use Rattle.desk_report.specs.LineText.{line_text, answer_text}
@@ -9,6 +10,11 @@ use Rattle.mapf_rules.specs.declared.kinds.Kinds.{Kinds}
 use Rattle.desk_report.specs.declared.reports.AgentLine.{AgentLine}
 use Rattle.desk_report.specs.declared.reports.Report.{Report}
 use Rattle.session_protocol.specs.Replies.{version_line}
+use Rattle.solver_check.specs.FindingTexts.{difference_line, wrong_line}
+use Rattle.solver_check.specs.declared.checks.differences.Difference.{Difference}
+use Rattle.solver_check.specs.declared.checks.judging.Verdict.{Verdict}
+use Rattle.solver_check.specs.declared.checks.judging.Verdict.TheVariants.{NoPaths, Wrong, Judged}
+use Rattle.solver_check.specs.declared.checks.wrongs.Wrong as wrongs
 
 -- how many of the agents are finished
 abbrev pub count_finished : List AgentLine → ℕ
@@ -48,10 +54,29 @@ abbrev pub body_text : Bool → Report → List ℕ
 body_text true report = quiet_text report
 body_text false report = report_text report
 
--- whether the paths solve the problem
+-- version 0, the report, and where the text of paths differs from the problem
+abbrev pub report_body : Bool → Report → List Difference → List ℕ
+report_body quiet report differences = version_line 0 ++ body_text quiet report ++ flat_map difference_line differences
+
+-- the paths that aren't any, and where their text differs
+abbrev pub wrong_body : List wrongs.Wrong → List Difference → List ℕ
+wrong_body wrongs differences = flat_map wrong_line wrongs ++ flat_map difference_line differences
+
+-- what a verdict says before its answer
+abbrev pub findings_text : Bool → Verdict → List ℕ
+findings_text quiet NoPaths = line_text (codes "no" ∷ codes "paths" ∷ [])
+findings_text quiet (Wrong wrongs differences) = wrong_body wrongs differences
+findings_text quiet (Judged report differences solved) = report_body quiet report differences
+
+-- its answer: whether the paths solve the problem
+abbrev pub says_yes : Verdict → Bool
+says_yes NoPaths = false
+says_yes (Wrong wrongs differences) = false
+says_yes (Judged report differences solved) = solved
+
 abbrev pub verdict_line : Bool → List ℕ
 verdict_line solved = line_text (codes "solves" ∷ answer_text solved ∷ [])
 
--- version 0, the report and the verdict
-abbrev pub check_text : Bool → Report → Bool → List ℕ
-check_text quiet report solved = version_line 0 ++ body_text quiet report ++ verdict_line solved
+-- what it says, and its answer
+abbrev pub check_text : Bool → Verdict → List ℕ
+check_text quiet verdict = findings_text quiet verdict ++ verdict_line (says_yes verdict)

@@ -1,5 +1,5 @@
 -- A run of `check`: the verdict on the paths of a text (this project's choice).
-use Rattle.std.specs.Prelude.{◌≡◌, ◌⊎◌, ◌↔◌, IsTrue, ℕ, List, Option, is_none, Ok, Bool}
+use Rattle.std.specs.Prelude.{◌≡◌, ◌⊎◌, ℕ, List, Option, is_none, Ok, Bool}
 use Rattle.std.specs.Io.KnownBytes.{Appends}
 use Rattle.plan_table.specs.declared.tracks.Mode.{Mode}
 use Rattle.scene_edits.specs.Scene.{SceneState}
@@ -8,16 +8,15 @@ use Rattle.path_files.specs.Texts.{paths_of}
 use Rattle.path_files.specs.declared.forms.Form.{Form}
 use Rattle.path_files.specs.declared.paths.SolverPaths.{SolverPaths}
 use Rattle.desk_report.specs.Bytes.{AppendsFront}
-use Rattle.desk_report.specs.Report.{IsReportOf}
-use Rattle.desk_report.specs.Solves.{Solves}
 use Rattle.mapf_rules.specs.declared.kinds.Kinds.{Kinds}
-use Rattle.desk_report.specs.declared.reports.Report.{Report}
 use Rattle.solver_check.specs.Opens.{Opens}
 use Rattle.solver_check.specs.CheckEdits.{edits_of}
-use Rattle.solver_check.specs.CheckFaults.{tasks_taken, IsPlanFault}
+use Rattle.solver_check.specs.CheckFaults.{tasks_taken, IsUnjudged}
 use Rattle.solver_check.specs.declared.checks.faults.CheckFault.{CheckFault}
 use Rattle.solver_check.specs.declared.checks.faults.CheckFault.TheVariants.{WriteFailed}
-use Rattle.solver_check.specs.CheckTexts.{check_text}
+use Rattle.solver_check.specs.CheckTexts.{check_text, says_yes}
+use Rattle.solver_check.specs.Verdicts.{IsVerdict}
+use Rattle.solver_check.specs.declared.checks.judging.Verdict.{Verdict}
 
 -- the scene that opens from the map and the tasks, with the agents and the paths that the text spells, all of them allowed
 pub record IsPlanned (map : List ℕ) (scen : Option (List ℕ)) (agents : Option ℕ) (mode : Mode) (paths : List ℕ) (form : Option Form) (scene : SceneState) : Type 0 where
@@ -30,24 +29,19 @@ pub record IsPlanned (map : List ℕ) (scen : Option (List ℕ)) (agents : Optio
 
 -- what a check that comes to its end has written and answers
 pub record Checks (map : List ℕ) (scen : Option (List ℕ)) (agents : Option ℕ) (mode : Mode) (paths : List ℕ) (form : Option Form) (kinds : Kinds) (quiet : Bool) (held0 held1 : Option (List ℕ)) (solved : Bool) : Type 0 where
-  pub scene : SceneState
-  pub planned : IsPlanned map scen agents mode paths form scene
-  pub report : Report
-  pub told : IsReportOf scene.grid scene.mode scene.rows report
-  pub answer : IsTrue solved ↔ Solves report kinds
-  pub written : Appends held0 held1 (check_text quiet report solved)
+  pub verdict : Verdict
+  pub is : IsVerdict map scen agents mode paths form kinds verdict
+  pub answer : solved ≡ says_yes verdict
+  pub written : Appends held0 held1 (check_text quiet verdict)
 
 -- the sink failed, and a prefix of what the check writes went out
 pub record StopsInCheck (map : List ℕ) (scen : Option (List ℕ)) (agents : Option ℕ) (mode : Mode) (paths : List ℕ) (form : Option Form) (kinds : Kinds) (quiet : Bool) (held0 held1 : Option (List ℕ)) : Type 0 where
-  pub scene : SceneState
-  pub planned : IsPlanned map scen agents mode paths form scene
-  pub report : Report
-  pub told : IsReportOf scene.grid scene.mode scene.rows report
-  pub solved : Bool
-  pub answer : IsTrue solved ↔ Solves report kinds
-  pub sent : AppendsFront held0 held1 (check_text quiet report solved)
+  pub verdict : Verdict
+  pub is : IsVerdict map scen agents mode paths form kinds verdict
+  pub sent : AppendsFront held0 held1 (check_text quiet verdict)
 
 -- how a check fails: by the first fault of what it reads, else, where there is none, by its writer
 abbrev pub IsCheckFault : List ℕ → Option (List ℕ) → Option ℕ → Mode → List ℕ → Option Form → CheckFault → Type 0
 IsCheckFault map scen agents mode paths form fault =
-    IsPlanFault map scen agents mode paths form fault ⊎ ((fault ≡ WriteFailed) × ((scene : SceneState) × IsPlanned map scen agents mode paths form scene))
+    IsUnjudged map scen agents mode paths form fault
+    ⊎ ((fault ≡ WriteFailed) × ((kinds : Kinds) × (verdict : Verdict) × IsVerdict map scen agents mode paths form kinds verdict))

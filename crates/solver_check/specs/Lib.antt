@@ -2,8 +2,12 @@ pub mod Faults
 pub mod Opens
 pub mod CheckEdits
 pub mod CheckTimes
+pub mod Wrongs
+pub mod Differences
+pub mod FindingTexts
 pub mod CheckTexts
 pub mod CheckFaults
+pub mod Verdicts
 pub mod Checks
 pub mod Bounds
 pub mod Inputs

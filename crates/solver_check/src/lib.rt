@@ -7,8 +7,9 @@
 //! from scratch; `faults` has what a run fails by.
 //!
 //! In `checks`, for the word `check`, `edits` are what a text of paths asks for, `scenes` the scene
-//! that it makes, `times` the time at which a path is refused; `texts` and `quiet` write the verdict;
-//! `faults` has what a verdict or a picture fails by.
+//! that it makes, `times` the time at which a path is refused; `wrongs` are the paths that aren't any,
+//! `differences` where the text differs from the problem, `judging` is the verdict; `texts`, `findings`
+//! and `quiet` write it; `faults` has what a verdict or a picture fails by.
 #![tactic(auto)]
 
 mod bounds;

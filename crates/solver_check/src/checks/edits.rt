@@ -1,15 +1,15 @@
 //! The edits that a text of paths asks for.
 ghost use Rattle.std.specs.Prelude.{◌≡◌, ◌<◌, ◌≤◌, ◌++◌, length, slice_get, IfOk, OnOk};
 ghost use Rattle.scene_edits.specs.declared.scenes.TheConstants.{MOST_AGENTS};
-ghost use Rattle.solver_check.specs.CheckEdits.{adds_of, cell_in, edits_of, paths_from};
+ghost use Rattle.solver_check.specs.CheckEdits.{adds_of, cell_in, edits_of, goal_in, paths_from, start_in};
 
 use grid_cells::{Agent, Cell, List, OutOfMemory};
 use path_files::SolverPaths;
 use scene_edits::Edit;
 use std::alloc::Global;
 
-// The agent of that number.
-fn agent_of(number: usize) -> Agent
+/// The agent of that number.
+pub(crate) fn agent_of(number: usize) -> Agent
     requires { number < MOST_AGENTS }
     ensures { result ≡ number }
 {
@@ -33,6 +33,20 @@ fn cell_in(list: &Option<List<Cell>>, agent: usize, path: &[Cell], at: usize) ->
     }
 }
 
+/// Where the agent with that path starts: where the text says, or where its path begins.
+pub(crate) fn start_in(spelled: &SolverPaths, agent: usize, path: &[Cell]) -> Option<Cell>
+    ensures { result ≡ start_in spelled.now agent path.now }
+{
+    cell_in(&spelled.starts, agent, path, 0)
+}
+
+/// Its goal: what the text says, or where its path ends.
+pub(crate) fn goal_in(spelled: &SolverPaths, agent: usize, path: &[Cell]) -> Option<Cell>
+    ensures { result ≡ goal_in spelled.now agent path.now }
+{
+    cell_in(&spelled.goals, agent, path, path.len().saturating_sub(1))
+}
+
 // Adds the agents, each with its start and goal.
 fn adds_of(alloc: Global, spelled: &SolverPaths) -> Result<Vec<Edit>, OutOfMemory>
     requires { length spelled.now.paths ≤ MOST_AGENTS }
@@ -41,9 +55,11 @@ fn adds_of(alloc: Global, spelled: &SolverPaths) -> Result<Vec<Edit>, OutOfMemor
     let mut edits = Vec::new(alloc);
     for (number, path) in spelled.paths.items().iter().enumerate() {
         let cells = path.items();
-        let start = cell_in(&spelled.starts, number, cells, 0);
-        let goal = cell_in(&spelled.goals, number, cells, cells.len().saturating_sub(1));
-        if let (Some(start), Some(goal)) = (start, goal) {
+        let ends = (
+            start_in(spelled, number, cells),
+            goal_in(spelled, number, cells),
+        );
+        if let (Some(start), Some(goal)) = ends {
             let agent = agent_of(number);
             edits.push(Edit::Add { agent, start, goal })?;
         }

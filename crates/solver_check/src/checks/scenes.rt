@@ -3,7 +3,7 @@ ghost use Rattle.std.specs.Prelude.{◌≡◌, ◌≤◌, length, IfOk, IfErr, O
 ghost use Rattle.scene_edits.specs.InOrder.{edited_all, AreAllowed};
 ghost use Rattle.scene_edits.specs.declared.scenes.TheConstants.{MOST_AGENTS};
 ghost use Rattle.solver_check.specs.CheckEdits.{edits_of, IsOfPaths};
-ghost use Rattle.solver_check.specs.CheckFaults.{IsPlanFault, IsRefused, Tells};
+ghost use Rattle.solver_check.specs.CheckFaults.{IsPlanFault, IsRefused, IsUnopened, Spells, Tells};
 ghost use Rattle.solver_check.specs.Checks.{IsPlanned};
 ghost use Rattle.solver_check.specs.Opens.{bytes_of};
 
@@ -32,8 +32,11 @@ fn refusal_of(size: Size, edit: &Edit, why: EditFault) -> CheckFault
     }
 }
 
-// Gives the scene the paths, and on a bare map the agents before them.
-fn plan(
+/// Gives the scene the paths, and on a bare map the agents before them.
+///
+/// # Errors
+/// The first agent or path that the scene refuses, or want of memory.
+pub(crate) fn plan(
     alloc: Global,
     scene: &mut Scene,
     spelled: SolverPaths,
@@ -57,6 +60,48 @@ fn plan(
     }
 }
 
+/// What a text of paths spells, and the scene that it is judged on.
+#[derive(Drop)]
+pub(crate) struct Opened {
+    pub(crate) spelled: SolverPaths,
+    pub(crate) scene: Scene,
+}
+
+/// What a text of paths spells, and the scene of a problem, with as many agents as there are paths
+/// unless their number is told.
+///
+/// # Errors
+/// The first fault of the text of paths, the map, the scenario and the tasks, or want of memory.
+pub(crate) fn open(
+    alloc: Global,
+    problem: Problem<'_>,
+    paths: &[u8],
+    form: Option<Form>,
+) -> Result<Opened, CheckFault>
+    ensures ok { IfOk result (λ opened. Spells problem.entry.map.now (bytes_of problem.entry.scen) problem.entry.agents problem.entry.mode
+        paths.now form opened.spelled opened.scene) }
+    ensures few { IfOk result (λ opened. length opened.spelled.paths ≤ MOST_AGENTS) }
+    ensures err { IfErr result (IsUnopened problem.entry.map.now (bytes_of problem.entry.scen) problem.entry.agents paths.now form) }
+{
+    let spelled = match read_paths(alloc, paths, form) {
+        Ok(spelled) => spelled,
+        Err(PathsFault::OutOfMemory) => return Err(CheckFault::OutOfMemory),
+        Err(fault) => return Err(CheckFault::Paths(fault)),
+    };
+    let tasks = problem.agents.unwrap_or(spelled.paths.items().len() as u32);
+    let counted = Problem {
+        agents: Some(tasks),
+        ..problem
+    };
+    match scene_of(alloc, counted) {
+        Ok(scene) => Ok(Opened { spelled, scene }),
+        Err(fault) => {
+            drop(spelled);
+            Err(CheckFault::from(fault))
+        }
+    }
+}
+
 /// The scene of a problem, with the paths of a text and, where there is no scenario, their agents.
 ///
 /// # Errors
@@ -72,22 +117,9 @@ pub fn planned_scene(
     ensures ok { IfOk result (IsPlanned problem.entry.map.now (bytes_of problem.entry.scen) problem.entry.agents problem.entry.mode paths.now form) }
     ensures err { IfErr result (IsPlanFault problem.entry.map.now (bytes_of problem.entry.scen) problem.entry.agents problem.entry.mode paths.now form) }
 {
-    let spelled = match read_paths(alloc, paths, form) {
-        Ok(spelled) => spelled,
-        Err(PathsFault::OutOfMemory) => return Err(CheckFault::OutOfMemory),
-        Err(fault) => return Err(CheckFault::Paths(fault)),
-    };
-    let tasks = problem.agents.unwrap_or(spelled.paths.items().len() as u32);
-    let counted = Problem {
-        agents: Some(tasks),
-        ..problem
-    };
-    let mut scene = match scene_of(alloc, counted) {
-        Ok(scene) => scene,
-        Err(fault) => {
-            drop(spelled);
-            return Err(CheckFault::from(fault));
-        }
+    let Opened { spelled, mut scene } = match open(alloc, problem, paths, form) {
+        Ok(opened) => opened,
+        Err(fault) => return Err(fault),
     };
     match plan(alloc, &mut scene, spelled, problem.scen.is_none()) {
         Ok(()) => Ok(scene),

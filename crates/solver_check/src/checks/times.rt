@@ -5,8 +5,8 @@ use grid_cells::{Cell, Size};
 use plan_table::MOST_LAST_INDEX;
 use scene_edits::EditFault;
 
-// Whether the cell is off the map.
-fn is_off(size: Size, cell: Cell) -> bool
+/// Whether the cell is off the map.
+pub(crate) fn is_off(size: Size, cell: Cell) -> bool
     ensures { result ≡ is_off size cell }
 {
     cell.x() >= size.width() || cell.y() >= size.height()

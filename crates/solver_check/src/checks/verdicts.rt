@@ -1,39 +1,32 @@
-ghost use Rattle.std.specs.Prelude.{◌≡◌, ◌≢◌, ◌≤◌, ◌↔◌, ◌||◌, IfOk, IfErr, IsTrue};
-ghost use Rattle.desk_report.specs.Solves.{Solves};
+ghost use Rattle.std.specs.Prelude.{◌≡◌, ◌≢◌, ◌≤◌, ◌||◌, IfOk, IfErr};
 ghost use Rattle.solver_check.specs.Checks.{Checks, IsCheckFault, StopsInCheck};
 ghost use Rattle.solver_check.specs.CheckFaults.{has_write_failed};
 ghost use Rattle.solver_check.specs.Opens.{bytes_of};
 
 use crate::checks::faults::CheckFault;
-use crate::checks::scenes::planned_scene;
-use crate::checks::texts::put_check;
-use crate::reporting::report_of;
+use crate::checks::judging::judge;
+use crate::checks::texts::{put_check, says_yes};
 use crate::scenes::Problem;
-use desk_report::{Kinds, Report, Sink, WriteFailed};
-use grid_cells::OutOfMemory;
+use desk_report::{Kinds, Sink, WriteFailed};
 use path_files::Form;
 use std::alloc::Global;
 use std::sync::Wait;
 use std::thread::Threads;
-
-// Whether the report says that the problem is solved, by those kinds of conflicts.
-fn solves(report: &Report, kinds: Kinds) -> bool
-    ensures { IsTrue result ↔ Solves report.now kinds }
-{
-    report.solves(kinds)
-}
 
 /// Writes and answers whether paths that a solver wrote solve their problem, by the kinds of
 /// conflicts that are named. The scene is that of a map in a mode, with the agents of the first
 /// tasks of a scenario: so many, or else one for each path. With no scenario its agents are those of
 /// the paths, each with the start and the goal that their text tells, or else the two ends of its
 /// path. The report is made from scratch, by so many threads; a quiet one is without its lists.
+/// Where the text has no paths, or some that aren't any, no report is made, and the answer is no.
+/// It is no, too, where there are fewer paths than agents, or the text lists another start or goal
+/// than the scenario.
 ///
 /// # Errors
 ///
-/// The first fault of the paths' text, the map, the scenario, the tasks, the agents and the paths,
-/// want of memory, or a fault of the writer: then a prefix of the text went out. But for the last,
-/// nothing is written.
+/// The first fault of the paths' text, the map, the scenario and the tasks; where no path is wrong,
+/// that there are more of them than agents; want of memory, or a fault of the writer: then a prefix
+/// of the text went out. But for the last, nothing is written.
 pub fn run_check<T: Threads + Wait, W: Sink>(
     rt: &T,
     alloc: Global,
@@ -54,19 +47,13 @@ pub fn run_check<T: Threads + Wait, W: Sink>(
     ensures cut { IfErr result (λ fault. fault ≡ CheckFault.WriteFailed → StopsInCheck problem.entry.map.now (bytes_of problem.entry.scen) problem.entry.agents
         problem.entry.mode paths.now form kinds quiet (W.held writer.old) (W.held writer.new)) }
 {
-    let scene = match planned_scene(alloc, problem, paths, form) {
-        Ok(scene) => scene,
+    let verdict = match judge(rt, alloc, problem, paths, form, kinds, workers) {
+        Ok(verdict) => verdict,
         Err(fault) => return Err(fault),
     };
-    let told = report_of(rt, alloc, &scene, workers);
-    drop(scene);
-    let report = match told {
-        Ok(report) => report,
-        Err(OutOfMemory) => return Err(CheckFault::OutOfMemory),
-    };
-    let yes = solves(&report, kinds);
-    let put = put_check(writer, quiet, &report, yes);
-    drop(report);
+    let yes = says_yes(&verdict);
+    let put = put_check(writer, quiet, &verdict);
+    drop(verdict);
     match put {
         Ok(()) => Ok(yes),
         Err(WriteFailed) => Err(CheckFault::WriteFailed),

@@ -1,24 +1,18 @@
-use Rattle.std.proofs.Common.{◌++◌}
-use Rattle.desk_report.proofs.Fronts.{front-more, front-after, err-of, err-after}
-use Rattle.std.proofs.KnownBytes.{Appends-trans}
-use Rattle.session_protocol.specs.Replies.{version_line}
-use Rattle.solver_check.specs.CheckTexts.{body_text, verdict_line}
+use Rattle.desk_report.proofs.Fronts.{front-more, err-of, ok-after, err-after}
+use Rattle.solver_check.specs.CheckTexts.{findings_text, says_yes, verdict_line}
 use Rattle.solver_check.proofs.checks.texts.put_check.Goals as goal
 
-pub returns-in_err-put_line-clause-err : goal.returns-in_err-put_line-clause-err
-returns-in_err-put_line-clause-err g c =
-    let body = body_text c.args.quiet c.args.report.now in
-    err-of c.from_residual.result
-    (front-more _ _ (version_line 0 ++ body) (verdict_line c.args.yes) (front-more _ _ (version_line 0) body c.in_err-put_line.ensures.err))
+pub returns-in_err-put_findings-clause-err : goal.returns-in_err-put_findings-clause-err
+returns-in_err-put_findings-clause-err g c =
+    let v = c.args.verdict.now in
+    err-of c.from_residual.result (front-more _ _ (findings_text c.args.quiet v) (verdict_line (says_yes v)) c.in_err-put_findings.ensures.err)
 
-pub returns-in_err-put_body-clause-err : goal.returns-in_err-put_body-clause-err
-returns-in_err-put_body-clause-err g c =
-    let body = body_text c.args.quiet c.args.report.now in
-    err-of c.from_residual-in_err-put_body.result
-    (front-more _ _ (version_line 0 ++ body) (verdict_line c.args.yes) (front-after _ _ _ (version_line 0) body c.in_ok-put_line.ensures.ok c.in_err-put_body.ensures.err))
+pub returns-clause-ok : goal.returns-clause-ok
+returns-clause-ok g c =
+    let v = c.args.verdict.now in
+    ok-after _ _ _ _ (findings_text c.args.quiet v) (verdict_line (says_yes v)) c.in_ok-put_findings.ensures.ok (rw c.says_yes.ensures at c.put_line.ensures.ok)
 
 pub returns-clause-err : goal.returns-clause-err
 returns-clause-err g c =
-    let body = body_text c.args.quiet c.args.report.now in
-    let done = Appends-trans _ _ _ (version_line 0) body c.in_ok-put_line.ensures.ok c.in_ok-put_body.ensures.ok in
-    err-after _ _ _ _ (version_line 0 ++ body) (verdict_line c.args.yes) done c.put_line-2.ensures.err
+    let v = c.args.verdict.now in
+    err-after _ _ _ _ (findings_text c.args.quiet v) (verdict_line (says_yes v)) c.in_ok-put_findings.ensures.ok (rw c.says_yes.ensures at c.put_line.ensures.err)
