@@ -1,5 +1,5 @@
 //! Entries put into a log.
-ghost use Rattle.std.specs.Prelude.{◌≡◌, ◌⊎◌, ◌++◌, [], ◌∷◌, List, ℕ, Some, OnOk, IfOk};
+ghost use Rattle.std.specs.Prelude.{◌≡◌, ◌⊎◌, ◌++◌, [], ◌∷◌, List, ℕ, Some, OnErr, OnOk, IfOk};
 ghost use Rattle.commit_log.specs.Lines.{IsBody};
 ghost use Rattle.commit_log.specs.Text.{commit_line, log_text};
 ghost use Rattle.commit_log.specs.Crashes.{Counts, MayLeave, IsLogOf};
@@ -28,6 +28,22 @@ fn sealed(mut entry: Vec<u8>, number: u64, check: &Check) -> Result<Vec<u8>, Log
 }
 
 impl<L: Log> LogWriter<L> {
+    /// Begins a log that has no bytes: its head stands in it, and a crash leaves that.
+    ///
+    /// # Errors
+    ///
+    /// The log failed: a front of the head may stand there.
+    pub fn begin(&mut self, head: &[u8]) -> Result<(), LogFailed>
+        ensures begun { L.text self.old.log ≡ Some [] → OnOk result (L.text self.new.log ≡ Some (log_text head.now [])) }
+        ensures counted { OnOk result (Counts head.now [] self.new.count self.new.check) }
+        ensures kept { OnOk result (L.kept self.new.log ≡ L.text self.new.log) }
+    {
+        self.log.append(head)?;
+        self.count = 0;
+        self.check = check_of(b"", head);
+        self.settle()
+    }
+
     /// Adds an entry, and answers its number, from 1. Nothing says yet that a crash leaves it.
     ///
     /// # Errors
@@ -68,6 +84,7 @@ impl<L: Log> LogWriter<L> {
         ensures count { self.new.count ≡ self.old.count }
         ensures check { self.new.check ≡ self.old.check }
         ensures kept { OnOk result (L.kept self.new.log ≡ L.text self.new.log) }
+        ensures failed { OnErr result (L.kept self.new.log ≡ L.kept self.old.log) }
     {
         self.log.sync()
     }

@@ -9,3 +9,4 @@ pub mod WholeWalks
 pub mod BadLines
 pub mod OneAnswer
 pub mod ReaderSteps
+pub mod Fitted

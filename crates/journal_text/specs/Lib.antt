@@ -4,3 +4,4 @@ pub mod Reading
 pub mod Begun
 pub mod Places
 pub mod Laws
+pub mod Fitting

@@ -1,5 +1,6 @@
 ghost use Rattle.std.specs.Prelude.{◌≡◌, IfSome};
 ghost use Rattle.journal_text.specs.Lines.{entry_lines, text_of};
+ghost use Rattle.journal_text.specs.Ranges.{IsEntry};
 ghost use Rattle.journal_text.specs.Reading.{IsEntryText};
 
 use crate::reading::read_journal;
@@ -8,9 +9,10 @@ use desk_commits::Commit;
 use desk_report::Spout;
 use std::alloc::Global;
 
-// The lines that are written of the entry.
-fn written_entry(alloc: Global, entry: &Commit) -> Option<Vec<u8>>
-    ensures { IfSome result (λ lines. lines.items ≡ text_of (entry_lines entry.now)) }
+/// The lines that are written of the entry; none where memory is wanting.
+pub fn written_entry(alloc: Global, entry: &Commit) -> Option<Vec<u8>>
+    ensures written { IfSome result (λ lines. lines.items ≡ text_of (entry_lines entry.now)) }
+    ensures lawful { IfSome result (λ lines. IsEntry entry.now) }
 {
     let mut sink = Spout::new(Vec::new(alloc));
     match entry.put_into(&mut sink) {

@@ -8,3 +8,4 @@ pub mod ItemLines
 pub mod Staying
 pub mod WalkAlong
 pub mod InOrder
+pub mod Unkept

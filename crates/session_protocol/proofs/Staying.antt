@@ -72,7 +72,7 @@ module _ {S : Type 0} (version : LinesVersion) (c : Counting S) (Keeps : S → S
   replies number session (Err fault.Shape) at then reply next done = stays at then done.2
   replies number session (Err fault.OutOfMemory) at then reply next done = stays at then done.2
 
-  answers : (old : Session × S) (number : ℕ) (line : List ℕ) (reply : Reply) (new : Session × S) → answering_in version c old number line reply new → Keeps old.1 new.1
+  pub answers : (old : Session × S) (number : ℕ) (line : List ℕ) (reply : Reply) (new : Session × S) → answering_in version c old number line reply new → Keeps old.1 new.1
   answers old number line reply new (inl done) = replies number old.0 (request_in version line) old.1 new.1 reply new.0 done
   answers old number line reply new (inr (grows, done)) = stays old.1 new.1 done.2
 

@@ -9,3 +9,4 @@ pub mod Session
 pub mod Reads
 pub mod Answer
 pub mod Start
+pub mod Keeping

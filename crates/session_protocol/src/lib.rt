@@ -2,7 +2,8 @@
 //!
 //! `serving` is the loop over bytes, `hearing` hears the text of a map before it. `answers` finds the
 //! reply to a request by way of a `Counter`, and where the session then is (`drafts`); `gathering`
-//! keeps edits and watches, and makes commits of them. `trials` asks what a commit would change: what
+//! keeps edits and watches, and makes commits of them; `keeping` is what keeps what a line did before
+//! it is answered. `trials` asks what a commit would change: what
 //! changed between two reports (`changing`) is what one ascending list has and the other hasn't
 //! (`differing`, `ordered`). `replies` are data, `writers` and `refusals` their texts.
 #![tactic(auto)]
@@ -15,6 +16,7 @@ mod drafts;
 mod gathering;
 mod hearing;
 mod inquiries;
+mod keeping;
 mod listing;
 mod ordered;
 mod refusals;
@@ -27,7 +29,8 @@ mod writers;
 
 pub use bounds::{Bounds, ServeFault, StartFault};
 pub use hearing::hear_map;
+pub use keeping::{KeepFailed, Keeper};
 pub use refusals::{fault_word, put_refusal};
 pub use session_lines::LinesVersion;
-pub use sessions::{serve, serve_in};
+pub use sessions::{serve, serve_in, serve_kept};
 pub use writers::{is_acceptance, put_report};

@@ -1,11 +1,13 @@
-ghost use Rattle.std.specs.Prelude.{◌≡◌, ◌+◌, [], IfErr, ◌||◌};
+ghost use Rattle.std.specs.Prelude.{◌≡◌, ◌+◌, [], Err, IfErr, ◌||◌, false, true};
 ghost use Rattle.session_protocol.specs.Answer.{answering_in};
+ghost use Rattle.session_protocol.specs.Keeping.{StopsUnkept};
 ghost use Rattle.session_protocol.specs.Reads.{ReadsWithin};
 ghost use Rattle.session_protocol.specs.Session.{IsAnswered, IsNext, Serves, is_read_failed, is_write_failed};
 
 use crate::answers::answer;
 use crate::bounds::{Bounds, ServeFault};
 use crate::drafts::Session;
+use crate::keeping::Keeper;
 use crate::waiting::Waiting;
 use crate::writers::put_reply;
 use desk_core::Counter;
@@ -14,25 +16,34 @@ use session_lines::LinesVersion;
 use std::alloc::Global;
 use std::mem;
 
-// Answers the line, and puts the reply.
-fn answer_line<C: Counter, P: Waiting<C>, W: Sink>(
+// Answers the line, keeps what it did, and puts the reply.
+fn answer_line<C: Counter, P: Waiting<C>, K: Keeper<C>, W: Sink>(
     alloc: Global,
     version: LinesVersion,
     waiting: &P,
+    keeper: &mut K,
     session: &mut Session,
     counter: &mut C,
     number: u32,
     line: &[u8],
     writer: &mut W,
 ) -> Result<(), ServeFault>
+    requires sound { K.has_failed keeper.old ≡ false }
     ensures answered { IsAnswered (answering_in version C.counting) (session.old, counter.old) number line.now
         (W.held writer.old) (W.held writer.new) result (session.new, counter.new) }
     ensures unwritten { IfErr result (λ fault. fault ≡ ServeFault.WriteFailed) }
-    ensures broken { W.broken writer.new ≡ (W.broken writer.old || is_write_failed result) }
+    ensures broken { K.has_failed keeper.new ≡ false → W.broken writer.new ≡ (W.broken writer.old || is_write_failed result) }
+    ensures kept { K.has_failed keeper.new ≡ false → K.keeps keeper.old counter.old → K.keeps keeper.new counter.new }
+    ensures silent { K.has_failed keeper.new ≡ true → (result ≡ Err ServeFault.WriteFailed) × (W.held writer.new ≡ W.held writer.old) × (W.broken writer.new ≡ W.broken writer.old) }
+    ensures left { K.has_failed keeper.new ≡ true → K.keeps keeper.old counter.old → K.keeps_some keeper.new counter.old counter.new }
 {
     let before = mem::replace(session, Session::Idle);
     let (reply, next) = answer(alloc, version, waiting, before, counter, number, line);
     *session = next;
+    if keeper.keep(counter).is_err() {
+        drop(reply);
+        return Err(ServeFault::WriteFailed);
+    }
     let put = put_reply(writer, &reply);
     drop(reply);
     match put {
@@ -68,10 +79,11 @@ fn next_within<R: Source>(
 }
 
 /// Serves the session from where it is, before the first byte of a line.
-pub(crate) fn serve_lines<C: Counter, P: Waiting<C>, R: Source, W: Sink>(
+pub(crate) fn serve_lines<C: Counter, P: Waiting<C>, K: Keeper<C>, R: Source, W: Sink>(
     alloc: Global,
     version: LinesVersion,
     waiting: &P,
+    keeper: &mut K,
     session: &mut Session,
     line: &mut Vec<u8>,
     counter: &mut C,
@@ -79,12 +91,17 @@ pub(crate) fn serve_lines<C: Counter, P: Waiting<C>, R: Source, W: Sink>(
     writer: &mut W,
     bounds: Bounds,
 ) -> Result<u32, ServeFault>
-    requires { line.old.items ≡ [] }
+    requires empty { line.old.items ≡ [] }
+    requires sound { K.has_failed keeper.old ≡ false }
     ensures session { Serves (answering_in version C.counting) bounds (R.left reader.old) (R.left reader.new)
         (W.held writer.old) (W.held writer.new) (session.old, counter.old) (session.new, counter.new) result }
     ensures read { ReadsWithin R.gives (bounds.bytes + 1) reader.old reader.new (is_read_failed result) }
     ensures failed { R.failed reader.new ≡ (R.failed reader.old || is_read_failed result) }
-    ensures broken { W.broken writer.new ≡ (W.broken writer.old || is_write_failed result) }
+    ensures broken { K.has_failed keeper.new ≡ false → W.broken writer.new ≡ (W.broken writer.old || is_write_failed result) }
+    ensures kept { K.has_failed keeper.new ≡ false → K.keeps keeper.old counter.old → K.keeps keeper.new counter.new }
+    ensures silent { K.has_failed keeper.new ≡ true → (result ≡ Err ServeFault.WriteFailed) × (W.broken writer.new ≡ W.broken writer.old) }
+    ensures unkept { K.has_failed keeper.new ≡ true → StopsUnkept (answering_in version C.counting) (W.held writer.old) (W.held writer.new)
+        (session.old, counter.old) (session.new, counter.new) (λ told. K.keeps keeper.old counter.old → K.keeps_some keeper.new told.1 counter.new) }
 {
     let mut lines: u32 = 0;
     let mut bytes: u64 = 0;
@@ -98,6 +115,7 @@ pub(crate) fn serve_lines<C: Counter, P: Waiting<C>, R: Source, W: Sink>(
                 alloc,
                 version,
                 waiting,
+                keeper,
                 session,
                 counter,
                 lines + 1,
@@ -116,7 +134,7 @@ pub(crate) fn serve_lines<C: Counter, P: Waiting<C>, R: Source, W: Sink>(
             lines += 1;
             let whole = line.as_slice();
             answer_line(
-                alloc, version, waiting, session, counter, lines, whole, writer,
+                alloc, version, waiting, keeper, session, counter, lines, whole, writer,
             )?;
             line.clear();
         }

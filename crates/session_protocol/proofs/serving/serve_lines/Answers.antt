@@ -3,6 +3,7 @@ use Rattle.std.proofs.lemmas.Result.{err_from_is_err_and}
 use Rattle.session_protocol.proofs.Progress.{progress-byte, progress-line}
 use Rattle.session_protocol.proofs.Reading.{reads-on}
 use Rattle.session_protocol.proofs.Endings.{ends-next, ends-no_memory, ends-line_unwritten, ends-last_unwritten, ends-last, ends-empty}
+use Rattle.session_protocol.proofs.Unkept.{stops-unkept}
 use Rattle.session_protocol.proofs.serving.serve_lines.Goals as goal
 
 pub returns-in_err-byte-clause-session : goal.returns-in_err-byte-clause-session
@@ -61,6 +62,8 @@ session-preserved-in-Ok g c =
       read = reads-on _ _ c.session.bytes 1 _ _ _ _ c.session.invariant.read c.in_ok-byte.ensures.read (omega arith);
       read_sound = search rules;
       write_sound = search rules;
+      keep_sound = search rules;
+      kept = search rules;
     }
 
 pub session-preserved : goal.session-preserved
@@ -76,6 +79,8 @@ session-preserved g c =
       read = reads-on _ _ c.session.bytes 1 _ _ _ _ c.session.invariant.read c.in_ok-byte.ensures.read (omega arith);
       read_sound = search rules;
       write_sound = search rules;
+      keep_sound = search rules;
+      kept = search rules;
     }
 
 -- No read is made after one that failed, and no more bytes are taken than the bound and one.
@@ -102,3 +107,18 @@ pub returns-in_err-answer_line-2-clause-read : goal.returns-in_err-answer_line-2
 returns-in_err-answer_line-2-clause-read g c =
     let p = err_from_is_err_and c.from_residual-in_err-answer_line-2.result c.from_residual-in_err-answer_line-2.ensures.1 in
     rw (p.1, p.2, c.in_err-answer_line-2.ensures.unwritten) (reads-on _ _ c.session.bytes 1 _ _ _ _ c.session.invariant.read c.in_ok-byte.ensures.read (omega arith))
+
+-- What a line did that wasn't kept has no answer.
+pub returns-in_err-answer_line-clause-unkept : goal.returns-in_err-answer_line-clause-unkept
+returns-in_err-answer_line-clause-unkept g c failed =
+    let said = c.in_err-answer_line.ensures in
+    let silent = said.silent failed in
+    let asked = rw c.as_slice-last.ensures.value at said.answered.answered in
+    rw silent.1 (stops-unkept _ _ _ _ _ _ _ _ c.session.line.items c.session.lines c.session.bytes said.answered.reply _ c.session.invariant.so_far asked (λ kept. said.left failed (c.session.invariant.kept kept)))
+
+pub returns-in_err-answer_line-2-clause-unkept : goal.returns-in_err-answer_line-2-clause-unkept
+returns-in_err-answer_line-2-clause-unkept g c failed =
+    let said = c.in_err-answer_line-2.ensures in
+    let silent = said.silent failed in
+    let asked = rw c.as_slice-whole.ensures.value at said.answered.answered in
+    rw silent.1 (stops-unkept _ _ _ _ _ _ _ _ c.session.line.items c.session.lines c.session.bytes said.answered.reply _ c.session.invariant.so_far asked (λ kept. said.left failed (c.session.invariant.kept kept)))

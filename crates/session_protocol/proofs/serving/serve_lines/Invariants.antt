@@ -13,6 +13,8 @@ invariant-session g l = record {
   read : ReadsWithin g.R.Source.gives l.bytes l.fn.reader l.reader false;
   read_sound : g.R.Source.failed l.reader ≡ g.R.Source.failed l.fn.reader;
   write_sound : g.W.Sink.broken l.writer ≡ g.W.Sink.broken l.fn.writer;
+  keep_sound : g.K.Keeper.has_failed l.keeper ≡ false;
+  kept : g.K.Keeper.keeps l.fn.keeper l.fn.counter → g.K.Keeper.keeps l.keeper l.counter;
 }
 
 abbrev pub decreases-session : goal.decreases-session

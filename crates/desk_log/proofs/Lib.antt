@@ -1,0 +1,4 @@
+pub mod Bodies
+pub mod Growth
+pub mod Logging
+pub mod Found

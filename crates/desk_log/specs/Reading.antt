@@ -1,0 +1,30 @@
+-- What a log reads as (this project's choice).
+use Rattle.std.specs.Prelude.{◌≡◌, ◌≤◌, ℕ, ◌+◌, true, List, ◌++◌, length, codes, All}
+use Rattle.plan_table.specs.declared.tracks.Mode.{Mode}
+use Rattle.desk_report.specs.LineText.{line_text}
+use Rattle.desk_commits.specs.Entries.{Entry}
+use Rattle.desk_commits.specs.declared.limits.TheConstants.{MOST_ENTRIES}
+use Rattle.journal_text.specs.Ranges.{IsEntry}
+use Rattle.journal_text.specs.Lines.{version_words, mode_words, journal_text}
+use Rattle.commit_log.specs.Text.{head_text, is_digest, log_text}
+use Rattle.commit_log.specs.Reads.{IsUnsealed}
+use Rattle.commit_log.specs.Crashes.{Counts}
+use Rattle.desk_log.specs.Keeping.{texts_of}
+use Rattle.desk_log.specs.declared.reading.LogRead.{LogRead}
+
+-- the first lines of a journal in that mode
+abbrev pub heading_text : Mode → List ℕ
+heading_text mode = line_text (version_words (codes "2")) ++ line_text (mode_words mode)
+
+-- the entries whose commit lines stand in the text, and behind the last of them a piece of one more; what they make is that journal
+pub record IsRead (text : List ℕ) (log : LogRead) : Type 0 where
+  pub entries : List Entry
+  pub lawful : All IsEntry entries
+  pub few : length entries ≤ MOST_ENTRIES
+  pub scene : is_digest log.scene ≡ true
+  pub counts : Counts (head_text log.mode log.scene) (texts_of entries) log.count log.check
+  pub rest : List ℕ
+  pub unsealed : IsUnsealed rest
+  pub split : text ≡ log_text (head_text log.mode log.scene) (texts_of entries) ++ rest
+  pub ends : log.end + length rest ≡ length text
+  pub journal : log.journal.items ≡ journal_text log.mode entries

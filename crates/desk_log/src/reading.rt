@@ -1,0 +1,132 @@
+//! The journal that a log's entries make.
+ghost use Rattle.std.specs.Prelude.{◌≡◌, ◌++◌, OnOk, IfOk};
+ghost use Rattle.desk_report.specs.LineText.{line_text};
+ghost use Rattle.desk_commits.specs.Entries.{Entry};
+ghost use Rattle.journal_text.specs.Lines.{end_words};
+ghost use Rattle.journal_text.specs.Fitting.{IsEntryOf};
+ghost use Rattle.desk_log.specs.Reading.{heading_text, IsRead};
+
+use crate::faults::LogFault;
+use crate::heads::bad_head_line;
+use crate::tears::{count_lines, look_at_tear};
+use commit_log::{Check, ReadFault, SceneDigest, Sealed, next_entry, read_head};
+use desk_commits::MOST_ENTRIES;
+use itoa::Buffer;
+use journal_text::{Fit, fit_entry};
+use plan_table::Mode;
+use std::alloc::{AllocError, Global};
+
+/// A log, as it was read.
+#[derive(Drop)]
+pub struct LogRead {
+    pub mode: Mode,
+    pub scene: SceneDigest,
+    /// The text of the journal that its entries make.
+    pub journal: Vec<u8>,
+    /// How many whole entries it has.
+    pub count: u64,
+    /// The check of the last of them, or of the head where there is none.
+    pub check: Check,
+    /// Where the last of them ends, or the head.
+    pub end: usize,
+}
+
+// The heading of a journal in that mode.
+fn heading(alloc: Global, mode: Mode) -> Result<Vec<u8>, AllocError>
+    ensures { IfOk result (λ text. text.items ≡ heading_text mode) }
+{
+    match mode {
+        Mode::Stay => Vec::from_slice(alloc, b"journal 2\nmode stay\n"),
+        Mode::Disappear => Vec::from_slice(alloc, b"journal 2\nmode disappear\n"),
+    }
+}
+
+// Puts the last line of a journal.
+fn put_end(journal: &mut Vec<u8>, count: u64) -> Result<(), AllocError>
+    ensures { OnOk result (journal.new.items ≡ journal.old.items ++ line_text (end_words count)) }
+{
+    let mut digits = Buffer::new();
+    journal.extend_from_slice(b"end ")?;
+    journal.extend_from_slice(digits.format(count).as_bytes())?;
+    journal.extend_from_slice(b"\n")
+}
+
+// Looks whether what stands before a commit line is an entry, behind that many lines of the log.
+fn look_at_entry(alloc: Global, entry: &[u8], lines: usize) -> Result<(), LogFault>
+    ensures { OnOk result ((e : Entry) × IsEntryOf entry.now e) }
+{
+    match fit_entry(alloc, entry) {
+        Ok(Fit::Whole) => Ok(()),
+        Ok(Fit::Begun) => Err(LogFault::BadLine {
+            line: lines.saturating_add(count_lines(entry)).saturating_add(1),
+        }),
+        Ok(Fit::Bad { line }) => Err(LogFault::BadLine {
+            line: lines.saturating_add(line),
+        }),
+        Err(_) => Err(LogFault::OutOfMemory),
+    }
+}
+
+// The fault of a text behind that many lines, at which no entry is read.
+fn fault_of(text: &[u8], lines: usize, why: ReadFault) -> LogFault {
+    match why {
+        ReadFault::Damaged { at } => {
+            let before = text.get(..at).unwrap_or(text);
+            let line = lines.saturating_add(count_lines(before)).saturating_add(1);
+            LogFault::BadLine { line }
+        }
+        ReadFault::OutOfMemory => LogFault::OutOfMemory,
+    }
+}
+
+/// Reads a log: the entries that are whole, with their commit lines. What a crash may have left of one
+/// more stands behind them.
+///
+/// # Errors
+///
+/// The first line that doesn't fit, or want of memory.
+pub fn read_log(alloc: Global, text: &[u8]) -> Result<LogRead, LogFault>
+    ensures { IfOk result (IsRead text.now) }
+{
+    let Some(head) = read_head(alloc, text)? else {
+        return Err(LogFault::BadLine {
+            line: bad_head_line(text),
+        });
+    };
+    let mut journal = heading(alloc, head.mode)?;
+    let (mut rest, mut check, mut count, mut lines) = (head.rest, head.check, 0u64, 3usize);
+    'entries: loop {
+        match next_entry(alloc, rest, count + 1, &check) {
+            Ok(Some(found)) => {
+                let Sealed {
+                    entry,
+                    check: sealed,
+                    rest: behind,
+                } = found;
+                look_at_entry(alloc, entry, lines)?;
+                if count >= u64::from(MOST_ENTRIES) {
+                    return Err(LogFault::BadLine {
+                        line: lines.saturating_add(1),
+                    });
+                }
+                journal.extend_from_slice(entry)?;
+                lines = lines.saturating_add(count_lines(entry)).saturating_add(1);
+                count += 1;
+                check = sealed;
+                rest = behind;
+            }
+            Ok(None) => break,
+            Err(why) => return Err(fault_of(rest, lines, why)),
+        }
+    }
+    look_at_tear(alloc, rest, count + 1, &check, lines)?;
+    put_end(&mut journal, count)?;
+    Ok(LogRead {
+        mode: head.mode,
+        scene: head.scene,
+        journal,
+        count,
+        check,
+        end: text.len() - rest.len(),
+    })
+}
