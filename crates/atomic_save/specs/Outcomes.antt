@@ -36,8 +36,8 @@ abbrev pub IsOldOrNew : Content → List ℕ → Content → Type 0
 IsOldOrNew old bytes c = (c ≡ old) ⊎ (c ≡ Some bytes)
 
 -- what whoever opens the file finds after a save: the new bytes once they have the name, and before that the old content
-abbrev pub IsFound : Content → List ℕ → Result Unit SaveError → Content → Type 0
-IsFound old bytes (Ok done) c = c ≡ Some bytes
-IsFound old bytes (Err NotWritten) c = c ≡ old
-IsFound old bytes (Err NotRenamed) c = c ≡ old
-IsFound old bytes (Err NotDurable) c = c ≡ Some bytes
+abbrev pub IsFoundInFile : Content → List ℕ → Result Unit SaveError → Content → Type 0
+IsFoundInFile old bytes (Ok done) c = c ≡ Some bytes
+IsFoundInFile old bytes (Err NotWritten) c = c ≡ old
+IsFoundInFile old bytes (Err NotRenamed) c = c ≡ old
+IsFoundInFile old bytes (Err NotDurable) c = c ≡ Some bytes

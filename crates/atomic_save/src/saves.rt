@@ -1,7 +1,7 @@
 //! A save that may end at any moment.
 ghost use Rattle.std.specs.Prelude.{◌≡◌, [], Some, IfSome, IsTrue, OnOk, is_err, ◌||◌};
 ghost use Rattle.std.specs.Io.KnownBytes.{Appends};
-ghost use Rattle.atomic_save.specs.Outcomes.{Only, LeavesOnly, IsOldOrNew, IsFound};
+ghost use Rattle.atomic_save.specs.Outcomes.{Only, LeavesOnly, IsOldOrNew, IsFoundInFile};
 
 use crate::documents::Document;
 use crate::named_files::NamedFile;
@@ -31,7 +31,7 @@ pub fn save<T: TemporaryFile, F: NamedFile<T>, D: Document>(
 ) -> Result<(), SaveError>
     requires durable { IsTrue F.is_told → Only (F.content named.old) (F.may_leave named.old) }
     requires empty { IsTrue F.is_told → T.written temporary ≡ Some [] }
-    ensures found { IsTrue F.is_told → IsFound (F.content named.old) (D.bytes document.now) result (F.content named.new) }
+    ensures found { IsTrue F.is_told → IsFoundInFile (F.content named.old) (D.bytes document.now) result (F.content named.new) }
     ensures durable { IsTrue F.is_told → OnOk result (Only (Some (D.bytes document.now)) (F.may_leave named.new)) }
     ensures any_moment { IsTrue F.is_told → LeavesOnly F.moment F.left_since named.old named.new (IsOldOrNew (F.content named.old) (D.bytes document.now)) }
     ensures cause { F.has_failed named.new ≡ ((F.has_failed named.old || T.has_failed temporary) || is_err result) }

@@ -11,7 +11,7 @@ use Rattle.where_index.specs.declared.spot_sets.Spot.{Spot}
 use Rattle.mapf_rules.specs.Finding.{KeepsAll}
 use Rattle.mapf_rules.specs.declared.entries.Conflict.{Conflict}
 use Rattle.conflict_ledger.specs.Sight.{Shows}
-use Rattle.conflict_ledger.specs.Gathering.{AreShowing, IsShown, HasMet, HasSeen, HasSpots, HasStop, IsNear, Tells, seen_at, step_of}
+use Rattle.conflict_ledger.specs.Gathering.{AreShowing, IsShown, HasMet, HasSeen, HasSeenSpots, HasStop, IsNear, Tells, seen_at, step_of}
 use Rattle.conflict_ledger.specs.declared.places.Place.{Place}
 use Rattle.conflict_ledger.specs.declared.places.Place.TheVariants.{Beside, Ahead, Behind}
 use Rattle.conflict_ledger.specs.declared.places.Stop.{Stop}
@@ -54,7 +54,7 @@ module _ (index : Contents) (agent : ℕ) (route : Option Route) (fleet : Fleet)
       record { there = rests time is; stays = λ _. rests (time + 1) (omega arith); passes = λ e. absurd (cc); goes = λ e. absurd (cc) }
 
   -- what was offered of all whom both lists show has the entries with each who is at the stop
-  module _ (stop : Stop) (stands tails : List Spot) (mid entries : List Conflict) (order : stop.past ≤ stop.time) (stood : HasSpots fleet agent stop false stands mid) (keeps : KeepsAll mid entries) (rested : HasSpots fleet agent stop true tails entries) where
+  module _ (stop : Stop) (stands tails : List Spot) (mid entries : List Conflict) (order : stop.past ≤ stop.time) (stood : HasSeenSpots fleet agent stop false stands mid) (keeps : KeepsAll mid entries) (rested : HasSeenSpots fleet agent stop true tails entries) where
     from_past : (place : Place) → stop.past ≤ seen_at place (step_of stop place)
     from_past Beside = order
     from_past Ahead = omega arith

@@ -153,12 +153,12 @@ abbrev pub HasSeen : Fleet → ℕ → Stop → Bool → List Conflict → Spot 
 HasSeen fleet agent stop lasting entries s = (place : Place) → HasSeenIn agent stop lasting s place entries fleet
 
 -- each entry of the agent at the stop with those whom the spots show is there
-abbrev pub HasSpots : Fleet → ℕ → Stop → Bool → List Spot → List Conflict → Type 0
-HasSpots fleet agent stop lasting spots entries = (s : Spot) → Contains spots s → HasSeen fleet agent stop lasting entries s
+abbrev pub HasSeenSpots : Fleet → ℕ → Stop → Bool → List Spot → List Conflict → Type 0
+HasSeenSpots fleet agent stop lasting spots entries = (s : Spot) → Contains spots s → HasSeen fleet agent stop lasting entries s
 
 -- and so it is where they rise by their times
 abbrev pub HasRising : Sight → Stop → Bool → List Spot → List Conflict → Fleet → Type 0
-HasRising sight stop lasting spots entries fleet = AreRising spots → HasSpots fleet sight.agent stop lasting spots entries
+HasRising sight stop lasting spots entries fleet = AreRising spots → HasSeenSpots fleet sight.agent stop lasting spots entries
 
 -- each entry of the agent at the stop is there
 abbrev pub HasStop : Fleet → ℕ → Stop → List Conflict → Type 0

@@ -53,6 +53,6 @@ Enters share old new =
     (index : Contents) (agent : ℕ) (route : Route) (span : Span) → TellsShare index agent route span share → MendsAsComes index agent route span old new × LeavesBeside index agent route span old new
 
 -- new is old without what goes with the agent whose share it is
-abbrev pub Leaves : Share → List Conflict → List Conflict → Type 0
-Leaves share old new =
+abbrev pub TakesOut : Share → List Conflict → List Conflict → Type 0
+TakesOut share old new =
     (index : Contents) (agent : ℕ) (route : Route) (span : Span) → TellsShare index agent route span share → MendsAsGoes index agent route span old new × LeavesBeside index agent route span old new

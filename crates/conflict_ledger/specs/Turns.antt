@@ -64,5 +64,5 @@ abbrev pub HasLeftTold : Fleet → Sight → Turn → List Conflict → List Con
 HasLeftTold fleet with turn entries rings = (ring : Conflict) → IsLeft fleet (own_route with) ring → IsToldAt turn entries with.agent (time_of ring) → Contains rings ring
 
 -- a ring that is left so at the time is the one that was found
-abbrev pub FindsRing : Fleet → Sight → ℕ → Option Conflict → Type 0
-FindsRing fleet with time found = (ring : List ℕ) → IsLeftAt fleet (own_route with) time ring → found ≡ Some (Cycle time ring)
+abbrev pub FindsRingLeft : Fleet → Sight → ℕ → Option Conflict → Type 0
+FindsRingLeft fleet with time found = (ring : List ℕ) → IsLeftAt fleet (own_route with) time ring → found ≡ Some (Cycle time ring)

@@ -1,7 +1,7 @@
 ghost use Rattle.std.specs.Prelude.{IfOk, OnOk};
 ghost use Rattle.plan_table.specs.Route.{route_of};
 ghost use Rattle.conflict_ledger.specs.Kept.{GainsAll, LosesAll};
-ghost use Rattle.conflict_ledger.specs.Mending.{Enters, Leaves, TellsShare};
+ghost use Rattle.conflict_ledger.specs.Mending.{Enters, TakesOut, TellsShare};
 
 use crate::gather::gather;
 use crate::sight::Sight;
@@ -64,7 +64,7 @@ pub(crate) fn enter(kept: &mut BTreeSet<Conflict>, share: Share) -> Result<(), O
 
 // Takes out what goes with the agent whose share it is.
 pub(crate) fn leave(kept: &mut BTreeSet<Conflict>, share: Share) -> Result<(), OutOfMemory>
-    ensures { OnOk result (Leaves share kept.old.keys kept.new.keys) }
+    ensures { OnOk result (TakesOut share kept.old.keys kept.new.keys) }
 {
     lose_all(kept, &share.joined);
     lose_all(kept, &share.entries);

@@ -4,7 +4,7 @@ ghost use Rattle.plan_table.specs.Route.{Fleet, route_of};
 ghost use Rattle.mapf_rules.specs.declared.entries.Conflict.{Conflict};
 ghost use Rattle.mapf_rules.specs.Naming.{time_of};
 ghost use Rattle.conflict_ledger.specs.Sight.{InBoth, InView, Sees, own_route};
-ghost use Rattle.conflict_ledger.specs.Turns.{AreLeftTold, FindsRing, FindsTurned, HasLeftTold, IsLeft, IsTurned, MayTurn};
+ghost use Rattle.conflict_ledger.specs.Turns.{AreLeftTold, FindsRingLeft, FindsTurned, HasLeftTold, IsLeft, IsTurned, MayTurn};
 
 use crate::sight::Sight;
 use grid_cells::{Agent, OutOfMemory, Step};
@@ -28,7 +28,7 @@ fn ring_left_at(
 ) -> Result<Option<Conflict>, OutOfMemory>
     requires { time < u32.MAX }
     ensures only { IfOk result (λ found. InView view.now (λ fleet. IfSome found (λ entry. IsLeft fleet (own_route with.now) entry × (time_of entry ≡ time)))) }
-    ensures has { IfOk result (λ found. InView view.now (λ fleet. FindsRing fleet with.now time found)) }
+    ensures has { IfOk result (λ found. InView view.now (λ fleet. FindsRingLeft fleet with.now time found)) }
 {
     let Some(cell) = with.own(time) else {
         return Ok(None);

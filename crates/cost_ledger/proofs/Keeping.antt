@@ -20,9 +20,9 @@ use Rattle.plan_table.specs.declared.plans.Row.{Row}
 use Rattle.plan_table.proofs.Fleets.{row_here}
 use Rattle.plan_table.proofs.Rows.{rows_few}
 use Rattle.cost_ledger.specs.Kept.{Keeps, AreRests, SwapsRow, last_of_row, ends_elsewhere, sum_of_rows, rest, visit_cmp}
-use Rattle.cost_ledger.specs.Ledger.{SameBut, SameAt}
+use Rattle.cost_ledger.specs.Ledger.{SameClosedBut, SameAt}
 use Rattle.plan_table.specs.Sets.{Gains, Loses}
-use Rattle.cost_ledger.specs.Sets.{GainsAll, LosesAll}
+use Rattle.cost_ledger.specs.Sets.{GainsEach, LosesEach}
 use Rattle.cost_ledger.specs.Through.{IsThrough, AreThrough}
 use Rattle.mapf_rules.specs.Visits.{IsBlocked, visit_key, AreVisits}
 use Rattle.mapf_rules.specs.VisitSearch.{IsVisitIn}
@@ -69,11 +69,11 @@ visits_listed grid rows visits sorted are = record {
   exact = λ v. grind (arith, are v);
 }
 
-pub visits_put : (grid : Chart) (rows new : List (ℕ × Row)) (agent : ℕ) (row : Row) (old visits : List Visit) → IsStrictlySortedBy visit_cmp visits → row_of rows agent ≡ None → ChangesRow rows new agent (Some row) → AreVisits grid rows old → GainsAll old visits (IsVisitIn grid agent row.plan 0 (last_of_row row + 1)) → AreVisits grid new visits
+pub visits_put : (grid : Chart) (rows new : List (ℕ × Row)) (agent : ℕ) (row : Row) (old visits : List Visit) → IsStrictlySortedBy visit_cmp visits → row_of rows agent ≡ None → ChangesRow rows new agent (Some row) → AreVisits grid rows old → GainsEach old visits (IsVisitIn grid agent row.plan 0 (last_of_row row + 1)) → AreVisits grid new visits
 visits_put grid rows new agent row old visits sorted absent change before gains =
     visits_listed grid new visits sorted (λ v. grind (arith, visits_of grid rows old before v, gains v, change.this_agent, change.other_agents v.agent))
 
-pub visits_take : (grid : Chart) (rows new : List (ℕ × Row)) (agent : ℕ) (row : Row) (old visits : List Visit) → IsStrictlySortedBy visit_cmp visits → row_of rows agent ≡ Some row → ChangesRow rows new agent None → AreVisits grid rows old → LosesAll old visits (IsThrough agent row.plan 0 (last_of_row row + 1)) → AreVisits grid new visits
+pub visits_take : (grid : Chart) (rows new : List (ℕ × Row)) (agent : ℕ) (row : Row) (old visits : List Visit) → IsStrictlySortedBy visit_cmp visits → row_of rows agent ≡ Some row → ChangesRow rows new agent None → AreVisits grid rows old → LosesEach old visits (IsThrough agent row.plan 0 (last_of_row row + 1)) → AreVisits grid new visits
 visits_take grid rows new agent row old visits sorted live change before loses =
     visits_listed grid new visits sorted (λ v. grind (arith, visits_of grid rows old before v, loses v, change.this_agent, change.other_agents v.agent))
 
@@ -139,11 +139,11 @@ module _ (rows new : List (ℕ × Row)) (rests new_rests : List Rest) (total els
   }
 
 -- ---- a cell that is opened or closed
-module _ (old new grid : Chart) (rows : List (ℕ × Row)) (found : List Visit) (cell : Point) (before visits : List Visit) (through : AreThrough rows cell found) (but : SameBut old new cell) (at : SameAt grid new cell) (sorted : IsStrictlySortedBy visit_cmp visits) (were : AreVisits old rows before) where
+module _ (old new grid : Chart) (rows : List (ℕ × Row)) (found : List Visit) (cell : Point) (before visits : List Visit) (through : AreThrough rows cell found) (but : SameClosedBut old new cell) (at : SameAt grid new cell) (sorted : IsStrictlySortedBy visit_cmp visits) (were : AreVisits old rows before) where
   at_found : (v : Visit) (row : Row) → v.cell ≡ cell → row_of rows v.agent ≡ Some row → v.time ≤ last_index row.plan → place row.plan v.time ≡ Some v.cell → Contains found v
   at_found v row e live on there = (through v).1 (record { here = e; row = row; live = live; on_path = on; there = there ∙ ap Some e })
 
-  pub visits_closed : IsClosed grid cell → GainsAll before visits (Contains found) → AreVisits new rows visits
+  pub visits_closed : IsClosed grid cell → GainsEach before visits (Contains found) → AreVisits new rows visits
   visits_closed closed gains = visits_listed new rows visits sorted (λ v. (
     (λ h. elim ((gains v).0 h) [
       | inl o ↦ let is = (were.exact v).0 o in (is.row, is.live, grind (arith, but v.cell, at, closed))
@@ -152,7 +152,7 @@ module _ (old new grid : Chart) (rows : List (ℕ × Row)) (found : List Visit) 
     (λ h. grind (arith, gains v, visits_of old rows before were v, at_found v h.0, but v.cell)),
   ))
 
-  pub visits_opened : (IsClosed grid cell → ⊥) → LosesAll before visits (Contains found) → AreVisits new rows visits
+  pub visits_opened : (IsClosed grid cell → ⊥) → LosesEach before visits (Contains found) → AreVisits new rows visits
   visits_opened opened loses = visits_listed new rows visits sorted (λ v. (
     (λ h. let is = (were.exact v).0 ((loses v).0 h).0 in (is.row, is.live, grind (arith, loses v, at_found v is.row, but v.cell))),
     (λ h.
@@ -160,6 +160,6 @@ module _ (old new grid : Chart) (rows : List (ℕ × Row)) (found : List Visit) 
         grind (arith, loses v, visits_of old rows before were v, but v.cell, at, opened)),
   ))
 
-  pub visits_flipped : (closed : Bool) → (IsTrue closed ↔ IsClosed grid cell) → (closed ≡ true → GainsAll before visits (Contains found)) → (closed ≡ false → LosesAll before visits (Contains found)) → AreVisits new rows visits
+  pub visits_flipped : (closed : Bool) → (IsTrue closed ↔ IsClosed grid cell) → (closed ≡ true → GainsEach before visits (Contains found)) → (closed ≡ false → LosesEach before visits (Contains found)) → AreVisits new rows visits
   visits_flipped true is adds takes = visits_closed (is.0 refl) (adds refl)
   visits_flipped false is adds takes = visits_opened (grind arith) (takes refl)

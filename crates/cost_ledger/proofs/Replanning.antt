@@ -8,7 +8,7 @@ use Rattle.plan_table.proofs.Fronts.{same_places}
 use Rattle.plan_table.specs.Plans.{row_of, ChangesRow}
 use Rattle.plan_table.specs.declared.plans.Row.{Row}
 use Rattle.cost_ledger.specs.Kept.{last_of_row, visit_cmp}
-use Rattle.cost_ledger.specs.Sets.{GainsAll, LosesAll}
+use Rattle.cost_ledger.specs.Sets.{GainsEach, LosesEach}
 use Rattle.cost_ledger.specs.Through.{IsThrough}
 use Rattle.mapf_rules.specs.Visits.{IsBlocked, AreVisits}
 use Rattle.mapf_rules.specs.VisitSearch.{IsVisitIn}
@@ -29,7 +29,7 @@ same_below one other many front = record {
   same = same_places one other many front;
 }
 
-module _ (grid : Chart) (rows mid next : List (ℕ × Row)) (agent : ℕ) (row come : Row) (live : row_of rows agent ≡ Some row) (goes : ChangesRow rows mid agent None) (comes : ChangesRow mid next agent (Some come)) (since : ℕ) (same : SameBelow row.plan come.plan since) (visits between after : List Visit) (are : AreVisits grid rows visits) (loses : LosesAll visits between (IsThrough agent row.plan since (last_of_row row + 1))) (gains : GainsAll between after (IsVisitIn grid agent come.plan since (last_of_row come + 1))) where
+module _ (grid : Chart) (rows mid next : List (ℕ × Row)) (agent : ℕ) (row come : Row) (live : row_of rows agent ≡ Some row) (goes : ChangesRow rows mid agent None) (comes : ChangesRow mid next agent (Some come)) (since : ℕ) (same : SameBelow row.plan come.plan since) (visits between after : List Visit) (are : AreVisits grid rows visits) (loses : LosesEach visits between (IsThrough agent row.plan since (last_of_row row + 1))) (gains : GainsEach between after (IsVisitIn grid agent come.plan since (last_of_row come + 1))) where
   comes_to : (v : Visit) → Contains after v → (r : Row) × (row_of next v.agent ≡ Some r) × IsBlocked grid r.plan v.time v.cell
   comes_to v h = elim ((gains v).0 h) [
     | inr new ↦ (come, grind (arith, comes.this_agent), new.blocked)

@@ -3,14 +3,14 @@ use Rattle.std.proofs.Common.{◌≡◌, ◌⊎◌, ◌+◌, ◌<◌, ℕ, List,
 use mathlib.Core.Logic.{◌↔◌}
 use Rattle.std.proofs.lemmas.List.{take_more}
 use Rattle.plan_table.proofs.Sets.{push_iff}
-use Rattle.cost_ledger.specs.Sets.{GainsAll, LosesAll}
+use Rattle.cost_ledger.specs.Sets.{GainsEach, LosesEach}
 
 -- what has one property or the other, in two steps
 module _ {X : Type 0} (old mid new : List X) (P Q R : X → Type 0) (more : (y : X) → R y ↔ (P y ⊎ Q y)) where
-  pub gains_then : GainsAll old mid P → GainsAll mid new Q → GainsAll old new R
+  pub gains_then : GainsEach old mid P → GainsEach mid new Q → GainsEach old new R
   gains_then first second y = grind (arith, more y, first y, second y)
 
-  pub loses_then : LosesAll old mid P → LosesAll mid new Q → LosesAll old new R
+  pub loses_then : LosesEach old mid P → LosesEach mid new Q → LosesEach old new R
   loses_then first second y = grind (arith, more y, first y, second y)
 
 -- the first elements of a list, one further

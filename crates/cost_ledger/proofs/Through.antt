@@ -11,7 +11,7 @@ use Rattle.plan_table.specs.Path.{last_index}
 use Rattle.plan_table.specs.declared.plans.Row.{Row}
 use Rattle.mapf_rules.specs.declared.visits.Visit.{Visit}
 use Rattle.plan_table.proofs.Sets.{push_iff}
-use Rattle.cost_ledger.specs.Sets.{GainsAll}
+use Rattle.cost_ledger.specs.Sets.{GainsEach}
 use Rattle.cost_ledger.specs.Through.{IsThrough, AreThrough}
 use Rattle.cost_ledger.proofs.RowSums.{row_of_lookup}
 
@@ -26,7 +26,7 @@ AreOfEntries entries cell visits = (v : Visit) → Contains visits v ↔ ((row :
 pub no_entries : (cell : Point) → AreOfEntries [] cell []
 no_entries cell v = ((λ h. absurd (omega (arith, h.1))), (λ h. absurd (omega (arith, h.1.1))))
 
-pub entries_more : (entries : List (ℕ × Row)) (agent : ℕ) (row : Row) (cell : Point) (old new : List Visit) → AreOfEntries entries cell old → GainsAll old new (IsTo cell agent row) → AreOfEntries (entries ++ (agent, row) ∷ []) cell new
+pub entries_more : (entries : List (ℕ × Row)) (agent : ℕ) (row : Row) (cell : Point) (old new : List Visit) → AreOfEntries entries cell old → GainsEach old new (IsTo cell agent row) → AreOfEntries (entries ++ (agent, row) ∷ []) cell new
 entries_more entries agent row cell old new before gains v =
     let entry : ℕ × Row = (agent, row) in (
       (λ h. elim ((gains v).0 h) [

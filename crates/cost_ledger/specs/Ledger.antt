@@ -15,12 +15,12 @@ pub record Ledger : Type 0 where
   pub visits : List Visit
 
 -- its visits are the blocked ones of its rows on that map
-abbrev pub StandsFor : Ledger → Chart → Type 0
-StandsFor ledger grid = AreVisits grid ledger.rows ledger.visits
+abbrev pub StandsForMap : Ledger → Chart → Type 0
+StandsForMap ledger grid = AreVisits grid ledger.rows ledger.visits
 
 -- every other cell is closed on both maps or on neither
-abbrev pub SameBut : Chart → Chart → Point → Type 0
-SameBut old new cell = (other : Point) → other ≢ cell → IsClosed old other ↔ IsClosed new other
+abbrev pub SameClosedBut : Chart → Chart → Point → Type 0
+SameClosedBut old new cell = (other : Point) → other ≢ cell → IsClosed old other ↔ IsClosed new other
 
 -- the cell is closed on both maps or on neither
 abbrev pub SameAt : Chart → Chart → Point → Type 0

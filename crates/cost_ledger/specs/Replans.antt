@@ -6,12 +6,12 @@ use Rattle.plan_table.specs.Path.{last_index}
 use Rattle.plan_table.specs.declared.plans.Row.{Row}
 use Rattle.mapf_rules.specs.VisitSearch.{IsVisitIn}
 use Rattle.mapf_rules.specs.declared.visits.Visit.{Visit}
-use Rattle.cost_ledger.specs.Sets.{GainsAll}
+use Rattle.cost_ledger.specs.Sets.{GainsEach}
 use Rattle.cost_ledger.specs.declared.replans.Planned.{Planned}
 
 -- new has the visits of old, and the blocked ones of the agent's path from a time on
 abbrev pub GainsVisits : List Visit → List Visit → Chart → ℕ → List Point → ℕ → Type 0
-GainsVisits old new grid agent path since = GainsAll old new (IsVisitIn grid agent path since (last_index path + 1))
+GainsVisits old new grid agent path since = GainsEach old new (IsVisitIn grid agent path since (last_index path + 1))
 
 -- the row of an agent that gets a plan
 abbrev pub planned_row : Planned → Row

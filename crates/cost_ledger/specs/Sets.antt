@@ -2,9 +2,9 @@
 use Rattle.std.specs.Prelude.{◌⊎◌, ◌↔◌, List, Contains}
 
 -- new has the elements of old, and all that have the property
-abbrev pub GainsAll : {X : Type 0} → List X → List X → (X → Type 0) → Type 0
-GainsAll {X} old new P = (x : X) → Contains new x ↔ (Contains old x ⊎ P x)
+abbrev pub GainsEach : {X : Type 0} → List X → List X → (X → Type 0) → Type 0
+GainsEach {X} old new P = (x : X) → Contains new x ↔ (Contains old x ⊎ P x)
 
 -- new has the elements of old that haven't the property
-abbrev pub LosesAll : {X : Type 0} → List X → List X → (X → Type 0) → Type 0
-LosesAll {X} old new P = (x : X) → Contains new x ↔ (Contains old x × (P x → ⊥))
+abbrev pub LosesEach : {X : Type 0} → List X → List X → (X → Type 0) → Type 0
+LosesEach {X} old new P = (x : X) → Contains new x ↔ (Contains old x × (P x → ⊥))

@@ -1,6 +1,6 @@
 ghost use Rattle.std.specs.Prelude.{◌≡◌, ◌+◌, ◌≤◌, true, false, IfOk, OnOk, Contains};
 ghost use Rattle.plan_table.specs.Path.{last_index};
-ghost use Rattle.cost_ledger.specs.Sets.{GainsAll, LosesAll};
+ghost use Rattle.cost_ledger.specs.Sets.{GainsEach, LosesEach};
 ghost use Rattle.cost_ledger.specs.Through.{IsThrough};
 ghost use Rattle.mapf_rules.specs.VisitSearch.{IsVisitIn};
 
@@ -19,7 +19,7 @@ pub(crate) fn block(
     from: u32,
 ) -> Result<(), OutOfMemory>
     requires { from ≤ last_index plan.now + 1 }
-    ensures { OnOk result (GainsAll blocked.old.keys blocked.new.keys (IsVisitIn grid.now agent plan.now from (last_index plan.now + 1))) }
+    ensures { OnOk result (GainsEach blocked.old.keys blocked.new.keys (IsVisitIn grid.now agent plan.now from (last_index plan.now + 1))) }
 {
     for time in from..plan.last() + 1 {
         block_at(blocked, grid, agent, plan, time)?;
@@ -36,7 +36,7 @@ fn block_at(
     time: u32,
 ) -> Result<(), OutOfMemory>
     requires { time ≤ last_index plan.now }
-    ensures { OnOk result (GainsAll blocked.old.keys blocked.new.keys (IsVisitIn grid.now agent plan.now time (time + 1))) }
+    ensures { OnOk result (GainsEach blocked.old.keys blocked.new.keys (IsVisitIn grid.now agent plan.now time (time + 1))) }
 {
     let cell = plan.at(Step::new(time));
     if is_closed(grid, cell) {
@@ -52,7 +52,7 @@ fn block_at(
 /// Takes the agent's visits from one time on out, wherever on its path they are.
 pub(crate) fn unblock(blocked: &mut BTreeSet<Visit>, agent: Agent, plan: &Plan, from: u32)
     requires { from ≤ last_index plan.now + 1 }
-    ensures { LosesAll blocked.old.keys blocked.new.keys (IsThrough agent plan.now from (last_index plan.now + 1)) }
+    ensures { LosesEach blocked.old.keys blocked.new.keys (IsThrough agent plan.now from (last_index plan.now + 1)) }
 {
     for time in from..plan.last() + 1 {
         blocked.remove(&Visit {
@@ -70,7 +70,7 @@ pub(crate) fn add_through(
     plan: &Plan,
     cell: Cell,
 ) -> Result<(), OutOfMemory>
-    ensures { OnOk result (GainsAll found.old.items found.new.items (λ visit. (visit.cell ≡ cell) × IsThrough agent plan.now 0 (last_index plan.now + 1) visit)) }
+    ensures { OnOk result (GainsEach found.old.items found.new.items (λ visit. (visit.cell ≡ cell) × IsThrough agent plan.now 0 (last_index plan.now + 1) visit)) }
 {
     for time in 0..plan.last() + 1 {
         add_if_there(found, agent, plan, cell, time)?;
@@ -87,7 +87,7 @@ fn add_if_there(
     time: u32,
 ) -> Result<(), OutOfMemory>
     requires { time ≤ last_index plan.now }
-    ensures { OnOk result (GainsAll found.old.items found.new.items (λ visit. (visit.cell ≡ cell) × IsThrough agent plan.now time (time + 1) visit)) }
+    ensures { OnOk result (GainsEach found.old.items found.new.items (λ visit. (visit.cell ≡ cell) × IsThrough agent plan.now time (time + 1) visit)) }
 {
     if plan.at(Step::new(time)) == cell {
         found.push(Visit {
@@ -105,8 +105,8 @@ pub(crate) fn set_blocked(
     visits: &[Visit],
     closed: bool,
 ) -> Result<(), OutOfMemory>
-    ensures adds { OnOk result (closed ≡ true → GainsAll blocked.old.keys blocked.new.keys (Contains visits.now)) }
-    ensures takes { OnOk result (closed ≡ false → LosesAll blocked.old.keys blocked.new.keys (Contains visits.now)) }
+    ensures adds { OnOk result (closed ≡ true → GainsEach blocked.old.keys blocked.new.keys (Contains visits.now)) }
+    ensures takes { OnOk result (closed ≡ false → LosesEach blocked.old.keys blocked.new.keys (Contains visits.now)) }
 {
     if closed {
         block_all(blocked, visits)
@@ -118,7 +118,7 @@ pub(crate) fn set_blocked(
 
 // Adds the visits.
 fn block_all(blocked: &mut BTreeSet<Visit>, visits: &[Visit]) -> Result<(), OutOfMemory>
-    ensures { OnOk result (GainsAll blocked.old.keys blocked.new.keys (Contains visits.now)) }
+    ensures { OnOk result (GainsEach blocked.old.keys blocked.new.keys (Contains visits.now)) }
 {
     for visit in visits {
         blocked.insert(*visit)?;
@@ -128,7 +128,7 @@ fn block_all(blocked: &mut BTreeSet<Visit>, visits: &[Visit]) -> Result<(), OutO
 
 // Takes the visits out.
 fn unblock_all(blocked: &mut BTreeSet<Visit>, visits: &[Visit])
-    ensures { LosesAll blocked.old.keys blocked.new.keys (Contains visits.now) }
+    ensures { LosesEach blocked.old.keys blocked.new.keys (Contains visits.now) }
 {
     for visit in visits {
         blocked.remove(visit);

@@ -3,7 +3,7 @@ ghost use Rattle.grid_cells.specs.Grid.{Chart};
 ghost use Rattle.plan_table.specs.Plans.{row_of, ChangesRow, IsByAgent};
 ghost use Rattle.mapf_rules.specs.Costs.{IsSumOfCosts, IsMakespan};
 ghost use Rattle.mapf_rules.specs.Visits.{AreVisits};
-ghost use Rattle.cost_ledger.specs.Ledger.{StandsFor, IsSettleOf, IsFinishedIn, IsUnfinishedCount};
+ghost use Rattle.cost_ledger.specs.Ledger.{StandsForMap, IsSettleOf, IsFinishedIn, IsUnfinishedCount};
 
 mod flips;
 mod plans;
@@ -43,7 +43,7 @@ impl CostLedger {
     /// A ledger with no agent, for every map.
     pub fn new(alloc: Global) -> CostLedger
         ensures rows { result.rows ≡ [] }
-        ensures stands { (grid : Chart) → StandsFor result grid }
+        ensures stands { (grid : Chart) → StandsForMap result grid }
     {
         CostLedger {
             alloc,
@@ -59,7 +59,7 @@ impl CostLedger {
     pub fn take(&mut self, agent: Agent)
         ensures row { ChangesRow self.old.rows self.new.rows agent None }
         ensures by_agent { IsByAgent self.new.rows }
-        ensures stands { (grid : Chart) → StandsFor self.old grid → StandsFor self.new grid }
+        ensures stands { (grid : Chart) → StandsForMap self.old grid → StandsForMap self.new grid }
         ensures none { row_of self.old.rows agent ≡ None → self.new ≡ self.old }
     {
         let Some(row) = self.rows.remove(agent) else {
@@ -77,7 +77,7 @@ impl CostLedger {
     pub fn aim(&mut self, agent: Agent, goal: Cell)
         ensures row { IfSome (row_of self.old.rows agent) (λ row. ChangesRow self.old.rows self.new.rows agent (Some (record row { goal = goal }))) }
         ensures by_agent { IsByAgent self.new.rows }
-        ensures stands { (grid : Chart) → StandsFor self.old grid → StandsFor self.new grid }
+        ensures stands { (grid : Chart) → StandsForMap self.old grid → StandsForMap self.new grid }
         ensures none { IfNone (row_of self.old.rows agent) (self.new ≡ self.old) }
     {
         let Some((before, after)) = self.rows.aim(agent, goal) else {
@@ -151,7 +151,7 @@ impl CostLedger {
     /// The blocked visits of the agents, by agent, then time.
     pub fn blocked_visits(&self) -> Result<List<Visit>, OutOfMemory>
         ensures is { IfOk result (λ visits. visits ≡ self.now.visits) }
-        ensures blocked { IfOk result (λ visits. (grid : Chart) → StandsFor self.now grid → AreVisits grid self.now.rows visits) }
+        ensures blocked { IfOk result (λ visits. (grid : Chart) → StandsForMap self.now grid → AreVisits grid self.now.rows visits) }
         ensures by_agent { IsByAgent self.now.rows }
     {
         listed(self.alloc, &self.blocked)

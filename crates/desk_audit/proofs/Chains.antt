@@ -4,7 +4,7 @@ use Rattle.std.specs.List.{Contains}
 use Rattle.std.proofs.lemmas.List.{get_or_default}
 use Rattle.grid_cells.specs.Cell.{Point}
 use Rattle.desk_audit.specs.declared.tables.Pass.{Pass}
-use Rattle.desk_audit.specs.Filing.{bucket_of, slot_bucket, IsLast, IsFiled}
+use Rattle.desk_audit.specs.Filing.{bucket_of, slot_bucket, IsLastInBucket, IsFiled}
 use Rattle.desk_audit.specs.declared.tables.Slot.{Slot}
 use Rattle.desk_audit.specs.declared.tables.Table.{Table}
 
@@ -16,7 +16,7 @@ many_of table = length table.heads.items
 pub record Walked (table : Table) (bucket : ℕ) (next : Option ℕ) (Done : Slot → Type 0) : Type 0 where
   pub bound : ℕ
   pub within : bound ≤ length table.slots.items
-  pub last : IsLast table.slots.items (many_of table) bucket bound next
+  pub last : IsLastInBucket table.slots.items (many_of table) bucket bound next
   pub done : (k : ℕ) (d : Slot) → bound ≤ k → k < length table.slots.items → Done (get_or table.slots.items k d)
 
 module _ (table : Table) (bucket place : ℕ) (slot : Slot) (Done More : Slot → Type 0)

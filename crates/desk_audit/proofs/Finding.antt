@@ -9,7 +9,7 @@ use Rattle.mapf_rules.specs.ConflictList.{Stands, listing_key}
 use Rattle.mapf_rules.specs.Naming.{IsOfPair, first_agent}
 use Rattle.mapf_rules.specs.declared.entries.Conflict.{Conflict}
 use Rattle.desk_audit.specs.Parts.{IsRanked, AreEntriesOf}
-use Rattle.desk_audit.specs.Seeking.{Finds, IsOfMet, IsOfPassed}
+use Rattle.desk_audit.specs.Seeking.{FindsAll, IsOfMet, IsOfPassed}
 use Rattle.std.specs.List.{slice_get}
 use Rattle.std.proofs.lemmas.Bool.{cases_lt}
 use Rattle.std.proofs.lemmas.Option.{slice_get_cases}
@@ -23,21 +23,21 @@ pub first_of_pair : (entry : Conflict) (time first second : ℕ) → IsOfPair en
 first_of_pair entry time first second of = grind arith
 
 module _ (fleet : Fleet) (agent : ℕ) where
-  pub finds_none : (old : List Conflict) (Sought : Conflict → Type 0) → ((entry : Conflict) → Stands fleet entry → Sought entry → ⊥) → Finds fleet agent old old Sought
+  pub finds_none : (old : List Conflict) (Sought : Conflict → Type 0) → ((entry : Conflict) → Stands fleet entry → Sought entry → ⊥) → FindsAll fleet agent old old Sought
   finds_none old Sought none = grind (arith, none)
 
-  pub finds_as : (old new : List Conflict) (Sought Other : Conflict → Type 0) → ((entry : Conflict) → Stands fleet entry → Other entry → Sought entry) → Finds fleet agent old new Sought → Finds fleet agent old new Other
+  pub finds_as : (old new : List Conflict) (Sought Other : Conflict → Type 0) → ((entry : Conflict) → Stands fleet entry → Other entry → Sought entry) → FindsAll fleet agent old new Sought → FindsAll fleet agent old new Other
   finds_as old new Sought Other gives finds = grind (arith, gives, finds.keeps, finds.only, finds.has)
 
   -- one search after another
-  pub finds_then : (old mid new : List Conflict) (One Two Sought : Conflict → Type 0) → Finds fleet agent old mid One → Finds fleet agent mid new Two → ((entry : Conflict) → Stands fleet entry → Sought entry → One entry ⊎ Two entry) → Finds fleet agent old new Sought
+  pub finds_then : (old mid new : List Conflict) (One Two Sought : Conflict → Type 0) → FindsAll fleet agent old mid One → FindsAll fleet agent mid new Two → ((entry : Conflict) → Stands fleet entry → Sought entry → One entry ⊎ Two entry) → FindsAll fleet agent old new Sought
   finds_then old mid new One Two Sought first then splits = record {
     keeps = λ e h. then.keeps e (first.keeps e h);
     only = λ e h. grind (arith, then.only e h, first.only e);
     has = λ e stands sought. grind (arith, splits e stands sought, then.keeps e, first.has e stands, then.has e stands);
   }
 
-  pub finds_pair : (time second : ℕ) (old found new : List Conflict) → new ≡ old ++ found → ListsAll listing_key (λ entry. Stands fleet entry × IsOfPair entry time agent second) found → Finds fleet agent old new (λ entry. IsOfPair entry time agent second)
+  pub finds_pair : (time second : ℕ) (old found new : List Conflict) → new ≡ old ++ found → ListsAll listing_key (λ entry. Stands fleet entry × IsOfPair entry time agent second) found → FindsAll fleet agent old new (λ entry. IsOfPair entry time agent second)
   finds_pair time second old found new is lists = rw is (record {
     keeps = λ e h. Contains-append_left old found e h;
     only = λ e h. elim (Contains-append_cases old found e h) [
@@ -47,7 +47,7 @@ module _ (fleet : Fleet) (agent : ℕ) where
     has = λ e stands of. Contains-append_right old found e ((lists.exact e).1 (stands, of));
   })
 
-  pub finds_one : (entry : Conflict) (old : List Conflict) (Sought : Conflict → Type 0) → Stands fleet entry → first_agent entry ≡ agent → ((e : Conflict) → Stands fleet e → Sought e → entry ≡ e) → Finds fleet agent old (old ++ entry ∷ []) Sought
+  pub finds_one : (entry : Conflict) (old : List Conflict) (Sought : Conflict → Type 0) → Stands fleet entry → first_agent entry ≡ agent → ((e : Conflict) → Stands fleet e → Sought e → entry ≡ e) → FindsAll fleet agent old (old ++ entry ∷ []) Sought
   finds_one entry old Sought stands first only = record {
     keeps = λ e h. Contains-append_left old (entry ∷ []) e h;
     only = λ e h. elim (Contains-push_cases old entry e h) [
@@ -81,7 +81,7 @@ pub later_rank : (rows : List (ℕ × Row)) (from at to agent : ℕ) → from �
 later_rank rows from at to agent le is = record { rank = is.rank; late = omega (arith, is.late); early = is.early; at = is.at }
 
 -- the entries of an agent at a rank, after those of the agents before it
-pub ranked_more : (fleet : Fleet) (rows : List (ℕ × Row)) (from rank agent : ℕ) (old new : List Conflict) → from ≤ rank → slice_get (agents_of rows) rank ≡ Some agent → Finds fleet agent old new (λ entry. first_agent entry ≡ agent) → AreEntriesOf fleet rows from rank old → AreEntriesOf fleet rows from (rank + 1) new
+pub ranked_more : (fleet : Fleet) (rows : List (ℕ × Row)) (from rank agent : ℕ) (old new : List Conflict) → from ≤ rank → slice_get (agents_of rows) rank ≡ Some agent → FindsAll fleet agent old new (λ entry. first_agent entry ≡ agent) → AreEntriesOf fleet rows from rank old → AreEntriesOf fleet rows from (rank + 1) new
 ranked_more fleet rows from rank agent old new le at finds exact entry = (
   λ h. elim (finds.only entry h) [
     | inl in_old ↦ let before = (exact entry).0 in_old in (before.0, widen rows from rank (rank + 1) (first_agent entry) (omega arith) before.1)

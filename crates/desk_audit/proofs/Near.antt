@@ -9,7 +9,7 @@ use Rattle.mapf_rules.specs.ConflictList.{Stands}
 use Rattle.mapf_rules.specs.Naming.{IsOfPair, time_of, first_agent}
 use Rattle.mapf_rules.specs.declared.entries.Conflict.{Conflict}
 use Rattle.mapf_rules.specs.declared.entries.Conflict.TheVariants.{Vertex, Parked, Edge, Following, Swapping, Cycle}
-use Rattle.desk_audit.specs.Seeking.{IsRingFrom, Leads, IsAhead, HasMet, IsOfMet, IsOfPassed}
+use Rattle.desk_audit.specs.Seeking.{IsRingFrom, Leads, IsAhead, HasOthersIn, IsOfMet, IsOfPassed}
 use Rattle.desk_audit.specs.Filing.{Files}
 use Rattle.desk_audit.specs.Index.{IsIndexOf, pass}
 use Rattle.desk_audit.specs.declared.tables.Pass.{Pass}
@@ -59,7 +59,7 @@ meets_early fleet (Swapping x a b c n) time first second is of late_a late_b = g
 meets_early fleet (Cycle x r) time first second is of late_a late_b = absurd of
 
 -- an entry of the step is of one that is met where the agent is, or of one that is in the cell ahead
-pub step_splits : (fleet : Fleet) (time agent : ℕ) (here : Point) (ahead : Option Point) (met : List Pass) → position_of fleet agent time ≡ Some here → IsAhead fleet agent time here ahead → HasMet fleet time here agent met
+pub step_splits : (fleet : Fleet) (time agent : ℕ) (here : Point) (ahead : Option Point) (met : List Pass) → position_of fleet agent time ≡ Some here → IsAhead fleet agent time here ahead → HasOthersIn fleet time here agent met
     → (entry : Conflict) → Stands fleet entry → (time_of entry ≡ time) × (first_agent entry ≡ agent) → IsOfMet time agent met entry ⊎ ((cell : Point) × (ahead ≡ Some cell) × Leads fleet time agent cell entry)
 step_splits fleet time agent here ahead met at goes has entry stands named = elim (rw (named.0, named.1) at (meets_or_moves fleet entry stands)) [
   | inl meets ↦
@@ -68,10 +68,10 @@ step_splits fleet time agent here ahead met at goes has entry stands named = eli
   | inr on ↦ inr (on.cell, goes on.cell on.to (grind arith), on.leads)
 ]
 
-pub leads_splits : (fleet : Fleet) (time agent : ℕ) (cell : Point) (met : List Pass) → HasMet fleet time cell agent met → (entry : Conflict) → Leads fleet time agent cell entry → IsOfMet time agent met entry ⊎ IsRingFrom time agent entry
+pub leads_splits : (fleet : Fleet) (time agent : ℕ) (cell : Point) (met : List Pass) → HasOthersIn fleet time cell agent met → (entry : Conflict) → Leads fleet time agent cell entry → IsOfMet time agent met entry ⊎ IsRingFrom time agent entry
 leads_splits fleet time agent cell met has entry leads = let found = has leads.other leads.apart leads.there in grind (arith, found, leads.of)
 
-pub leads_some : (fleet : Fleet) (time agent : ℕ) (cell : Point) (met : List Pass) → HasMet fleet time cell agent met → (entry : Conflict) → Leads fleet time agent cell entry → 0 < length met
+pub leads_some : (fleet : Fleet) (time agent : ℕ) (cell : Point) (met : List Pass) → HasOthersIn fleet time cell agent met → (entry : Conflict) → Leads fleet time agent cell entry → 0 < length met
 leads_some fleet time agent cell met has entry leads = omega (arith, (has leads.other leads.apart leads.there).3.1)
 
 -- an entry of a time after the agent's path has ended is of one that passes by

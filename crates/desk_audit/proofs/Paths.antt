@@ -8,7 +8,7 @@ use Rattle.plan_table.specs.Route.{tracks_of, last_of}
 use Rattle.plan_table.specs.declared.plans.Row.{Row}
 use Rattle.plan_table.specs.declared.tracks.Mode.{Mode}
 use Rattle.desk_audit.specs.Filing.{Files, KeepsFiled}
-use Rattle.desk_audit.specs.Index.{pass, IsAtRest, AddsPath, HasPath, HasPaths, HasRests, RestsFrom, IsIndexOf}
+use Rattle.desk_audit.specs.Index.{pass, HasComeToRest, AddsPath, HasPath, HasPaths, HasRests, AllRestFrom, IsIndexOf}
 use Rattle.desk_audit.specs.declared.tables.Table.{Table}
 use Rattle.desk_audit.specs.declared.sightings.Sightings.{Sightings}
 use Rattle.desk_audit.proofs.Places.{on_row, last_of_row, rests_at_last}
@@ -39,7 +39,7 @@ added_path moments moments' passes passes' agent path first_rest adds = record {
   passed = λ time cell early there late. adds.passed time cell (omega arith) there late;
 }
 
-pub index_is : (mode : Mode) (rows : List (ℕ × Row)) (index : Sightings) → Rattle.desk_audit.specs.Filing.IsFiled index.rests → HasRests (tracks_of mode rows) index.rests → RestsFrom (tracks_of mode rows) index.first_rest → HasPaths index.moments index.passes rows index.first_rest → IsIndexOf (tracks_of mode rows) index
+pub index_is : (mode : Mode) (rows : List (ℕ × Row)) (index : Sightings) → Rattle.desk_audit.specs.Filing.IsFiled index.rests → HasRests (tracks_of mode rows) index.rests → AllRestFrom (tracks_of mode rows) index.first_rest → HasPaths index.moments index.passes rows index.first_rest → IsIndexOf (tracks_of mode rows) index
 index_is mode rows index filed rests from paths = record {
   moments_filed = paths.moments_filed;
   rests_filed = filed;
@@ -55,7 +55,7 @@ index_is mode rows index filed rests from paths = record {
 
 -- an agent that is filed under its last cell is filed where it rests
 pub rest_filed : (mode : Mode) (rows : List (ℕ × Row)) (agent last : ℕ) (row : Row) (table : Table) (here : Point) → row_of rows agent ≡ Some row → last ≡ last_index row.plan → place row.plan last ≡ Some here → Files table here 0 (pass last agent)
-    → (time : ℕ) (cell : Point) → IsAtRest (tracks_of mode rows) agent time cell → Files table cell 0 (pass (last_of (tracks_of mode rows) agent) agent)
+    → (time : ℕ) (cell : Point) → HasComeToRest (tracks_of mode rows) agent time cell → Files table cell 0 (pass (last_of (tracks_of mode rows) agent) agent)
 rest_filed mode rows agent last row table here live is_last at filed time cell is =
     let end : last_of (tracks_of mode rows) agent ≡ last = last_of_row mode rows agent row live ∙ sym is_last in
     let cells : here ≡ cell = grind (arith, rests_at_last mode rows agent time cell row live is) in

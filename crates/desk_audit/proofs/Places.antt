@@ -9,7 +9,7 @@ use Rattle.plan_table.specs.Route.{position_of, last_of, Leaves, leaves_in, trac
 use Rattle.plan_table.specs.declared.plans.Row.{Row}
 use Rattle.plan_table.specs.declared.tracks.Mode.{Mode}
 use Rattle.plan_table.proofs.Fleets.{position_on_path, position_rests, position_staying, position_gone, leaver_early, true_or_not}
-use Rattle.desk_audit.specs.Index.{IsOnPath, IsAtRest}
+use Rattle.desk_audit.specs.Index.{IsOnPath, HasComeToRest}
 
 -- an agent on its path has a row, and is at its path's place
 pub record OnRow (rows : List (ℕ × Row)) (agent time : ℕ) (cell : Point) : Type 0 where
@@ -38,11 +38,11 @@ pub leaves_of_row : (mode : Mode) (rows : List (ℕ × Row)) (agent : ℕ) (row 
 leaves_of_row mode rows agent row live leaves = rw live leaves
 
 -- an agent at rest never leaves
-pub rests_stay : (mode : Mode) (rows : List (ℕ × Row)) (agent time : ℕ) (cell : Point) → IsAtRest (tracks_of mode rows) agent time cell → Leaves (tracks_of mode rows) agent → ⊥
+pub rests_stay : (mode : Mode) (rows : List (ℕ × Row)) (agent time : ℕ) (cell : Point) → HasComeToRest (tracks_of mode rows) agent time cell → Leaves (tracks_of mode rows) agent → ⊥
 rests_stay mode rows agent time cell is leaves = omega (arith, is.0, leaver_early (tracks_of mode rows) agent time cell leaves is.1)
 
 -- and is at its path's last place
-pub rests_at_last : (mode : Mode) (rows : List (ℕ × Row)) (agent time : ℕ) (cell : Point) (row : Row) → row_of rows agent ≡ Some row → IsAtRest (tracks_of mode rows) agent time cell → place row.plan (last_index row.plan) ≡ Some cell
+pub rests_at_last : (mode : Mode) (rows : List (ℕ × Row)) (agent time : ℕ) (cell : Point) (row : Row) → row_of rows agent ≡ Some row → HasComeToRest (tracks_of mode rows) agent time cell → place row.plan (last_index row.plan) ≡ Some cell
 rests_at_last mode rows agent time cell row live is =
     let last = last_of_row mode rows agent row live in
     sym (on_path mode rows agent (last_index row.plan) row live (omega arith)) ∙ sym (position_rests (tracks_of mode rows) agent (last_index row.plan) time

@@ -18,15 +18,15 @@ abbrev pub NoneIn : List Slot → ℕ → ℕ → ℕ → ℕ → Type 0
 NoneIn slots many bucket low high = (k : ℕ) (d : Slot) → low ≤ k → k < high → slot_bucket many (slice_index_or slots k d) ≢ bucket
 
 -- the place of the last slot before that one that is in the bucket, if there is any
-abbrev pub IsLast : List Slot → ℕ → ℕ → ℕ → Option ℕ → Type 0
-IsLast slots many bucket high None = NoneIn slots many bucket 0 high
-IsLast slots many bucket high (Some last) = (last < high) × ((d : Slot) → slot_bucket many (slice_index_or slots last d) ≡ bucket) × NoneIn slots many bucket (last + 1) high
+abbrev pub IsLastInBucket : List Slot → ℕ → ℕ → ℕ → Option ℕ → Type 0
+IsLastInBucket slots many bucket high None = NoneIn slots many bucket 0 high
+IsLastInBucket slots many bucket high (Some last) = (last < high) × ((d : Slot) → slot_bucket many (slice_index_or slots last d) ≡ bucket) × NoneIn slots many bucket (last + 1) high
 
 -- each bucket is known by its last slot, and each slot knows the one before it in its bucket
 pub record IsFiled (table : Table) : Type 0 where
   pub some_bucket : 0 < length table.heads.items
-  pub heads : (b : ℕ) (d : Option ℕ) → b < length table.heads.items → IsLast table.slots.items (length table.heads.items) b (length table.slots.items) (slice_index_or table.heads.items b d)
-  pub links : (k : ℕ) (d : Slot) → k < length table.slots.items → IsLast table.slots.items (length table.heads.items) (slot_bucket (length table.heads.items) (slice_index_or table.slots.items k d)) k (slice_index_or table.slots.items k d).before
+  pub heads : (b : ℕ) (d : Option ℕ) → b < length table.heads.items → IsLastInBucket table.slots.items (length table.heads.items) b (length table.slots.items) (slice_index_or table.heads.items b d)
+  pub links : (k : ℕ) (d : Slot) → k < length table.slots.items → IsLastInBucket table.slots.items (length table.heads.items) (slot_bucket (length table.heads.items) (slice_index_or table.slots.items k d)) k (slice_index_or table.slots.items k d).before
 
 -- the pass is filed under the cell and the number
 abbrev pub Files : Table → Point → ℕ → Pass → Type 0

@@ -19,16 +19,16 @@ abbrev pub IsOnPath : Fleet → ℕ → ℕ → Point → Type 0
 IsOnPath fleet agent time cell = (time ≤ last_of fleet agent) × (position_of fleet agent time ≡ Some cell)
 
 -- the agent is in the cell, and its path has ended before
-abbrev pub IsAtRest : Fleet → ℕ → ℕ → Point → Type 0
-IsAtRest fleet agent time cell = (last_of fleet agent < time) × (position_of fleet agent time ≡ Some cell)
+abbrev pub HasComeToRest : Fleet → ℕ → ℕ → Point → Type 0
+HasComeToRest fleet agent time cell = (last_of fleet agent < time) × (position_of fleet agent time ≡ Some cell)
 
 -- each agent that rests is filed under its cell, with the last index of its path
 abbrev pub HasRests : Fleet → Table → Type 0
-HasRests fleet rests = (agent time : ℕ) (cell : Point) → IsAtRest fleet agent time cell → Files rests cell 0 (pass (last_of fleet agent) agent)
+HasRests fleet rests = (agent time : ℕ) (cell : Point) → HasComeToRest fleet agent time cell → Files rests cell 0 (pass (last_of fleet agent) agent)
 
 -- no agent's rest begins before
-abbrev pub RestsFrom : Fleet → ℕ → Type 0
-RestsFrom fleet first = (agent time : ℕ) (cell : Point) → IsAtRest fleet agent time cell → first ≤ last_of fleet agent
+abbrev pub AllRestFrom : Fleet → ℕ → Type 0
+AllRestFrom fleet first = (agent time : ℕ) (cell : Point) → HasComeToRest fleet agent time cell → first ≤ last_of fleet agent
 
 -- the tables keep what was filed, and have the places of the agent's path before that time
 pub record AddsPath (moments moments' passes passes' : Table) (agent : ℕ) (path : List Point) (first_rest end : ℕ) : Type 0 where
@@ -58,8 +58,8 @@ pub record IsIndexOf (fleet : Fleet) (index : Sightings) : Type 0 where
   pub passes_filed : IsFiled index.passes
   pub moments : (agent time : ℕ) (cell : Point) → IsOnPath fleet agent time cell → Files index.moments cell time (pass time agent)
   pub rests : HasRests fleet index.rests
-  pub from : RestsFrom fleet index.first_rest
-  pub passes : (agent other time : ℕ) (cell : Point) → IsOnPath fleet agent time cell → IsAtRest fleet other time cell → Files index.passes cell 0 (pass time agent)
+  pub from : AllRestFrom fleet index.first_rest
+  pub passes : (agent other time : ℕ) (cell : Point) → IsOnPath fleet agent time cell → HasComeToRest fleet other time cell → Files index.passes cell 0 (pass time agent)
 
 -- the rows of a fleet's agents, and its mode
 pub record Fleetwide : Type 0 where

@@ -11,5 +11,5 @@ Tiles scene from [] to = from ≡ to
 Tiles scene from (p ∷ ps) to = (p.scene.now ≡ scene) × (p.from ≡ from) × (from ≤ p.to) × Tiles scene p.to ps to
 
 -- the part that the pieces make together, where they begin with the first agent
-abbrev pub IsJoined : SceneState → List Piece → Part → Type 0
-IsJoined scene pieces whole = (end : ℕ) → Tiles scene 0 pieces end → IsPart scene.grid scene.mode scene.rows 0 end whole
+abbrev pub IsOfPieces : SceneState → List Piece → Part → Type 0
+IsOfPieces scene pieces whole = (end : ℕ) → Tiles scene 0 pieces end → IsPart scene.grid scene.mode scene.rows 0 end whole

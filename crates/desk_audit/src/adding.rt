@@ -2,7 +2,7 @@
 ghost use Rattle.std.specs.Prelude.{◌≤◌, OnOk};
 ghost use Rattle.plan_table.specs.Route.{tracks_of};
 ghost use Rattle.mapf_rules.specs.Naming.{IsOfPair};
-ghost use Rattle.desk_audit.specs.Seeking.{Finds, FindsPassed, IsOfMet, IsRingFrom};
+ghost use Rattle.desk_audit.specs.Seeking.{FindsAll, FindsPassed, IsOfMet, IsRingFrom};
 
 use crate::movers::Indexed;
 use crate::tables::Pass;
@@ -22,7 +22,7 @@ fn add_pair(
     second: Agent,
 ) -> Result<(), OutOfMemory>
     requires { time ≤ MOST_LAST_INDEX }
-    ensures { OnOk result (Finds (tracks_of mode plans.now.rows) first entries.old.items entries.new.items (λ entry. IsOfPair entry time first second)) }
+    ensures { OnOk result (FindsAll (tracks_of mode plans.now.rows) first entries.old.items entries.new.items (λ entry. IsOfPair entry time first second)) }
 {
     let mut found = entries_of_pair(alloc, plans, mode, time, first, second)?.into_items();
     entries.append(&mut found)?;
@@ -40,7 +40,7 @@ pub(crate) fn add_met(
     met: &[Pass],
 ) -> Result<(), OutOfMemory>
     requires { time ≤ MOST_LAST_INDEX }
-    ensures { OnOk result (Finds (tracks_of mode plans.now.rows) agent entries.old.items entries.new.items (IsOfMet time agent met.now)) }
+    ensures { OnOk result (FindsAll (tracks_of mode plans.now.rows) agent entries.old.items entries.new.items (IsOfMet time agent met.now)) }
 {
     for pass in met {
         if pass.time <= time {
@@ -79,7 +79,7 @@ pub(crate) fn add_ring(
     agent: Agent,
 ) -> Result<(), OutOfMemory>
     requires { time ≤ MOST_LAST_INDEX }
-    ensures { OnOk result (Finds (tracks_of movers.now.mode movers.now.rows) agent entries.old.items entries.new.items (IsRingFrom time agent)) }
+    ensures { OnOk result (FindsAll (tracks_of movers.now.mode movers.now.rows) agent entries.old.items entries.new.items (IsRingFrom time agent)) }
 {
     let Some(to) = movers.destination(time, agent) else {
         return Ok(());

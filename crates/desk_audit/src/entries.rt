@@ -3,7 +3,7 @@ ghost use Rattle.std.specs.Prelude.{◌≡◌, ◌<◌, ◌≤◌, IfOk, OnOk, S
 ghost use Rattle.plan_table.specs.Route.{tracks_of, position_of, last_of};
 ghost use Rattle.desk_audit.specs.Index.{IsIndexOf};
 ghost use Rattle.desk_audit.specs.Parts.{AreEntriesOf};
-ghost use Rattle.desk_audit.specs.Seeking.{Finds, FindsLed, FindsRanked, HasMet, IsAhead, IsFirstAfter, IsFirstAt};
+ghost use Rattle.desk_audit.specs.Seeking.{FindsAll, FindsLed, FindsRanked, HasOthersIn, IsAhead, IsFirstAfter, IsFirstAt};
 
 use crate::adding::{add_met, add_passed, add_ring};
 use crate::movers::Indexed;
@@ -25,7 +25,7 @@ fn others_at(
     agent: Agent,
 ) -> Result<Vec<Pass>, OutOfMemory>
     requires { IsIndexOf (tracks_of mode plans.now.rows) index.now }
-    ensures { IfOk result (λ met. HasMet (tracks_of mode plans.now.rows) time cell agent met.items) }
+    ensures { IfOk result (λ met. HasOthersIn (tracks_of mode plans.now.rows) time cell agent met.items) }
 {
     let mut met = Vec::new(alloc);
     index.moments.add_others(&mut met, cell, time, agent)?;
@@ -79,7 +79,7 @@ fn add_step(
     requires index { IsIndexOf (tracks_of mode plans.now.rows) index.now }
     requires here { position_of (tracks_of mode plans.now.rows) agent time ≡ Some here }
     requires ahead { IsAhead (tracks_of mode plans.now.rows) agent time here ahead }
-    ensures { OnOk result (Finds (tracks_of mode plans.now.rows) agent entries.old.items entries.new.items (IsFirstAt time agent)) }
+    ensures { OnOk result (FindsAll (tracks_of mode plans.now.rows) agent entries.old.items entries.new.items (IsFirstAt time agent)) }
 {
     let met = others_at(alloc, plans, mode, index, time, here, agent)?;
     add_met(alloc, entries, plans, mode, time, agent, &met)?;
@@ -103,7 +103,7 @@ fn add_rest(
     requires index { IsIndexOf (tracks_of mode plans.now.rows) index.now }
     requires end { end ≡ last_of (tracks_of mode plans.now.rows) agent }
     requires there { position_of (tracks_of mode plans.now.rows) agent end ≡ Some cell }
-    ensures { OnOk result (Finds (tracks_of mode plans.now.rows) agent entries.old.items entries.new.items (IsFirstAfter end agent)) }
+    ensures { OnOk result (FindsAll (tracks_of mode plans.now.rows) agent entries.old.items entries.new.items (IsFirstAfter end agent)) }
 {
     let mut passes = Vec::new(alloc);
     index.passes.add_others(&mut passes, cell, 0, agent)?;

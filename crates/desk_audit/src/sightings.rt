@@ -4,7 +4,7 @@ ghost use Rattle.std.specs.Prelude.{◌+◌, IfOk, OnOk};
 ghost use Rattle.plan_table.specs.Path.{last_index};
 ghost use Rattle.plan_table.specs.Route.{tracks_of};
 ghost use Rattle.desk_audit.specs.Filing.{IsFiled};
-ghost use Rattle.desk_audit.specs.Index.{IsIndexOf, HasRests, RestsFrom, AddsPath, HasPaths};
+ghost use Rattle.desk_audit.specs.Index.{IsIndexOf, HasRests, AllRestFrom, AddsPath, HasPaths};
 
 use crate::tables::{Pass, Table};
 use grid_cells::{Agent, OutOfMemory, Step};
@@ -77,7 +77,7 @@ fn file_rests(rests: &mut Table, mode: Mode, plans: &Plans) -> Result<(), OutOfM
 
 // The least last index of an agent that never leaves.
 fn first_rest(mode: Mode, plans: &Plans) -> u32
-    ensures { RestsFrom (tracks_of mode plans.now.rows) result }
+    ensures { AllRestFrom (tracks_of mode plans.now.rows) result }
 {
     let mut first = u32::MAX;
     for rank in 0..plans.count() {

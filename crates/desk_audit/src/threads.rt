@@ -4,7 +4,7 @@ ghost use Rattle.plan_table.specs.Route.{tracks_of};
 ghost use Rattle.scene_edits.specs.Scene.{IsScene};
 ghost use Rattle.desk_audit.specs.Index.{IsIndexOf};
 ghost use Rattle.desk_audit.specs.Parts.{IsPart, edge};
-ghost use Rattle.desk_audit.specs.Pieces.{IsJoined};
+ghost use Rattle.desk_audit.specs.Pieces.{IsOfPieces};
 
 use crate::gates::Gate;
 use crate::parts::Part;
@@ -115,7 +115,7 @@ fn joined<'s, R: Threads>(
     lost: bool,
 ) -> Option<Part>
     ensures all { IfSome result (λ whole. lost ≡ false) }
-    ensures part { IfSome result (IsJoined scene.now (map (λ child. child.promise) children.entry.items)) }
+    ensures part { IfSome result (IsOfPieces scene.now (map (λ child. child.promise) children.entry.items)) }
 {
     let mut lost = lost;
     let _agents = scene.plans();

@@ -9,8 +9,17 @@ use Rattle.clap.specs.Simple.{subcommand_rows_of}
 use Rattle.clap.specs.Walk.{rows_of}
 use Rattle.clap.specs.declared.parser.matches.ArgMatches.{ArgMatches}
 use Rattle.clap.specs.declared.parser.matches.Found.{Found}
-use Rattle.desk_cli.specs.Values.{file_named, number_given, range_of, texts_given, texts_in, mode_named, lines_named, form_named,
-    kinds_named}
+use Rattle.desk_cli.specs.Values.{
+  file_named,
+  number_given,
+  range_of,
+  texts_given,
+  texts_in,
+  mode_named,
+  lines_named,
+  form_named,
+  kinds_named,
+}
 use Rattle.desk_cli.specs.declared.words.ServeWords.{ServeWords}
 use Rattle.desk_cli.specs.declared.words.AuditWords.{AuditWords}
 use Rattle.desk_cli.specs.declared.words.DrillWords.{DrillWords}

@@ -17,7 +17,7 @@ use Rattle.scene_edits.specs.declared.changes.Thing.{Thing}
 use Rattle.scene_edits.specs.declared.edits.Edit.{Edit}
 use Rattle.scene_edits.specs.declared.edits.Edit.TheVariants.{Add, Drop, Goal, Path, Tail, Open, Close}
 use Rattle.desk_commits.specs.Entries.{Entry, thing_of, NamesThing}
-use Rattle.desk_commits.specs.Stamps.{IsOn, NameOnMap, AreOnMap}
+use Rattle.desk_commits.specs.Stamps.{IsOn, NameOnMap, NameCellsOfMap}
 use Rattle.desk_commits.proofs.Anywhere.{Any-nil, Any-cons}
 use Rattle.desk_commits.proofs.Stamping.{named_push}
 
@@ -63,10 +63,10 @@ same_size_all scene [] = refl
 same_size_all scene (edit ∷ later) = same_size_all (edited scene edit) later ∙ same_size scene edit
 
 -- what an entry of a journal on the map names is on the map
-pub entry_on : (size : Extent) (journal : List Entry) (index : ℕ) (entry : Entry) → AreOnMap size journal → slice_get journal index ≡ Some entry → NameOnMap size entry.edits
+pub entry_on : (size : Extent) (journal : List Entry) (index : ℕ) (entry : Entry) → NameCellsOfMap size journal → slice_get journal index ≡ Some entry → NameOnMap size entry.edits
 entry_on size journal index entry on there thing any =
     on thing (index + 1) (record { entry = entry; counted = omega arith; there = subst (λ k. slice_get journal k ≡ Some entry) (omega arith) there; names = any })
 
-pub on_map_push : (size : Extent) (journal : List Entry) (entry : Entry) → AreOnMap size journal → NameOnMap size entry.edits → AreOnMap size (journal ++ entry ∷ [])
+pub on_map_push : (size : Extent) (journal : List Entry) (entry : Entry) → NameCellsOfMap size journal → NameOnMap size entry.edits → NameCellsOfMap size (journal ++ entry ∷ [])
 on_map_push size journal entry on more thing number named =
     elim (named_push journal entry thing number named) [ inl earlier ↦ on thing number earlier | inr last ↦ more thing last.1 ]

@@ -18,7 +18,7 @@ use Rattle.std.proofs.lemmas.Nat.{same_from_place, mul-add-lt}
 use Rattle.scene_edits.specs.declared.changes.Thing.{Thing}
 use Rattle.scene_edits.specs.declared.changes.Thing.TheVariants as things
 use Rattle.scene_edits.specs.declared.edits.Edit.{Edit}
-use Rattle.desk_commits.specs.Entries.{Entry, thing_of, NamesThing, Names}
+use Rattle.desk_commits.specs.Entries.{Entry, thing_of, NamesThing, EntryNames}
 use Rattle.desk_commits.specs.Stale.{IsNamedAt, IsFreshSince}
 use Rattle.desk_commits.specs.Stamps.{IsStamp, stamp_of, HasPlaces, AreStamps, AreMarked}
 use Rattle.desk_commits.specs.declared.stamps.Stamps.{Stamps}
@@ -116,12 +116,12 @@ slice_get-either : (xs : List Entry) (y : Entry) (i : ℕ) (x : Entry) → slice
 slice_get-either xs y i x there = grind (arith, common_steps, gets, slice_get_within (xs ++ y ∷ []) i x there)
 
 -- an entry that names a thing is an earlier one or the last
-pub named_push : (journal : List Entry) (entry : Entry) (thing : Thing) (number : ℕ) → IsNamedAt (journal ++ entry ∷ []) thing number → IsNamedAt journal thing number ⊎ ((number ≡ length journal + 1) × Names entry thing)
+pub named_push : (journal : List Entry) (entry : Entry) (thing : Thing) (number : ℕ) → IsNamedAt (journal ++ entry ∷ []) thing number → IsNamedAt journal thing number ⊎ ((number ≡ length journal + 1) × EntryNames entry thing)
 named_push journal entry thing number named =
     let counted = named.counted in
     elim (slice_get-either journal entry (number - 1) named.entry named.there) [
       | inl there ↦ inl (record { entry = named.entry; counted = named.counted; there = there; names = named.names })
-      | inr (at, is) ↦ inr (omega (arith, at, counted), subst (λ e. Names e thing) is named.names)
+      | inr (at, is) ↦ inr (omega (arith, at, counted), subst (λ e. EntryNames e thing) is named.names)
     ]
 
 -- no thing has a stamp where there is no entry
@@ -149,7 +149,7 @@ stamps_blank stamps agents cells places no_agent no_cell no_map = stamps_of_none
 pub stamps_push : (size : Extent) (journal : List Entry) (entry : Entry) (old new : Stamps) → AreStamps size journal old → AreMarked old entry.edits (length journal + 1) new → AreStamps size (journal ++ entry ∷ []) new
 stamps_push size journal entry old new are marked = record { sized = marked.size ∙ are.sized; places = marked.places; each = each }
   where
-    here : (thing : Thing) → Names entry thing → IsStamp (journal ++ entry ∷ []) thing (length journal + 1)
+    here : (thing : Thing) → EntryNames entry thing → IsStamp (journal ++ entry ∷ []) thing (length journal + 1)
     here thing names =
         let last : length journal ≡ length journal + 1 - 1 = omega arith in
         record {
@@ -157,7 +157,7 @@ stamps_push size journal entry old new are marked = record { sized = marked.size
           last = subst (λ n. IsFreshSince (journal ++ entry ∷ []) n thing) (length_push journal entry) (fresh_at_end (journal ++ entry ∷ []) thing);
         }
 
-    before : (thing : Thing) (stamp : ℕ) → (Names entry thing → ⊥) → IsStamp journal thing stamp → IsStamp (journal ++ entry ∷ []) thing stamp
+    before : (thing : Thing) (stamp : ℕ) → (EntryNames entry thing → ⊥) → IsStamp journal thing stamp → IsStamp (journal ++ entry ∷ []) thing stamp
     before thing stamp apart is =
         record {
           named = λ some. let named = is.named some in record { entry = named.entry; counted = named.counted; there = slice_get-front journal (entry ∷ []) (stamp - 1) named.entry named.there; names = named.names };

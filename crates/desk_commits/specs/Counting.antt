@@ -7,7 +7,7 @@ use Rattle.mapf_rules.specs.declared.kinds.Kinds.{Kinds}
 use Rattle.desk_commits.specs.Entries.{Entry}
 use Rattle.desk_commits.specs.State.{DeskState, version_of}
 use Rattle.desk_commits.specs.Commits.{Committed}
-use Rattle.desk_commits.specs.Questions.{Shows, Tells}
+use Rattle.desk_commits.specs.Questions.{ShowsReport, AnswersDistance}
 use Rattle.desk_commits.specs.declared.answers.Refusal.{Refusal}
 use Rattle.desk_commits.specs.declared.answers.Reading.{Reading}
 use Rattle.desk_commits.specs.declared.answers.AskFault.{AskFault}
@@ -33,7 +33,7 @@ desk_counting = record {
   planner = λ desk. 0;
   versions = λ old version new. (version ≡ version_of old) × (new ≡ old);
   commits = Committed;
-  reads = λ old result new. IfOk result (Shows old) × (new ≡ old);
-  tells = λ old agent cell result new. Tells old.scene agent cell result × (new ≡ old);
+  reads = λ old result new. IfOk result (ShowsReport old) × (new ≡ old);
+  tells = λ old agent cell result new. AnswersDistance old.scene agent cell result × (new ≡ old);
   asks = λ X old IsAnswer answer new. IsAnswer old answer × (new ≡ old);
 }

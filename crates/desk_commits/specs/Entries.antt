@@ -45,8 +45,8 @@ abbrev pub NamesThing : Thing → Edit → Type 0
 NamesThing thing edit = (thing_of edit ≡ thing) ⊎ ((thing ≡ things.Map) × ChangesMap edit)
 
 -- an entry names what one of its edits names (this project's choice)
-abbrev pub Names : Entry → Thing → Type 0
-Names entry thing = Any (NamesThing thing) entry.edits
+abbrev pub EntryNames : Entry → Thing → Type 0
+EntryNames entry thing = Any (NamesThing thing) entry.edits
 
 -- the things of a commit: its watches in order, then the agent or cell of each edit in order
 abbrev pub things_of : Entry → List Thing

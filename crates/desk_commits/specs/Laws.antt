@@ -14,12 +14,12 @@ use Rattle.desk_commits.specs.declared.journals.ReplayFault.{ReplayFault}
 use Rattle.desk_commits.specs.declared.journals.ReplayFault.TheVariants as fault
 
 -- a commit wasn't refused for want of memory
-abbrev pub HasRoom : Result ℕ (Refusal × Entry) → Type 0
-HasRoom result = (back : Entry) → result ≢ Err (why.OutOfMemory, back)
+abbrev pub HasMemory : Result ℕ (Refusal × Entry) → Type 0
+HasMemory result = (back : Entry) → result ≢ Err (why.OutOfMemory, back)
 
 -- besides want of memory a commit has one answer, and leaves one desk
 abbrev pub OneAnswerToACommit : Type 0
-OneAnswerToACommit = (old new next : DeskState) (commit : Entry) (result other : Result ℕ (Refusal × Entry)) → Committed old commit result new → Committed old commit other next → HasRoom result → HasRoom other → (result ≡ other) × (new ≡ next)
+OneAnswerToACommit = (old new next : DeskState) (commit : Entry) (result other : Result ℕ (Refusal × Entry)) → Committed old commit result new → Committed old commit other next → HasMemory result → HasMemory other → (result ≡ other) × (new ≡ next)
 
 -- a journal that is legal at the opening of a scene replays on that scene, under the same limit or a greater one: it is
 -- refused for no other cause than memory

@@ -28,7 +28,7 @@ abbrev pub ArePriced : Chart → List (ℕ × Row) → List AgentLine → Type 0
 ArePriced grid rows lines = EachOf (λ (entry : ℕ × Row) (line : AgentLine). IsFinished entry.1 → IsUnblocked grid entry.1.plan → HasBoundAndGap line) rows lines
 
 -- the reading is the report of the desk's scene, at its version
-pub record Shows (desk : DeskState) (reading : Reading) : Type 0 where
+pub record ShowsReport (desk : DeskState) (reading : Reading) : Type 0 where
   pub version : reading.version ≡ version_of desk
   pub report : IsReportOf desk.scene.grid desk.scene.mode desk.scene.rows reading.report
   pub priced : ArePriced desk.scene.grid desk.scene.rows reading.report.lines
@@ -36,15 +36,15 @@ pub record Shows (desk : DeskState) (reading : Reading) : Type 0 where
 -- the answer says whether a reading of the desk solves by those kinds
 pub record Judges (desk : DeskState) (kinds : Kinds) (answer : Bool) : Type 0 where
   pub reading : Reading
-  pub shown : Shows desk reading
+  pub shown : ShowsReport desk reading
   pub says : IsTrue answer ↔ Solves reading.report kinds
 
 -- the distance of the cell to the agent's goal on the scene's map, or the first fault of the question
-abbrev pub Tells : SceneState → ℕ → Point → Result (Option ℕ) AskFault → Type 0
-Tells scene agent cell (Ok distance) = (row : Row) × (row_of scene.rows agent ≡ Some row) × Holds scene.grid.size cell × IsDistance scene.grid cell row.goal distance
-Tells scene agent cell (Err UnknownAgent) = row_of scene.rows agent ≡ None
-Tells scene agent cell (Err OutOfMap) = IsSome (row_of scene.rows agent) × (Holds scene.grid.size cell → ⊥)
-Tells scene agent cell (Err OutOfMemory) = IsSome (row_of scene.rows agent) × Holds scene.grid.size cell
+abbrev pub AnswersDistance : SceneState → ℕ → Point → Result (Option ℕ) AskFault → Type 0
+AnswersDistance scene agent cell (Ok distance) = (row : Row) × (row_of scene.rows agent ≡ Some row) × Holds scene.grid.size cell × IsDistance scene.grid cell row.goal distance
+AnswersDistance scene agent cell (Err UnknownAgent) = row_of scene.rows agent ≡ None
+AnswersDistance scene agent cell (Err OutOfMap) = IsSome (row_of scene.rows agent) × (Holds scene.grid.size cell → ⊥)
+AnswersDistance scene agent cell (Err OutOfMemory) = IsSome (row_of scene.rows agent) × Holds scene.grid.size cell
 
 -- a copy of the desk's scene, at its version
 pub record Copies (desk : DeskState) (snapshot : Snapshot) : Type 0 where
@@ -54,7 +54,7 @@ pub record Copies (desk : DeskState) (snapshot : Snapshot) : Type 0 where
 -- the reading is one of the desk, cut to those agents
 pub record ShowsCut (desk : DeskState) (agents : List ℕ) (cut : Reading) : Type 0 where
   pub whole : Reading
-  pub shown : Shows desk whole
+  pub shown : ShowsReport desk whole
   pub version : cut.version ≡ whole.version
   pub is_cut : IsCut agents whole.report cut.report
 

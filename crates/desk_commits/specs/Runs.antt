@@ -3,7 +3,7 @@ use Rattle.std.specs.Prelude.{◌≡◌, List, [], ◌∷◌, ◌++◌, Ok, Err}
 use Rattle.desk_commits.specs.Entries.{Entry}
 use Rattle.desk_commits.specs.State.{DeskState}
 use Rattle.desk_commits.specs.Commits.{Committed}
-use Rattle.desk_commits.specs.Questions.{Shows, Tells, Copies}
+use Rattle.desk_commits.specs.Questions.{ShowsReport, AnswersDistance, Copies}
 use Rattle.desk_commits.specs.declared.answers.Call.{Call}
 use Rattle.desk_commits.specs.declared.answers.Call.TheVariants as call
 use Rattle.desk_commits.specs.declared.answers.Answer.{Answer}
@@ -14,11 +14,11 @@ abbrev pub IsCall : DeskState → Call → Answer → DeskState → Type 0
 IsCall old (call.Commit commit) (Done version) new = Committed old commit (Ok version) new
 IsCall old (call.Commit commit) (Refused refusal back) new = Committed old commit (Err (refusal, back)) new
 IsCall old (call.Commit commit) other new = ⊥
-IsCall old call.Read (Shown reading) new = Shows old reading × (new ≡ old)
+IsCall old call.Read (Shown reading) new = ShowsReport old reading × (new ≡ old)
 IsCall old call.Read NoMemory new = new ≡ old
 IsCall old call.Read other new = ⊥
-IsCall old (call.Distance agent cell) (Far distance) new = Tells old.scene agent cell (Ok distance) × (new ≡ old)
-IsCall old (call.Distance agent cell) (AskRefused fault) new = Tells old.scene agent cell (Err fault) × (new ≡ old)
+IsCall old (call.Distance agent cell) (Far distance) new = AnswersDistance old.scene agent cell (Ok distance) × (new ≡ old)
+IsCall old (call.Distance agent cell) (AskRefused fault) new = AnswersDistance old.scene agent cell (Err fault) × (new ≡ old)
 IsCall old (call.Distance agent cell) other new = ⊥
 IsCall old call.Snapshot (Copied snapshot) new = Copies old snapshot × (new ≡ old)
 IsCall old call.Snapshot NoMemory new = new ≡ old

@@ -1,14 +1,14 @@
 -- Stale commits: an entry that the planner hasn't seen names one of the commit's things (this project's choice).
 use Rattle.std.specs.Prelude.{◌≡◌, ℕ, ◌-◌, ◌<◌, Some, List, slice_get}
 use Rattle.scene_edits.specs.declared.changes.Thing.{Thing}
-use Rattle.desk_commits.specs.Entries.{Entry, Names, things_of}
+use Rattle.desk_commits.specs.Entries.{Entry, EntryNames, things_of}
 
 -- the entry of that number names the thing. Entries count from 1
 pub record IsNamedAt (journal : List Entry) (thing : Thing) (number : ℕ) : Type 0 where
   pub entry : Entry
   pub counted : 0 < number
   pub there : slice_get journal (number - 1) ≡ Some entry
-  pub names : Names entry thing
+  pub names : EntryNames entry thing
 
 -- no entry after that version names the thing
 abbrev pub IsFreshSince : List Entry → ℕ → Thing → Type 0

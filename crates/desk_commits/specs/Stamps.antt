@@ -44,8 +44,8 @@ abbrev pub NameOnMap : Extent → List Edit → Type 0
 NameOnMap size edits = (thing : Thing) → Any (NamesThing thing) edits → IsOn size thing
 
 -- the entries name cells of the map alone
-abbrev pub AreOnMap : Extent → List Entry → Type 0
-AreOnMap size journal = (thing : Thing) (number : ℕ) → IsNamedAt journal thing number → IsOn size thing
+abbrev pub NameCellsOfMap : Extent → List Entry → Type 0
+NameCellsOfMap size journal = (thing : Thing) (number : ℕ) → IsNamedAt journal thing number → IsOn size thing
 
 -- the things that the edits name have that number now, and the others what they had
 pub record AreMarked (old : Stamps) (edits : List Edit) (number : ℕ) (new : Stamps) : Type 0 where

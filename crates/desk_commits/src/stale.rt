@@ -1,6 +1,6 @@
 //! Which commits are stale.
 ghost use Rattle.std.specs.Prelude.{◌≡◌, ◌+◌, ◌<◌, ◌↔◌, IsTrue, Some, length, IfSome, IfNone, slice_get};
-ghost use Rattle.desk_commits.specs.Entries.{thing_of, ChangesMap, NamesThing, Names, things_of};
+ghost use Rattle.desk_commits.specs.Entries.{thing_of, ChangesMap, NamesThing, EntryNames, things_of};
 ghost use Rattle.std.specs.Option.{ForSome};
 ghost use Rattle.desk_commits.specs.Stale.{IsFreshSince, IsLastNaming, IsStaleBy, IsFresh};
 ghost use Rattle.desk_commits.specs.Stamps.{AreStamps};
@@ -39,7 +39,7 @@ fn names_thing(edit: &Edit, thing: &Thing) -> bool
 
 // Whether an edit of the entry names the thing.
 fn names(entry: &Commit, thing: &Thing) -> bool
-    ensures { IsTrue result ↔ Names entry.now thing.now }
+    ensures { IsTrue result ↔ EntryNames entry.now thing.now }
 {
     entry.edits().iter().any(|edit| names_thing(edit, thing))
 }

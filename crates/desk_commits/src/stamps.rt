@@ -3,7 +3,7 @@
 ghost use Rattle.std.specs.Prelude.{◌≡◌, ◌<◌, ◌≤◌, [], ◌∷◌, ◌++◌, IfOk, length};
 ghost use Rattle.scene_edits.specs.declared.edits.Edit.{Edit};
 ghost use Rattle.desk_commits.specs.Entries.{thing_of};
-ghost use Rattle.desk_commits.specs.Stamps.{stamp_of, HasPlaces, IsOn, NameOnMap, AreOnMap, AreMarked, AreStamps, WhereTheyStand};
+ghost use Rattle.desk_commits.specs.Stamps.{stamp_of, HasPlaces, IsOn, NameOnMap, NameCellsOfMap, AreMarked, AreStamps, WhereTheyStand};
 
 use crate::commits::Commit;
 use crate::limits::MOST_ENTRIES;
@@ -38,7 +38,7 @@ impl Stamps {
     /// The stamps of that journal.
     pub fn of(alloc: Global, size: Size, journal: &[Commit]) -> Result<Stamps, OutOfMemory>
         requires few { length journal.now ≤ MOST_ENTRIES }
-        requires on_map { AreOnMap size journal.now }
+        requires on_map { NameCellsOfMap size journal.now }
         ensures { IfOk result (AreStamps size journal.now) }
     {
         let mut stamps = Stamps::blank(alloc, size)?;

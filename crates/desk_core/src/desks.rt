@@ -1,6 +1,6 @@
 ghost use Rattle.std.specs.Prelude.{◌≡◌, ◌≤◌, length, IfOk};
 ghost use Rattle.desk_commits.specs.State.{opening, version_of};
-ghost use Rattle.desk_commits.specs.Questions.{Shows, Judges, Tells, Copies};
+ghost use Rattle.desk_commits.specs.Questions.{ShowsReport, Judges, AnswersDistance, Copies};
 ghost use Rattle.live_report.specs.Books.{AreOf};
 
 use crate::questions::{goal_asked, report, solves};
@@ -43,11 +43,11 @@ impl Model for Desk {
 
     ghost Value = { DeskState };
 
-    ghost use Rattle.desk_core.specs.Kept.{IsKept};
+    ghost use Rattle.desk_core.specs.Kept.{IsKeptDesk};
 
     ghost view = { λ d. record { scene = d.scene; journal = d.journal.items; limit = d.limit } };
 
-    ghost invariant = { λ d. IsKept d.scene d.journal.items d.limit d.stamps d.books };
+    ghost invariant = { λ d. IsKeptDesk d.scene d.journal.items d.limit d.stamps d.books };
 }
 
 impl Debug for Desk {
@@ -109,7 +109,7 @@ impl Desk {
     /// The report of the scene, at the desk's version.
     pub fn reading(&mut self) -> Result<Reading, OutOfMemory>
         ensures same { self.new ≡ self.old }
-        ensures shown { IfOk result (Shows self.old) }
+        ensures shown { IfOk result (ShowsReport self.old) }
     {
         let version = self.version();
         let mut books = self.take_books()?;
@@ -143,7 +143,7 @@ impl Desk {
     /// The first fault of the question, or want of memory.
     pub fn distance(&mut self, agent: Agent, cell: Cell) -> Result<Option<u32>, AskFault>
         ensures same { self.new ≡ self.old }
-        ensures told { Tells self.old.scene agent cell result }
+        ensures told { AnswersDistance self.old.scene agent cell result }
     {
         let goal = goal_asked(&self.scene, agent, cell)?;
         let books = self.take_books()?;

@@ -3,7 +3,7 @@ ghost use Rattle.std.specs.Prelude.{◌≡◌, ◌↔◌, IsTrue, IfOk, IfErr, E
 ghost use Rattle.desk_report.specs.Report.{IsReportOf};
 ghost use Rattle.live_report.specs.Books.{AreOf};
 ghost use Rattle.desk_commits.specs.Goals.{IsAsked};
-ghost use Rattle.desk_commits.specs.Questions.{ArePriced, Judges, Tells, ShowsCut, IsKnown};
+ghost use Rattle.desk_commits.specs.Questions.{ArePriced, Judges, AnswersDistance, ShowsCut, IsKnown};
 ghost use Rattle.desk_commits.specs.State.{DeskState, version_of};
 
 use desk_commits::AskFault;
@@ -41,7 +41,7 @@ pub(crate) fn solves(books: &Books, scene: &Scene, kinds: Kinds) -> bool
 // The goal of the agent that is asked of a cell, or the first fault of the question.
 pub(crate) fn goal_asked(scene: &Scene, agent: Agent, cell: Cell) -> Result<Cell, AskFault>
     ensures asked { IfOk result (λ goal. IsAsked scene.now agent cell goal) }
-    ensures fault { IfErr result (λ fault. Tells scene.now agent cell (Err fault)) }
+    ensures fault { IfErr result (λ fault. AnswersDistance scene.now agent cell (Err fault)) }
 {
     let plans = scene.plans();
     let Some(row) = plans.row(agent) else {

@@ -1,6 +1,6 @@
 //! The seats of planners at pipes, or other files, and of the operator at standard input and output.
 ghost use Rattle.std.specs.Prelude.{◌≡◌, IfOk, length};
-ghost use Rattle.solver_check.specs.Inputs.{untold};
+ghost use Rattle.solver_check.specs.Inputs.{untold_input};
 ghost use Rattle.solver_check.specs.Seats.{Sits};
 
 use crate::doors::{Doors, Unmet};
@@ -92,7 +92,7 @@ impl<'a> Pipes<'a> {
 
     // Serves the operator.
     fn operate<C: Awaits>(&self, alloc: Global, counter: &mut C) -> Outcome
-        ensures { Sits C.counting (untold self.now.version) counter.old counter.new result }
+        ensures { Sits C.counting (untold_input self.now.version) counter.old counter.new result }
     {
         let errors = self.errors();
         // (lent, since standard input has its buffer in itself)
@@ -113,7 +113,7 @@ impl<'a> Pipes<'a> {
         doors: &Doors,
         counter: &mut C,
     ) -> Outcome
-        ensures { Sits C.counting (untold self.now.version) counter.old counter.new result }
+        ensures { Sits C.counting (untold_input self.now.version) counter.old counter.new result }
     {
         let (input, output) = match doors.meet(rt, self.host) {
             Ok(ends) => ends,
@@ -152,7 +152,7 @@ impl<'a> Pipes<'a> {
 }
 
 impl<'a> Seats for Pipes<'a> {
-    ghost inputs = { λ pipes _. untold pipes.version };
+    ghost inputs = { λ pipes _. untold_input pipes.version };
 
     fn seat<R: Wait, C: Awaits>(
         &self,

@@ -1,5 +1,5 @@
 //! A planner's session between two files.
-ghost use Rattle.solver_check.specs.Inputs.{untold};
+ghost use Rattle.solver_check.specs.Inputs.{untold_input};
 ghost use Rattle.solver_check.specs.Seats.{IsHeard, Sits};
 
 use crate::sending::send_last;
@@ -29,7 +29,7 @@ pub(crate) fn sit_between<C: Awaits, I: Read + Drop, O: Write + Drop>(
     input: I,
     output: O,
 ) -> Outcome
-    ensures { Sits C.counting (untold version) counter.old counter.new result }
+    ensures { Sits C.counting (untold_input version) counter.old counter.new result }
 {
     match BufWriter::new(alloc, output) {
         Ok(buffered) => sit_buffered(alloc, version, counter, input, buffered),
@@ -48,7 +48,7 @@ fn sit_buffered<C: Awaits, I: Read + Drop, O: Write + Drop>(
     input: I,
     buffered: BufWriter<O>,
 ) -> Outcome
-    ensures { Sits C.counting (untold version) counter.old counter.new result }
+    ensures { Sits C.counting (untold_input version) counter.old counter.new result }
 {
     let outlet = RefCell::new(Outlet::new(buffered));
     let ended = match Lines::new(alloc, input, &outlet) {
@@ -67,7 +67,7 @@ fn hear_out<C: Awaits, R: Source + Drop, O: Write + Drop>(
     lines: R,
     outlet: &RefCell<Outlet<O>>,
 ) -> Outcome
-    ensures { Sits C.counting (untold version) counter.old counter.new result }
+    ensures { Sits C.counting (untold_input version) counter.old counter.new result }
 {
     let mut lines = WholeLines::new(ShortLines::new(lines));
     let mut answers = Spout::new(Answers::new(outlet));
@@ -89,7 +89,7 @@ fn hear<C: Awaits, R: Source, W: Sink>(
     reader: &mut R,
     writer: &mut W,
 ) -> Result<u32, ServeFault>
-    ensures { IsHeard C.counting (untold version) counter.old counter.new result }
+    ensures { IsHeard C.counting (untold_input version) counter.old counter.new result }
 {
     let ended = serve_in(alloc, version, counter, reader, writer, SEAT_BOUNDS);
     ended

@@ -43,9 +43,9 @@ abbrev pub report_block : Kinds → Report → List ℕ
 report_block kinds report = codes "<script type='text/plain' id='report' data-solves='" ++ kind_names kinds ++ codes "'>" ++ report_text report ++ codes "</script>\n"
 
 -- what stands behind the report: the script that shows both blocks
-abbrev pub end_text : List ℕ → List ℕ
-end_text script = codes "<script>\n" ++ script ++ codes "</script>\n</body>\n</html>\n"
+abbrev pub closing_text : List ℕ → List ℕ
+closing_text script = codes "<script>\n" ++ script ++ codes "</script>\n</body>\n</html>\n"
 
 -- the page
 abbrev pub page_text : Page → SceneState → Report → List ℕ
-page_text page scene report = front_text page ++ scene_block scene ++ report_block page.kinds report ++ end_text page.script.now
+page_text page scene report = front_text page ++ scene_block scene ++ report_block page.kinds report ++ closing_text page.script.now

@@ -4,7 +4,7 @@ ghost use Rattle.std.specs.Prelude.{◌≡◌, OnOk, OnErr, is_err, ◌||◌};
 ghost use Rattle.std.specs.Io.KnownBytes.{Appends};
 ghost use Rattle.bench_reader.specs.MapSpelling.{map_spelling};
 ghost use Rattle.desk_report.specs.Bytes.{AppendsFront};
-ghost use Rattle.desk_pages.specs.Pages.{name_if, kind_names, mode_name, front_text, scene_block, report_block, end_text, page_text};
+ghost use Rattle.desk_pages.specs.Pages.{name_if, kind_names, mode_name, front_text, scene_block, report_block, closing_text, page_text};
 
 use crate::courses::put_scene;
 use crate::titles::put_escaped;
@@ -115,8 +115,8 @@ fn put_report_block<W: Sink>(sink: &mut W, kinds: Kinds, report: &Report) -> Res
 
 // What stands behind the report.
 fn put_end<W: Sink>(sink: &mut W, script: &[u8]) -> Result<(), WriteFailed>
-    ensures ok { OnOk result (Appends (W.held sink.old) (W.held sink.new) (end_text script.now)) }
-    ensures err { OnErr result (AppendsFront (W.held sink.old) (W.held sink.new) (end_text script.now)) }
+    ensures ok { OnOk result (Appends (W.held sink.old) (W.held sink.new) (closing_text script.now)) }
+    ensures err { OnErr result (AppendsFront (W.held sink.old) (W.held sink.new) (closing_text script.now)) }
     ensures broken { W.broken sink.new ≡ (W.broken sink.old || is_err result) }
 {
     put_all(sink, b"<script>\n")?;

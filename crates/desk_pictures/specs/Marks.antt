@@ -9,7 +9,7 @@ use Rattle.mapf_rules.specs.declared.visits.Visit.{Visit}
 use Rattle.desk_report.specs.EntryText.{entry_line}
 use Rattle.desk_report.specs.ReportText.{visit_line}
 use Rattle.desk_report.specs.declared.reports.Report.{Report}
-use Rattle.desk_pictures.specs.Pieces.{half_text, seconds_text, joined}
+use Rattle.desk_pictures.specs.Pieces.{half_text, seconds_text, joined_texts}
 use Rattle.desk_pictures.specs.Spots.{spot_of, symbol_of}
 use Rattle.desk_pictures.specs.declared.spots.Spot.{Spot}
 
@@ -29,7 +29,7 @@ class_text false = []
 
 -- the mark of an entry up to its title
 unfoldable pub opening_text : List ℕ → Spot → List ℕ
-opening_text symbol spot = joined (codes "<use href='#" ∷ symbol ∷ codes "' x='" ∷ half_text spot.across ∷ codes "' y='" ∷ half_text spot.down ∷ codes "'><title>" ∷ [])
+opening_text symbol spot = joined_texts (codes "<use href='#" ∷ symbol ∷ codes "' x='" ∷ half_text spot.across ∷ codes "' y='" ∷ half_text spot.down ∷ codes "'><title>" ∷ [])
 
 -- the mark of an entry, titled by the entry's line in a report
 unfoldable pub mark_text : Fleet → Conflict → List ℕ
@@ -37,7 +37,7 @@ mark_text fleet entry = opening_text (symbol_of entry) (spot_of fleet entry) ++ 
 
 -- the beginning of a group of marks of one time: in a moving picture they are lit for the 0.4 seconds of its step
 abbrev pub group_text : Bool → Bool → ℕ → List ℕ
-group_text true lit time = joined (codes "<g><set attributeName='opacity' to='1' begin='" ∷ seconds_text time ∷ codes "s' dur='0.4s'/>\n" ∷ [])
+group_text true lit time = joined_texts (codes "<g><set attributeName='opacity' to='1' begin='" ∷ seconds_text time ∷ codes "s' dur='0.4s'/>\n" ∷ [])
 group_text false true time = codes "<g class='lit'>\n"
 group_text false false time = codes "<g>\n"
 
@@ -58,7 +58,7 @@ marks_behind at fleet before (entry ∷ rest) = turn_text at before (time_of ent
 
 -- the mark of a visit up to its title
 unfoldable pub cross_opening_text : Bool → ℕ → ℕ → List ℕ
-cross_opening_text lit x y = joined (codes "<rect" ∷ class_text lit ∷ codes " x='" ∷ decimal x ∷ codes "' y='" ∷ decimal y ∷ codes "'><title>" ∷ [])
+cross_opening_text lit x y = joined_texts (codes "<rect" ∷ class_text lit ∷ codes " x='" ∷ decimal x ∷ codes "' y='" ∷ decimal y ∷ codes "'><title>" ∷ [])
 
 -- the mark of a visit, titled by the visit's line in a report; a moving picture has it at all times
 unfoldable pub cross_text : Option ℕ → Visit → List ℕ

@@ -27,5 +27,5 @@ piece_text (Thousandths number) = thousandths_text number
 piece_text (Seconds time) = seconds_text time
 
 -- texts, one behind the other
-abbrev pub joined : List (List ℕ) → List ℕ
-joined texts = flat_map (λ text. text) texts
+abbrev pub joined_texts : List (List ℕ) → List ℕ
+joined_texts texts = flat_map (λ text. text) texts

@@ -17,12 +17,12 @@ between_given (Some first) None = record { across = 0; down = 0 }
 between_given None second = record { across = 0; down = 0 }
 
 -- where the ring's agent at that index is at the time
-abbrev pub cell_in : Fleet → ℕ → List ℕ → ℕ → Option Point
-cell_in fleet time ring index = option_and_then (λ agent. position_of fleet agent time) (slice_get ring index)
+abbrev pub ring_cell : Fleet → ℕ → List ℕ → ℕ → Option Point
+ring_cell fleet time ring index = option_and_then (λ agent. position_of fleet agent time) (slice_get ring index)
 
 -- between the cells of the ring's first agent and of the one across
 abbrev pub spot_across : Fleet → ℕ → List ℕ → Spot
-spot_across fleet time ring = between_given (cell_in fleet time ring 0) (cell_in fleet time ring (length ring / 2))
+spot_across fleet time ring = between_given (ring_cell fleet time ring 0) (ring_cell fleet time ring (length ring / 2))
 
 -- at the entry's cell, between its two cells, or across its ring
 abbrev pub spot_of : Fleet → Conflict → Spot

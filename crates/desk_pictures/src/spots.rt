@@ -1,7 +1,7 @@
 //! Where the mark of an entry stands, and how it is drawn.
 ghost use Rattle.std.specs.Prelude.{◌≡◌, ◌==◌, if◌then◌else◌, codes};
 ghost use Rattle.plan_table.specs.Route.{tracks_of};
-ghost use Rattle.desk_pictures.specs.Spots.{between, cell_in, spot_across, spot_of, symbol_of};
+ghost use Rattle.desk_pictures.specs.Spots.{between, ring_cell, spot_across, spot_of, symbol_of};
 
 use grid_cells::{Agent, Cell, Step};
 use mapf_rules::{Conflict, position};
@@ -59,7 +59,7 @@ pub(crate) fn cell_in(
     ring: &[Agent],
     index: usize,
 ) -> Option<Cell>
-    ensures { result ≡ cell_in (tracks_of mode plans.now.rows) time ring.now index }
+    ensures { result ≡ ring_cell (tracks_of mode plans.now.rows) time ring.now index }
 {
     match ring.get(index) {
         Some(agent) => position(plans, mode, *agent, time.number()),

@@ -19,8 +19,8 @@ abbrev pub line_key : AgentLine → List ℕ
 line_key line = line.agent ∷ []
 
 -- the agents of lines
-abbrev pub agents_of : List AgentLine → List ℕ
-agents_of lines = map (λ line. line.agent) lines
+abbrev pub agents_in_lines : List AgentLine → List ℕ
+agents_in_lines lines = map (λ line. line.agent) lines
 
 -- what came: of each list of the later report what the earlier one hasn't, and the later one's totals
 pub record HasCome (old new came : Report) : Type 0 where
@@ -33,11 +33,11 @@ pub record HasCome (old new came : Report) : Type 0 where
   pub total_gap : came.total_gap ≡ new.total_gap
 
 -- what changed: how many agents, conflicts and blocked visits the later report has, which of the earlier one's went, and what came
-pub record AreChanges (old new : Report) (changes : Changes) : Type 0 where
+pub record AreDifferences (old new : Report) (changes : Changes) : Type 0 where
   pub agents : changes.agents ≡ length new.lines
   pub conflicts : changes.conflicts ≡ length new.conflicts
   pub blocked : changes.blocked ≡ length new.visits
-  pub gone_agents : AreOnlyIn agent_key (agents_of old.lines) (agents_of new.lines) changes.gone_agents
+  pub gone_agents : AreOnlyIn agent_key (agents_in_lines old.lines) (agents_in_lines new.lines) changes.gone_agents
   pub gone_conflicts : AreOnlyIn listing_key old.conflicts new.conflicts changes.gone_conflicts
   pub gone_visits : AreOnlyIn visit_key old.visits new.visits changes.gone_visits
   pub came : HasCome old new changes.came

@@ -4,12 +4,12 @@ use Rattle.std.proofs.Common.{◌≡◌, ◌≢◌, ⊎_elim, ℕ, ◌<◌, List
 use Rattle.std.proofs.lemmas.List.{append-nil}
 use Rattle.std.proofs.lemmas.List.Elements.{All-head, All-drop}
 use Rattle.desk_commits.specs.Entries.{Entry}
-use Rattle.desk_shared.specs.Passes.{PassState, own_of, MayGive, HasJust, IsOfAnother, GoesOn}
+use Rattle.desk_shared.specs.Passes.{PassState, own_of, MayGive, HasJust, IsOfAnother, ExtendsSeen}
 use Rattle.desk_shared.specs.Laws.{AloneFindsWhatItSaw, OnePlannerFindsWhatItSaw}
 use Rattle.desk_shared.proofs.Beginnings.{after_prefix, own_rest, none_own}
 
 -- where no number of another has more entries, there are no more
-no_more : (pass : PassState) (made rest : List Entry) (is : pass.made ++ rest ≡ made) → GoesOn pass made → ((number : ℕ) → number < pass.planners → IsOfAnother pass number → own_of number made ≡ own_of number pass.made) → made ≡ pass.made
+no_more : (pass : PassState) (made rest : List Entry) (is : pass.made ++ rest ≡ made) → ExtendsSeen pass made → ((number : ℕ) → number < pass.planners → IsOfAnother pass number → own_of number made ≡ own_of number pass.made) → made ≡ pass.made
 no_more pass made [] is on same = sym is ∙ append-nil pass.made
 no_more pass made (first ∷ later) is on same =
     let others : All (λ (entry : Entry). IsOfAnother pass entry.planner) (first ∷ later) = subst (All (λ (entry : Entry). IsOfAnother pass entry.planner)) (after_prefix pass.made made (first ∷ later, is)) on.others in

@@ -20,8 +20,8 @@ use Rattle.desk_shared.proofs.Journals.{legal_within}
 use Rattle.desk_shared.specs.declared.board.Known.{Known}
 use Rattle.desk_shared.specs.declared.board.Stage.{Stage}
 use Rattle.desk_shared.specs.declared.board.Stage.TheVariants.{Making, Idle, Holding, Joined}
-use Rattle.desk_shared.specs.Passes.{version_at, AreOfPlanners, HasJust, IsOfAnother, GoesOn}
-use Rattle.desk_shared.specs.Turns.{shown, Stands, IsPast, Live, IsBusy, IsWithin, Ruled, posed, first_known}
+use Rattle.desk_shared.specs.Passes.{version_at, AreOfPlanners, HasJust, IsOfAnother, ExtendsSeen}
+use Rattle.desk_shared.specs.Turns.{shown, Stands, IsPast, Live, IsBusy, IsWithinCall, Ruled, posed, first_known}
 use Rattle.desk_shared.proofs.Beginnings.{own_rest, own_none, none_own, after_prefix}
 
 abbrev St : Type 0
@@ -59,13 +59,13 @@ set_at (x ∷ xs) zero a b e = refl
 set_at (x ∷ xs) (suc i) a b e = set_at xs i a b e
 
 -- a pass goes on into a call
-pub held_here : (vs : List Known) (id : ℕ) (k w : Known) → get_elem? vs id ≡ some k → IsBusy w.stage → IsWithin (set vs id w) id
+pub held_here : (vs : List Known) (id : ℕ) (k w : Known) → get_elem? vs id ≡ some k → IsBusy w.stage → IsWithinCall (set vs id w) id
 held_here vs id k w at busy = (w, set_at vs id k w at, busy)
 
 -- the pass that has the turn is still within its call
-pub held_on : (vs : List Known) (id : ℕ) (k w : Known) (holder : ℕ) → get_elem? vs id ≡ some k → (IsBusy k.stage → IsBusy w.stage) → IsWithin vs holder → IsWithin (set vs id w) holder
+pub held_on : (vs : List Known) (id : ℕ) (k w : Known) (holder : ℕ) → get_elem? vs id ≡ some k → (IsBusy k.stage → IsBusy w.stage) → IsWithinCall vs holder → IsWithinCall (set vs id w) holder
 held_on vs id k w holder at still h = dite (ℕ_discrete holder id)
-    (λ is. let same : h.0 ≡ k = some-injective _ _ (sym h.1 ∙ (ap (get_elem? vs) is ∙ at)) in subst (IsWithin (set vs id w)) (sym is) (w, set_at vs id k w at, still (subst (λ (z : Known). IsBusy z.stage) same h.2)))
+    (λ is. let same : h.0 ≡ k = some-injective _ _ (sym h.1 ∙ (ap (get_elem? vs) is ∙ at)) in subst (IsWithinCall (set vs id w)) (sym is) (w, set_at vs id k w at, still (subst (λ (z : Known). IsBusy z.stage) same h.2)))
     (λ other. (h.0, set_else vs id holder w other ∙ h.1, h.2))
 
 abbrev pub desk_or : DeskState → Option DeskState → DeskState
@@ -84,7 +84,7 @@ unmoved s r i id cs k at = subst (λ (z : List ℕ × List Known). Ruled record 
 
 -- the rule for a table after a step, from the same desk for as many planners
 pub renewed : (s t : St) (r : Ruled s) (log : List Entry) (holder : ℕ) (owner : ℕ → ℕ) → length t.words ≡ 2 → length t.homes ≡ 1 → IsLegal r.start log → AreOfPlanners r.planners log
-    → get_or t.words 0 0 ≡ version_at r.start log → (turn_of t ≡ 0 → get_elem? t.homes 0 ≡ some (some (Some (after r.start log)))) → (turn_of t ≢ 0 → IsWithin t.views holder)
+    → get_or t.words 0 0 ≡ version_at r.start log → (turn_of t ≡ 0 → get_elem? t.homes 0 ≡ some (some (Some (after r.start log)))) → (turn_of t ≢ 0 → IsWithinCall t.views holder)
     → ((j : ℕ) (k : Known) → get_elem? t.views j ≡ some k → Stays r.start r.planners log (turn_of t) t.homes holder owner j k) → Ruled t
 renewed s t r log holder owner wide deep legal numbered count home held each =
     record { start = r.start; planners = r.planners; log = log; holder = holder; owner = owner; wide = wide; deep = deep; bounded = r.bounded; within = r.within; legal = legal; numbered = numbered; count = count; home = home; held = held; each = each }
@@ -102,7 +102,7 @@ turned s r id k w turn homes at deep home busy mine away =
     (rw is (each_stays (Stays r.start r.planners r.log turn homes id r.owner) s.views id w (λ _. mine)
     (λ j v other there alive. let h = r.each j v there alive in (h.0, rests r.start r.log (turn_of s) s.homes r.holder j r.log turn homes id v.made v.stage (away j other) h.1))))
 
-pub found : (s : St) (r : Ruled s) (id : ℕ) (k : Known) → Live r.start r.planners r.log r.owner id k → GoesOn (shown k) r.log
+pub found : (s : St) (r : Ruled s) (id : ℕ) (k : Known) → Live r.start r.planners r.log r.owner id k → ExtendsSeen (shown k) r.log
 found s r id k l = record {
   seen = l.seen;
   floor = subst (λ (z : DeskState). k.floor ≤ version_at z r.log) (sym l.same) l.floor;

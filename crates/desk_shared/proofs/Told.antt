@@ -14,8 +14,8 @@ use Rattle.desk_commits.specs.Commits.{Accepts, Committed}
 use Rattle.desk_commits.proofs.Replaying.{after-push}
 use Rattle.desk_shared.specs.declared.board.Known.{Known}
 use Rattle.desk_shared.specs.declared.board.Stage.TheVariants.{Idle, Holding}
-use Rattle.desk_shared.specs.Passes.{PassState, own_of, version_at, AreOfPlanners, HasJust, GoesOn}
-use Rattle.desk_shared.specs.Calls.{CommitsBy, IsLastSeen, IsClosed, IsLeast, IsSplit, IsJoined}
+use Rattle.desk_shared.specs.Passes.{PassState, own_of, version_at, AreOfPlanners, HasJust, ExtendsSeen}
+use Rattle.desk_shared.specs.Calls.{CommitsBy, IsLastSeen, IsDeskAtClose, IsLeast, IsSplit, IsJoinOf}
 use Rattle.desk_shared.specs.Turns.{shown, since, Ruled, posed, Unspent, giver, given, both}
 use Rattle.desk_shared.specs.Numbers.{first_true}
 use Rattle.desk_shared.proofs.Journals.{version_after}
@@ -24,7 +24,7 @@ use Rattle.desk_shared.proofs.Unused.{at_or, blank}
 use Rattle.desk_shared.proofs.Kept.{desk_or, found}
 use Rattle.desk_shared.proofs.Turning.{since_next}
 
-pub commits : (k k1 k2 : Known) (e : Entry) (v : ℕ) (d0 d1 : DeskState) → GoesOn (shown k) k1.made → k1 ≡ posed k Holding k1.made → d0 ≡ after k1.start k1.made → Committed d0 e (Ok v) d1
+pub commits : (k k1 k2 : Known) (e : Entry) (v : ℕ) (d0 d1 : DeskState) → ExtendsSeen (shown k) k1.made → k1 ≡ posed k Holding k1.made → d0 ≡ after k1.start k1.made → Committed d0 e (Ok v) d1
     → e.planner ≡ k.planner → k2 ≡ posed k1 Idle (since k1.start d1) → CommitsBy (shown k) e (Ok v) (shown k2)
 commits k k1 k2 e v d0 d1 f same at did mine now =
     let start : k1.start ≡ k.start = ap (λ (z : Known). z.start) same in
@@ -47,7 +47,7 @@ commits k k1 k2 e v d0 d1 f same at did mine now =
       own = ap (own_of k.planner) made ∙ (own_of-mine k.planner k1.made e mine ∙ ap (λ (z : List Entry). z ++ e ∷ []) f.own);
     }
 
-pub closes : (ws : List ℕ) (xs : List (Option DeskState)) (id : ℕ) (k : Known) (d : DeskState) → k.live ≡ true → Final (Seen Ruled id k) ws xs → get_elem? ws 1 ≡ some 0 → get_elem? xs 0 ≡ some (Some d) → IsClosed (shown k) d
+pub closes : (ws : List ℕ) (xs : List (Option DeskState)) (id : ℕ) (k : Known) (d : DeskState) → k.live ≡ true → Final (Seen Ruled id k) ws xs → get_elem? ws 1 ≡ some 0 → get_elem? xs 0 ≡ some (Some d) → IsDeskAtClose (shown k) d
 closes ws xs id k d live last free there =
     let s = last.0 in
     let r = last.1.0 in
@@ -69,8 +69,8 @@ least_of k unused i same is may below = grind (arith, nat_tests, common_steps, g
 
 pub joined_so : (k o m w : Known) → m ≡ both k o
     → (IsPrefix k.made m.made × IsPrefix o.made m.made × (own_of k.planner m.made ≡ own_of k.planner k.made) × (own_of o.planner m.made ≡ own_of o.planner o.made) × (o.start ≡ m.start)) × AreOfPlanners m.planners m.made × All (HasJust m.made) m.past × All (λ (n : ℕ × List Entry). n.0 ≢ m.planner) m.past × (w ≡ posed m Idle m.made)
-    → IsJoined (shown k) (shown o) (shown w)
-joined_so k o m w is (told, numbered, kept, apart, now) = subst (λ (z : Known). IsJoined (shown k) (shown o) (shown z)) (sym now) record {
+    → IsJoinOf (shown k) (shown o) (shown w)
+joined_so k o m w is (told, numbered, kept, apart, now) = subst (λ (z : Known). IsJoinOf (shown k) (shown o) (shown z)) (sym now) record {
   start = ap (λ (z : Known). z.start) is;
   one_desk = told.4 ∙ ap (λ (z : Known). z.start) is;
   shared = ap (λ (z : Known). z.planners) is;

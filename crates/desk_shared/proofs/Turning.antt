@@ -14,7 +14,7 @@ use Rattle.desk_shared.proofs.Journals.{limit_after, version_after, since_after}
 use Rattle.desk_shared.specs.declared.board.Known.{Known}
 use Rattle.desk_shared.specs.declared.board.Stage.TheVariants.{Making, Idle, Holding}
 use Rattle.desk_shared.specs.Passes.{own_of, version_at}
-use Rattle.desk_shared.specs.Turns.{since, Stands, IsPast, Live, Ruled, posed, reached, won, grew, freed, IsAt, IsNext}
+use Rattle.desk_shared.specs.Turns.{since, Stands, IsPast, Live, Ruled, posed, reached, won, grew, freed, IsDeskSeen, IsNextDesk}
 use Rattle.desk_shared.proofs.Beginnings.{prefix_self, prefix_more, own_of-other}
 use Rattle.desk_shared.proofs.Kept.{Carried, each_stays, rests, live_posed, live_staged, held_here, desk_or, turn_of, Stays, unmoved, renewed, turned, found}
 
@@ -57,7 +57,7 @@ reaches slots id k cs live making s r deep at small =
       refl,
     )
 
-pub frees : (slots id : ℕ) (k : Known) (d : DeskState) → k.live ≡ true → k.stage ≡ Holding → IsAt k d
+pub frees : (slots id : ℕ) (k : Known) (d : DeskState) → k.live ≡ true → k.stage ≡ Holding → IsDeskSeen k d
     → Allows Ruled slots id (k, (0, Some d) ∷ []) 1 (λ _. 0) (λ _. freed (step slots 1 0 0 none) (k, (0, Some d) ∷ []) 0)
 frees slots id k d live holding is s r deep at small =
     let n : ℕ = turn_of s in
@@ -97,7 +97,7 @@ live_more start planners log owner seat by e k other is_by l =
           (λ n p. record { beside = p.beside; kept = p.kept; whole = own_of-other n.0 log e (apart n.0 p.beside.2) ∙ p.whole; seen = p.seen }) k.past l.past;
     }
 
-pub grows : (slots id : ℕ) (k : Known) (d : DeskState) → k.live ≡ true → k.stage ≡ Holding → IsNext k d
+pub grows : (slots id : ℕ) (k : Known) (d : DeskState) → k.live ≡ true → k.stage ≡ Holding → IsNextDesk k d
     → Allows Ruled slots id (k, (0, Some d) ∷ []) 0 (λ n. (n + 1) % 2 ^ 64) (grew (step slots 0 1 0 none) (k, (0, Some d) ∷ []))
 grows slots id k d live holding next s r deep at small =
     let n : ℕ = turn_of s in
@@ -151,5 +151,5 @@ grows slots id k d live holding next s r deep at small =
     )
 
 -- the desk with one entry more is that of what the pass has then seen
-pub next_at : (k : Known) (d : DeskState) → IsNext k d → d ≡ after k.start (since k.start d)
+pub next_at : (k : Known) (d : DeskState) → IsNextDesk k d → d ≡ after k.start (since k.start d)
 next_at k d next = next.3 ∙ (sym (after-push k.start k.made next.0) ∙ ap (after k.start) (sym (ap (since k.start) next.3 ∙ since_next k next.0)))

@@ -17,7 +17,7 @@ use Rattle.desk_commits.specs.State.{DeskState}
 use Rattle.desk_shared.specs.declared.board.Known.{Known}
 use Rattle.desk_shared.specs.declared.board.Stage.TheVariants.{Idle}
 use Rattle.desk_shared.specs.Passes.{own_of, version_at, MayGive, AreOfPlanners, HasJust}
-use Rattle.desk_shared.specs.Turns.{shown, Stands, IsPast, Live, IsBusy, IsWithin, Ruled, posed, floored, fronted, asided, joined, giver, given, both, nobody}
+use Rattle.desk_shared.specs.Turns.{shown, Stands, IsPast, Live, IsBusy, IsWithinCall, Ruled, posed, floored, fronted, asided, joined, giver, given, both, nobody}
 use Rattle.desk_shared.specs.Numbers.{first_true}
 use Rattle.desk_shared.proofs.Beginnings.{prefix_longer, own_none, own_between, All-prefix}
 use Rattle.desk_shared.proofs.Unused.{either_at, blank, put, put_here, put_else, moved, moved_here, moved_else, at_end}
@@ -33,7 +33,7 @@ live_floored start planners log owner seat k n is l = grind (arith, nat_tests, c
 
 -- a step on no word and no slot, after which the passes are these
 viewed : (s : State (Option DeskState) Known) (r : Ruled s) (owner : ℕ → ℕ) (views : List Known) → ((j : ℕ) (k : Known) → get_elem? views j ≡ some k → Stays r.start r.planners r.log (turn_of s) s.homes r.holder owner j k)
-    → (IsWithin s.views r.holder → IsWithin views r.holder) → Ruled record { words = s.words; homes = s.homes; views = views }
+    → (IsWithinCall s.views r.holder → IsWithinCall views r.holder) → Ruled record { words = s.words; homes = s.homes; views = views }
 viewed s r owner views each held =
     renewed s record { words = s.words; homes = s.homes; views = views } r r.log r.holder owner r.wide r.deep r.legal r.numbered r.count r.home (λ z. held (r.held z)) each
 

@@ -8,7 +8,7 @@ use Rattle.desk_commits.specs.declared.answers.Refusal.{Refusal}
 use Rattle.desk_shared.specs.declared.faults.TheConstants.{MOST_PLANNERS}
 use Rattle.desk_shared.specs.declared.faults.ShareFault.{ShareFault}
 use Rattle.desk_shared.specs.declared.faults.ShareFault.TheVariants.{BadPlanners, OutOfMemory}
-use Rattle.desk_shared.specs.Passes.{PassState, own_of, version_at, MayGive, AreOfPlanners, HasJust, GoesOn}
+use Rattle.desk_shared.specs.Passes.{PassState, own_of, version_at, MayGive, AreOfPlanners, HasJust, ExtendsSeen}
 
 -- a desk can be shared by so many planners
 abbrev pub MayShare : ℕ → Type 0
@@ -51,7 +51,7 @@ with_accepted made commit (Err refused) = made
 pub record CommitsBy (old : PassState) (commit : Entry) (answer : Result ℕ (Refusal × Entry)) (new : PassState) : Type 0 where
   pub same : IsSame old new
   pub found : List Entry
-  pub goes_on : GoesOn old found
+  pub goes_on : ExtendsSeen old found
   pub seen : new.made ≡ with_accepted found commit answer
   pub answered : Committed (after old.start found) commit answer (after old.start new.made)
   pub own : own_of old.planner new.made ≡ with_accepted (own_of old.planner old.made) commit answer
@@ -65,7 +65,7 @@ pub record IsLastSeen (pass : PassState) (commit : Entry) (number : ℕ) : Type 
 -- a question through a pass: the answer is the desk's at a journal that goes on from what the pass had seen, and that it has then seen
 pub record AsksBy (old : PassState) (IsAnswer : DeskState → Type 0) (new : PassState) : Type 0 where
   pub same : IsSame old new
-  pub goes_on : GoesOn old new.made
+  pub goes_on : ExtendsSeen old new.made
   pub answered : IsAnswer (after old.start new.made)
 
 -- the pass with that floor
@@ -77,7 +77,7 @@ pub record IsFront (old : PassState) (front : ℕ) (new : PassState) : Type 0 wh
   pub new_floor : new ≡ with_floor old front
   pub no_less : old.floor ≤ front
   pub found : List Entry
-  pub goes_on : GoesOn old found
+  pub goes_on : ExtendsSeen old found
   pub told : front ≡ version_at old.start found
 
 -- the pass has no number to give away
@@ -109,7 +109,7 @@ either_of (x ∷ xs) [] = x ∷ xs
 either_of (x ∷ xs) (y ∷ ys) = (x || y) ∷ either_of xs ys
 
 -- a pass after another was joined into it: it has seen the longer one of what the two had, which the other begins, with no further entries of theirs. It has the numbers of both, and what was joined into either
-pub record IsJoined (old other new : PassState) : Type 0 where
+pub record IsJoinOf (old other new : PassState) : Type 0 where
   pub start : new.start ≡ old.start
   pub one_desk : other.start ≡ old.start
   pub shared : new.planners ≡ old.planners
@@ -127,7 +127,7 @@ pub record IsJoined (old other new : PassState) : Type 0 where
   pub apart : All (λ numbered. numbered.0 ≢ new.planner) new.past
 
 -- a desk at the end of its sharing: its journal goes on from what the pass had seen
-pub record IsClosed (pass : PassState) (desk : DeskState) : Type 0 where
+pub record IsDeskAtClose (pass : PassState) (desk : DeskState) : Type 0 where
   pub found : List Entry
-  pub goes_on : GoesOn pass found
+  pub goes_on : ExtendsSeen pass found
   pub desk_is : desk ≡ after pass.start found

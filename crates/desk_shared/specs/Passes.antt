@@ -61,7 +61,7 @@ abbrev pub IsOfAnother : PassState → ℕ → Type 0
 IsOfAnother pass number = (number ≢ pass.planner) × (MayGive pass number → ⊥)
 
 -- a journal that goes on from what the pass has seen: it is legal, no shorter than the floor, and of the desk's planners alone. What it has beyond that was committed by others: it has no more entries of the pass's own number, of a number that the pass may give, or of a pass that was joined into it
-pub record GoesOn (pass : PassState) (made : List Entry) : Type 0 where
+pub record ExtendsSeen (pass : PassState) (made : List Entry) : Type 0 where
   pub seen : IsPrefix pass.made made
   pub floor : pass.floor ≤ version_at pass.start made
   pub legal : IsLegal pass.start made

@@ -16,7 +16,7 @@ use Rattle.desk_commits.specs.Replays.{IsLegal}
 use Rattle.desk_shared.specs.declared.board.Known.{Known}
 use Rattle.desk_shared.specs.declared.board.Stage.{Stage}
 use Rattle.desk_shared.specs.declared.board.Stage.TheVariants.{Making, Idle, Holding, Joined}
-use Rattle.desk_shared.specs.Passes.{PassState, own_of, version_at, MayGive, AreOfPlanners, HasJust, GoesOn}
+use Rattle.desk_shared.specs.Passes.{PassState, own_of, version_at, MayGive, AreOfPlanners, HasJust, ExtendsSeen}
 use Rattle.desk_shared.specs.Calls.{either_of}
 use Rattle.desk_shared.specs.Numbers.{first_true}
 
@@ -67,8 +67,8 @@ IsBusy Holding = Unit {0}
 IsBusy (Joined seen others planner other first) = ⊥
 
 -- the pass of the seat is within a call
-abbrev pub IsWithin : List Known → ℕ → Type 0
-IsWithin passes seat = (pass : Known) × (get_elem? passes seat ≡ some pass) × IsBusy pass.stage
+abbrev pub IsWithinCall : List Known → ℕ → Type 0
+IsWithinCall passes seat = (pass : Known) × (get_elem? passes seat ≡ some pass) × IsBusy pass.stage
 
 -- There is one legal journal from the desk as it was shared. The count is its length, and a desk at home has it. What each pass has seen begins it. Each entry is of one of the desk's planners, each number belongs to one pass, and is of no entry where it isn't given yet. A joined pass's number has for ever the entries that it had then. One pass at most has the turn, and only while it is within a call
 pub record Ruled (table : State (Option DeskState) Known) : Type 0 where
@@ -85,7 +85,7 @@ pub record Ruled (table : State (Option DeskState) Known) : Type 0 where
   pub numbered : AreOfPlanners planners log
   pub count : slice_index table.words 0 ≡ version_at start log
   pub home : slice_index table.words 1 ≡ 0 → get_elem? table.homes 0 ≡ some (some (Some (after start log)))
-  pub held : slice_index table.words 1 ≢ 0 → IsWithin table.views holder
+  pub held : slice_index table.words 1 ≢ 0 → IsWithinCall table.views holder
   pub each : (seat : ℕ) (pass : Known) → get_elem? table.views seat ≡ some pass → pass.live ≡ true → Live start planners log owner seat pass × Stands start log (slice_index table.words 1) table.homes holder seat pass.made pass.stage
 
 -- a pass, and the slots that it has taken
@@ -93,8 +93,8 @@ abbrev Hand : Type 0
 Hand = Me (Option DeskState) Known
 
 -- an idle pass of that planner, with those numbers to give away
-abbrev pub IsIdle : Hand → ℕ → List Bool → Type 0
-IsIdle hand planner unused =
+abbrev pub IsIdlePass : Hand → ℕ → List Bool → Type 0
+IsIdlePass hand planner unused =
     (hand.1 ≡ []) × (hand.0.stage ≡ Idle) × (hand.0.live ≡ true) × (hand.0.planner ≡ planner) × (hand.0.unused ≡ unused)
 
 abbrev OneStep : Type 0
@@ -114,7 +114,7 @@ floored pass floor = record { live = pass.live; stage = pass.stage; start = pass
 
 -- the pass has read the length of a journal
 abbrev pub fronted : OneStep → Hand → ℕ → Hand → Type 0
-fronted step old count new = ((made : List Entry) × GoesOn (shown old.0) made × (count ≡ version_at old.0.start made)) × (new ≡ (floored old.0 count, old.1))
+fronted step old count new = ((made : List Entry) × ExtendsSeen (shown old.0) made × (count ≡ version_at old.0.start made)) × (new ≡ (floored old.0 count, old.1))
 
 -- the numbers that the pass may give away are of no entry that it has seen
 abbrev pub Unspent : Known → Type 0
@@ -157,7 +157,7 @@ reached step old turn new = new ≡ (posed old.0 Holding old.0.made, (0, None) �
 
 -- the turn is won where it was free, and the desk is in hand
 abbrev pub won : OneStep → Hand → ℕ → Hand → Type 0
-won step old turn new = (turn ≡ 0 → GoesOn (shown old.0) new.0.made × (new ≡ (posed old.0 Holding new.0.made, (0, Some (after old.0.start new.0.made)) ∷ old.1))) × (turn ≢ 0 → new ≡ old)
+won step old turn new = (turn ≡ 0 → ExtendsSeen (shown old.0) new.0.made × (new ≡ (posed old.0 Holding new.0.made, (0, Some (after old.0.start new.0.made)) ∷ old.1))) × (turn ≢ 0 → new ≡ old)
 
 -- the journal of the desk in hand is the journal
 abbrev pub grew : OneStep → Hand → ℕ → Hand → Type 0
@@ -184,9 +184,9 @@ abbrev pub IsSameSeat : Seat (Option DeskState) Known → Seat (Option DeskState
 IsSameSeat old new = (new.table_id ≡ old.table_id) × (new.id ≡ old.id)
 
 -- the desk is that of what the pass has seen
-abbrev pub IsAt : Known → DeskState → Type 0
-IsAt pass desk = desk ≡ after pass.start pass.made
+abbrev pub IsDeskSeen : Known → DeskState → Type 0
+IsDeskSeen pass desk = desk ≡ after pass.start pass.made
 
 -- the desk has one entry more, of the pass's own
-abbrev pub IsNext : Known → DeskState → Type 0
-IsNext pass desk = (entry : Entry) × Accepts (after pass.start pass.made) entry × (entry.planner ≡ pass.planner) × (desk ≡ grown (after pass.start pass.made) entry)
+abbrev pub IsNextDesk : Known → DeskState → Type 0
+IsNextDesk pass desk = (entry : Entry) × Accepts (after pass.start pass.made) entry × (entry.planner ≡ pass.planner) × (desk ≡ grown (after pass.start pass.made) entry)

@@ -1,6 +1,6 @@
 -- What a window on a shared desk answers: the shared desk's answers to its pass (this project's choice).
 use Rattle.std.specs.Prelude.{◌≡◌, IfOk}
-use Rattle.desk_commits.specs.Questions.{Shows, Tells}
+use Rattle.desk_commits.specs.Questions.{ShowsReport, AnswersDistance}
 use Rattle.desk_shared.specs.Passes.{PassState, Held, Sharing}
 use Rattle.desk_shared.specs.Calls.{CommitsBy, IsLastSeen, AsksBy, IsFront}
 use Rattle.desk_commits.specs.Counting.{Counting}
@@ -24,7 +24,7 @@ window_counting = record {
   planner = λ window. window.pass.planner;
   versions = λ old version new. IsFront old.pass version new.pass × IsOnSame old new;
   commits = λ old commit result new. CommitsBy old.pass commit result new.pass × IfOk result (IsLastSeen new.pass commit) × IsOnSame old new;
-  reads = λ old result new. AsksBy old.pass (λ desk. IfOk result (Shows desk)) new.pass × IsOnSame old new;
-  tells = λ old agent cell result new. AsksBy old.pass (λ desk. Tells desk.scene agent cell result) new.pass × IsOnSame old new;
+  reads = λ old result new. AsksBy old.pass (λ desk. IfOk result (ShowsReport desk)) new.pass × IsOnSame old new;
+  tells = λ old agent cell result new. AsksBy old.pass (λ desk. AnswersDistance desk.scene agent cell result) new.pass × IsOnSame old new;
   asks = λ X old IsAnswer answer new. AsksBy old.pass (λ desk. IsAnswer desk answer) new.pass × IsOnSame old new;
 }

@@ -17,11 +17,11 @@ impl Model for Pass {
 
     ghost Value = { Held };
 
-    ghost use Rattle.desk_shared.specs.Turns.{IsIdle, shown};
+    ghost use Rattle.desk_shared.specs.Turns.{IsIdlePass, shown};
 
     ghost view = { λ p. record { table_id = p.place.table_id; known = shown p.place.me.0 } };
 
-    ghost invariant = { λ p. IsIdle p.place.me p.planner p.unused };
+    ghost invariant = { λ p. IsIdlePass p.place.me p.planner p.unused };
 }
 
 impl Pass {

@@ -1,7 +1,7 @@
 //! A desk that is shared: opened, used through a pass, and closed.
 ghost use Rattle.std.specs.Prelude.{◌≡◌, true, IfOk, IfErr};
 ghost use Rattle.desk_shared.specs.Passes.{Owns};
-ghost use Rattle.desk_shared.specs.Calls.{MayShare, Unshared, IsFirst, CommitsBy, IsLastSeen, IsFront, IsClosed};
+ghost use Rattle.desk_shared.specs.Calls.{MayShare, Unshared, IsFirst, CommitsBy, IsLastSeen, IsFront, IsDeskAtClose};
 
 mod asking;
 mod splitting;
@@ -153,7 +153,7 @@ impl SharedDesk {
     /// The desk is lost where the turn isn't free. Each call that has returned has given it back.
     pub fn close(self, pass: Pass) -> Result<Desk, PassLost>
         requires owned { Owns self pass }
-        ensures { IfOk result (IsClosed pass.known) }
+        ensures { IfOk result (IsDeskAtClose pass.known) }
     {
         let SharedDesk { table, planners: _ } = self;
         let Pass { place, .. } = pass;

@@ -1,7 +1,7 @@
 //! What one pass does while it has the turn.
 ghost use Rattle.std.specs.Prelude.{◌≡◌, [], ◌∷◌, true, None};
-ghost use Rattle.desk_shared.specs.Passes.{GoesOn};
-ghost use Rattle.desk_shared.specs.Turns.{shown, IsSized, IsResting, HasTurn, IsSameSeat, IsAt, IsNext, posed, since};
+ghost use Rattle.desk_shared.specs.Passes.{ExtendsSeen};
+ghost use Rattle.desk_shared.specs.Turns.{shown, IsSized, IsResting, HasTurn, IsSameSeat, IsDeskSeen, IsNextDesk, posed, since};
 ghost use Rattle.desk_shared.specs.declared.board.Stage.TheVariants.{Making, Idle, Holding};
 
 use crate::board::{Place, Rows};
@@ -14,9 +14,9 @@ pub(crate) fn win<R: Wait>(rt: &R, top: &Rows, place: &mut Place) -> Desk
     requires table { (place.old.table_id ≡ top.now.table_id) × IsSized top.now.table_id }
     requires ready { IsResting place.old }
     ensures seat { IsSameSeat place.old place.new }
-    ensures found { GoesOn (shown place.old.me.0) place.new.me.0.made }
+    ensures found { ExtendsSeen (shown place.old.me.0) place.new.me.0.made }
     ensures won { place.new.me ≡ (posed place.old.me.0 Holding place.new.me.0.made, (0, None) ∷ []) }
-    ensures desk { IsAt place.new.me.0 result }
+    ensures desk { IsDeskSeen place.new.me.0 result }
 {
     for _ in rt.forever() {
         if top.compare_exchange::<Win>(place, 1, 0, 1) == 0 {
@@ -40,7 +40,7 @@ pub(crate) fn reach(top: &Rows, place: &mut Place)
 // Puts the desk back as it was, and gives the turn up.
 pub(crate) fn free(top: &Rows, place: &mut Place, desk: Desk)
     requires table { (place.old.table_id ≡ top.now.table_id) × IsSized top.now.table_id }
-    requires ready { HasTurn place.old × IsAt place.old.me.0 desk }
+    requires ready { HasTurn place.old × IsDeskSeen place.old.me.0 desk }
     ensures seat { IsSameSeat place.old place.new }
     ensures freed { place.new.me ≡ (posed place.old.me.0 Idle place.old.me.0.made, []) }
 {
@@ -52,7 +52,7 @@ pub(crate) fn free(top: &Rows, place: &mut Place, desk: Desk)
 // Puts the desk back with one entry more, counts it, wakes those who wait for that, and gives the turn up.
 pub(crate) fn grow(top: &Rows, place: &mut Place, desk: Desk)
     requires table { (place.old.table_id ≡ top.now.table_id) × IsSized top.now.table_id }
-    requires ready { HasTurn place.old × IsNext place.old.me.0 desk }
+    requires ready { HasTurn place.old × IsNextDesk place.old.me.0 desk }
     ensures seat { IsSameSeat place.old place.new }
     ensures grown { place.new.me ≡ (posed place.old.me.0 Idle (since place.old.me.0.start desk), []) }
 {

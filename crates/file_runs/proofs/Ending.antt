@@ -8,7 +8,7 @@ use Rattle.desk_io.specs.declared.named.Named.{Named}
 use Rattle.solver_check.specs.declared.faults.Fault.{Fault}
 use Rattle.solver_check.specs.declared.faults.RunFault.{RunFault}
 use Rattle.file_runs.specs.Files.{OfFiles}
-use Rattle.file_runs.specs.Ends.{HasServeFault, IsEnd, IsLast, IsLeft, IsUnsavedIn, last_fault}
+use Rattle.file_runs.specs.Ends.{HasServeFault, IsFaultAtEnd, IsLast, IsLeftBySession, IsUnsavedIn, last_fault}
 
 -- the last fault is the session's, or that of the last answers
 pub last_is_last : {T E : Type 0} (before : Option RunFault) (sent : Result T E) (last : Option RunFault) → last ≡ last_fault before sent → IsLast before last
@@ -16,7 +16,7 @@ last_is_last before (Ok done) last is = inl is
 last_is_last before (Err why) last is = inr is
 
 -- a session that had a fault, or was not saved
-pub unserved : (holds : List ℕ → Option (List ℕ)) (words : ServeWords) (named : Named) (map scen journal left : Option (List ℕ)) (desk : Option DeskState) (why : Option RunFault) (held : Option (List ℕ)) (fault : Fault) → AreTexts holds (option_copied words.map) (option_copied words.scen) (option_copied words.journal) named → map ≡ option_map (λ b. b.items) named.map → scen ≡ option_map (λ b. b.items) named.scen → journal ≡ option_map (λ b. b.items) named.journal → IsLeft words map scen journal left desk why → held ≡ option_copied words.save → IsEnd why fault ⊎ IsUnsavedIn held fault → OfFiles holds (option_copied words.map) (option_copied words.scen) (option_copied words.journal) (λ map scen journal. HasServeFault words map scen journal fault)
+pub unserved : (holds : List ℕ → Option (List ℕ)) (words : ServeWords) (named : Named) (map scen journal left : Option (List ℕ)) (desk : Option DeskState) (why : Option RunFault) (held : Option (List ℕ)) (fault : Fault) → AreTexts holds (option_copied words.map) (option_copied words.scen) (option_copied words.journal) named → map ≡ option_map (λ b. b.items) named.map → scen ≡ option_map (λ b. b.items) named.scen → journal ≡ option_map (λ b. b.items) named.journal → IsLeftBySession words map scen journal left desk why → held ≡ option_copied words.save → IsFaultAtEnd why fault ⊎ IsUnsavedIn held fault → OfFiles holds (option_copied words.map) (option_copied words.scen) (option_copied words.journal) (λ map scen journal. HasServeFault words map scen journal fault)
 unserved holds words named map scen journal left desk why held fault texts of_map of_scen of_journal sat save end = record {
   named = named;
   texts = texts;

@@ -11,7 +11,7 @@ use Rattle.solver_check.specs.declared.faults.Fault.TheVariants as desk
 use Rattle.solver_check.specs.declared.faults.Fault.TheVariants.{CannotWrite, Kept}
 use Rattle.desk_commits.specs.State.{DeskState}
 use Rattle.desk_commits.specs.declared.limits.TheConstants.{MOST_ENTRIES}
-use Rattle.single_runs.specs.Sittings.{Sits}
+use Rattle.single_runs.specs.Sittings.{SitsOverFiles}
 use Rattle.single_runs.specs.Opened.{OpensDesk, IsDeskFault}
 use Rattle.single_runs.specs.Saved.{saved_text}
 use Rattle.desk_cli.specs.declared.words.ServeWords.{ServeWords}
@@ -24,9 +24,9 @@ use Rattle.file_runs.specs.declared.faults.ProgramFault.{ProgramFault}
 use Rattle.file_runs.specs.declared.faults.ProgramFault.TheVariants as program
 
 -- the fault of a session that ended so
-abbrev pub fault_of : Result ℕ ServeFault → Option RunFault
-fault_of (Ok lines) = None
-fault_of (Err why) = Some (as_told (Serve why))
+abbrev pub fault_at_end : Result ℕ ServeFault → Option RunFault
+fault_at_end (Ok lines) = None
+fault_at_end (Err why) = Some (as_told (Serve why))
 
 -- the last answers that did not go out are the fault, whatever else there is
 abbrev pub last_fault : {T E : Type 0} → Option RunFault → Result T E → Option RunFault
@@ -46,20 +46,20 @@ abbrev pub SitsBy : ServeWords → (map scen journal left : Option (List ℕ)) �
 SitsBy words map scen journal left sat = SitsFrom words.lines map scen words.agents words.mode (limit_of words) journal left sat
 
 -- no desk was opened over the texts, for that fault
-abbrev pub IsUnopened : ServeWords → (map scen journal left : Option (List ℕ)) → RunFault → Type 0
-IsUnopened words map scen journal left why =
-    (why ≡ OutOfMemory) ⊎ ((after held : Option (List ℕ)) × Sits words.lines map scen words.agents words.mode (limit_of words) journal left after held held (Err why))
+abbrev pub IsFaultOfOpening : ServeWords → (map scen journal left : Option (List ℕ)) → RunFault → Type 0
+IsFaultOfOpening words map scen journal left why =
+    (why ≡ OutOfMemory) ⊎ ((after held : Option (List ℕ)) × SitsOverFiles words.lines map scen words.agents words.mode (limit_of words) journal left after held held (Err why))
 
 -- a session over the texts left that desk, where one was opened, and has that fault
-abbrev pub IsLeft : ServeWords → (map scen journal left : Option (List ℕ)) → Option DeskState → Option RunFault → Type 0
-IsLeft words map scen journal left (Some desk) fault =
-    (ended : Result ℕ ServeFault) × SitsBy words map scen journal left (desk, ended) × IsLast (fault_of ended) fault
-IsLeft words map scen journal left None fault = (why : RunFault) × IsUnopened words map scen journal left why × IsLast (Some why) fault
+abbrev pub IsLeftBySession : ServeWords → (map scen journal left : Option (List ℕ)) → Option DeskState → Option RunFault → Type 0
+IsLeftBySession words map scen journal left (Some desk) fault =
+    (ended : Result ℕ ServeFault) × SitsBy words map scen journal left (desk, ended) × IsLast (fault_at_end ended) fault
+IsLeftBySession words map scen journal left None fault = (why : RunFault) × IsFaultOfOpening words map scen journal left why × IsLast (Some why) fault
 
 -- a session's fault as the run has it
-abbrev pub IsEnd : Option RunFault → Fault → Type 0
-IsEnd None fault = ⊥
-IsEnd (Some why) fault = fault ≡ desk.Run why
+abbrev pub IsFaultAtEnd : Option RunFault → Fault → Type 0
+IsFaultAtEnd None fault = ⊥
+IsFaultAtEnd (Some why) fault = fault ≡ desk.Run why
 
 -- the journal isn't in the file of that name: it could not be saved, or is kept in another one
 abbrev pub IsUnsaved : List ℕ → Fault → Type 0
@@ -85,15 +85,15 @@ IsSavedIn has_saved None desk = Unit {0}
 IsSavedIn has_saved (Some file) desk = has_saved file (saved_text desk)
 
 -- a session over the texts of the files had no fault, and the journal of the desk that it left was saved where the words say
-abbrev pub HasServed : Savings → ServeWords → (map scen journal : Option (List ℕ)) → Type 0
-HasServed has_saved words map scen journal =
-    (left : Option (List ℕ)) × (desk : DeskState) × IsLeft words map scen journal left (Some desk) None × IsSavedIn has_saved (option_copied words.save) desk
+abbrev pub HasNoFault : Savings → ServeWords → (map scen journal : Option (List ℕ)) → Type 0
+HasNoFault has_saved words map scen journal =
+    (left : Option (List ℕ)) × (desk : DeskState) × IsLeftBySession words map scen journal left (Some desk) None × IsSavedIn has_saved (option_copied words.save) desk
 
 -- it had that fault, or ended without one and was then not saved
 abbrev pub HasServeFault : ServeWords → (map scen journal : Option (List ℕ)) → Fault → Type 0
 HasServeFault words map scen journal fault =
-    (left : Option (List ℕ)) × (desk : Option DeskState) × (why : Option RunFault) × IsLeft words map scen journal left desk why
-    × (IsEnd why fault ⊎ IsUnsavedIn (option_copied words.save) fault)
+    (left : Option (List ℕ)) × (desk : Option DeskState) × (why : Option RunFault) × IsLeftBySession words map scen journal left desk why
+    × (IsFaultAtEnd why fault ⊎ IsUnsavedIn (option_copied words.save) fault)
 
 -- the desk of the texts is opened
 abbrev pub IsOpened : ServeWords → DeskState → (map scen journal : Option (List ℕ)) → Type 0

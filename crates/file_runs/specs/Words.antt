@@ -8,7 +8,7 @@ use Rattle.session_protocol.specs.declared.bounds.ServeFault.{ServeFault}
 use Rattle.desk_cli.specs.declared.words.DrawWords.{DrawWords}
 use Rattle.single_runs.specs.declared.courses.Courses.{Courses}
 use Rattle.single_runs.specs.declared.courses.Courses.TheVariants.{Journal, Solver}
-use Rattle.single_runs.specs.Sittings.{Sits}
+use Rattle.single_runs.specs.Sittings.{SitsOverFiles}
 
 -- the text is that of the paths where the words name a file of paths, and else that of a journal
 abbrev pub courses_in : {P : Type 0} → Option P → Option (Bor (List ℕ)) → Courses
@@ -24,4 +24,4 @@ pub record SitsFrom (version : LinesVersion) (map scen : Option (List ℕ)) (age
   pub after : Option (List ℕ)
   pub held0 : Option (List ℕ)
   pub held1 : Option (List ℕ)
-  pub sits : Sits version map scen agents mode limit journal left after held0 held1 (Ok sat)
+  pub sits : SitsOverFiles version map scen agents mode limit journal left after held0 held1 (Ok sat)

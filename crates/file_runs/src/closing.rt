@@ -1,6 +1,6 @@
 //! What is done at a session's end.
 ghost use Rattle.std.specs.Prelude.{◌≡◌, ◌⊎◌, IfErr, IsOk, MatchOption, None, OnOk, option_map};
-ghost use Rattle.file_runs.specs.Ends.{fault_of, last_fault, IsEnd, IsSavedIn, IsUnsavedIn};
+ghost use Rattle.file_runs.specs.Ends.{fault_at_end, last_fault, IsFaultAtEnd, IsSavedIn, IsUnsavedIn};
 
 use crate::saving::{Held, Saver, save_held};
 use desk_core::Desk;
@@ -12,7 +12,7 @@ use std::io::{Error, Result as Done};
 
 /// The fault of a session that ended so.
 pub(crate) fn fault_of(ended: Result<u32, ServeFault>) -> Option<RunFault>
-    ensures { result ≡ fault_of ended }
+    ensures { result ≡ fault_at_end ended }
 {
     match ended {
         Ok(_) => None,
@@ -83,7 +83,7 @@ pub(crate) fn end_desk<R: Eprint, S: Saver>(
 ) -> Result<(), Fault>
     ensures ok { OnOk result (fault ≡ None) }
     ensures saved { OnOk result (IsSavedIn (S.has_saved saver.now) (option_map (λ held. held.file.now) held) desk) }
-    ensures err { IfErr result (λ told. IsEnd fault told ⊎ IsUnsavedIn (option_map (λ held. held.file.now) held) told) }
+    ensures err { IfErr result (λ told. IsFaultAtEnd fault told ⊎ IsUnsavedIn (option_map (λ held. held.file.now) held) told) }
 {
     let mut unsaved = More::none();
     let saved = save_held(saver, &desk, held, &mut unsaved);

@@ -5,7 +5,7 @@ ghost use Rattle.desk_commits.specs.declared.limits.TheConstants.{MOST_ENTRIES};
 ghost use Rattle.solver_check.specs.Opens.{bytes_of};
 ghost use Rattle.desk_io.specs.Texts.{IsUnready, LacksScen};
 ghost use Rattle.file_runs.specs.Files.{OfFiles};
-ghost use Rattle.file_runs.specs.Ends.{HasServeFault, HasServed, IsLeft, IsUnopened, SitsBy};
+ghost use Rattle.file_runs.specs.Ends.{HasServeFault, HasNoFault, IsLeftBySession, IsFaultOfOpening, SitsBy};
 
 use crate::closing::{end_desk, fault_of, note_end, outcome_of};
 use crate::reading::{let_go, read_named};
@@ -41,7 +41,7 @@ pub fn serve_streams<R: AllocGlobal + Clock + Print + Eprint + Input, F: Folder 
 ) -> Result<(), Fault>
     ensures asked { LacksScen words.now → result ≡ Err Fault.AgentsWithoutScen }
     ensures served { OnOk result (OfFiles (F.holds files.now) (option_copied words.now.map) (option_copied words.now.scen)
-        (option_copied words.now.journal) (HasServed (F.has_saved files.now) words.now)) }
+        (option_copied words.now.journal) (HasNoFault (F.has_saved files.now) words.now)) }
     ensures refused { IfErr result (λ fault. IsUnready words.now fault ⊎ OfFiles (F.holds files.now) (option_copied words.now.map)
         (option_copied words.now.scen) (option_copied words.now.journal) (λ map scen journal. HasServeFault words.now map scen journal fault)) }
 {
@@ -69,7 +69,7 @@ fn serve_typed<R: AllocGlobal + Clock + Print + Eprint + Input>(
     typed: bool,
     more: &mut More,
 ) -> (Option<Desk>, Option<RunFault>)
-    ensures { (left : Option (List ℕ)) × IsLeft words.now (bytes_of texts.entry.map) (bytes_of texts.entry.scen) (bytes_of texts.entry.journal)
+    ensures { (left : Option (List ℕ)) × IsLeftBySession words.now (bytes_of texts.entry.map) (bytes_of texts.entry.scen) (bytes_of texts.entry.journal)
         left result.0 result.1 }
 {
     // (lent, since standard input has its buffer in itself)
@@ -88,7 +88,7 @@ fn serve_between<I: Read + Drop, O: Write + Drop>(
     output: O,
     more: &mut More,
 ) -> (Option<Desk>, Option<RunFault>)
-    ensures { IsLeft words.now (bytes_of texts.entry.map) (bytes_of texts.entry.scen) (bytes_of texts.entry.journal)
+    ensures { IsLeftBySession words.now (bytes_of texts.entry.map) (bytes_of texts.entry.scen) (bytes_of texts.entry.journal)
         (I.remaining input) result.0 result.1 }
 {
     match BufWriter::new(alloc, output) {
@@ -109,7 +109,7 @@ fn serve_buffered<I: Read + Drop, O: Write + Drop>(
     buffered: BufWriter<O>,
     more: &mut More,
 ) -> (Option<Desk>, Option<RunFault>)
-    ensures { IsLeft words.now (bytes_of texts.entry.map) (bytes_of texts.entry.scen) (bytes_of texts.entry.journal)
+    ensures { IsLeftBySession words.now (bytes_of texts.entry.map) (bytes_of texts.entry.scen) (bytes_of texts.entry.journal)
         (I.remaining input) result.0 result.1 }
 {
     let outlet = RefCell::new(Outlet::new(buffered));
@@ -145,7 +145,7 @@ fn serve_lines<I: Read + Drop, O: Write + Drop>(
 ) -> Result<(Desk, Result<u32, ServeFault>), RunFault>
     ensures sat { IfOk result (SitsBy words.now (bytes_of texts.entry.map) (bytes_of texts.entry.scen) (bytes_of texts.entry.journal)
         (I.remaining input)) }
-    ensures unopened { IfErr result (IsUnopened words.now (bytes_of texts.entry.map) (bytes_of texts.entry.scen) (bytes_of texts.entry.journal)
+    ensures unopened { IfErr result (IsFaultOfOpening words.now (bytes_of texts.entry.map) (bytes_of texts.entry.scen) (bytes_of texts.entry.journal)
         (I.remaining input)) }
 {
     let Ok(mut reader) = Lines::new(alloc, input, outlet) else {

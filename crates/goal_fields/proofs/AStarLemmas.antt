@@ -15,7 +15,7 @@ use Rattle.grid_cells.specs.Walks.{Walk, IsDistance}
 use Rattle.cell_queue.specs.Queue.{area}
 use Rattle.cell_queue.proofs.Indexes.{index_below, same_coordinates}
 use Rattle.goal_fields.specs.Marks.{mark_at}
-use Rattle.goal_fields.specs.AStar.{HasWalk, IsMet, IsStamped, IsSeeking, IsMetFrom, Gathers, undone}
+use Rattle.goal_fields.specs.AStar.{HasWalk, IsMetWithin, IsStamped, IsSeeking, IsMetFrom, GathersCells, left_undone}
 use Rattle.goal_fields.specs.declared.frontier.Ends.{Ends}
 use Rattle.goal_fields.specs.declared.frontier.Frontier.{Frontier}
 use Rattle.goal_fields.proofs.Neighbours.{IsAdjacent-sym, Walk-open, beside_cases, up_of, left_of, right_of, down_of, up_of-adjacent, left_of-adjacent, right_of-adjacent, down_of-adjacent, neighbour_cases}
@@ -60,7 +60,7 @@ walk_farther grid ends away front cell w adj open_cell e =
 -- what is met stays so where more cells wait
 pub IsMet-gather : (size : Extent) (stamps : List ℕ) (base away : ℕ) (now next now' next' : List Point) (most : ℕ) (cell : Point) →
     (Contains now cell → Contains now' cell) → (Contains next cell → Contains next' cell) →
-    IsMet size stamps base away now next most cell → IsMet size stamps base away now' next' most cell
+    IsMetWithin size stamps base away now next most cell → IsMetWithin size stamps base away now' next' most cell
 IsMet-gather size stamps base away now next now' next' most cell f g met = elim met [
   | inl done ↦ inl done
   | inr (inl waits) ↦ inr (inl (waits.0, f waits.1))
@@ -111,7 +111,7 @@ IsSeeking-next grid ends stamps base away now next cell s walk =
 pub IsSeeking-pass : (grid : Chart) (ends : Ends) (stamps : List ℕ) (base away : ℕ) (now next : List Point) (front : Point) → Holds grid.size front →
     base ≤ mark_at grid.size stamps front → IsSeeking grid ends stamps base away (now ++ front ∷ []) next → IsSeeking grid ends stamps base away now next
 IsSeeking-pass grid ends stamps base away now next front held done s =
-    let met : (most : ℕ) (cell : Point) → IsMet grid.size stamps base away (now ++ front ∷ []) next most cell → IsMet grid.size stamps base away now next most cell =
+    let met : (most : ℕ) (cell : Point) → IsMetWithin grid.size stamps base away (now ++ front ∷ []) next most cell → IsMetWithin grid.size stamps base away now next most cell =
     (λ most cell m. elim m [
       | inl so ↦ inl so
       | inr (inl waits) ↦ elim (Contains-push_cases now front cell waits.1) [
@@ -134,13 +134,13 @@ IsSeeking-pass grid ends stamps base away now next front held done s =
 -- a front beside which all is met is done
 pub IsSeeking-done : (grid : Chart) (ends : Ends) (stamps : List ℕ) (base away : ℕ) (now next : List Point) (front : Point) → Holds grid.size front →
     mark_at grid.size stamps front < base → (front ≡ ends.start → ⊥) → IsSeeking grid ends stamps base away (now ++ front ∷ []) next →
-    ((beside : Point) → IsAdjacent front beside → IsOpen grid beside → (most : ℕ) → 2 * most + steps_between front ends.start ≡ 2 * away + steps_between beside ends.start + 1 → IsMet grid.size stamps base away now next most beside) →
+    ((beside : Point) → IsAdjacent front beside → IsOpen grid beside → (most : ℕ) → 2 * most + steps_between front ends.start ≡ 2 * away + steps_between beside ends.start + 1 → IsMetWithin grid.size stamps base away now next most beside) →
     IsSeeking grid ends (set stamps (flag_index grid.size front) (base + away)) base away now next
 IsSeeking-done grid ends stamps base away now next front held undone_front other s near =
     let N : List ℕ = set stamps (flag_index grid.size front) (base + away) in
     let one = s.stamped.one_stamp_each in
     let here : mark_at grid.size N front ≡ base + away = get_or-set_same stamps (flag_index grid.size front) (base + away) 0 (omega (arith, index_below grid.size front held, one)) in
-    let met : (most : ℕ) (cell : Point) → Holds grid.size cell → IsMet grid.size stamps base away (now ++ front ∷ []) next most cell → IsMet grid.size N base away now next most cell =
+    let met : (most : ℕ) (cell : Point) → Holds grid.size cell → IsMetWithin grid.size stamps base away (now ++ front ∷ []) next most cell → IsMetWithin grid.size N base away now next most cell =
     (λ most cell h m. elim m [
       | inl so ↦ elim (mark_at-set grid.size stamps front cell (base + away) one held h) [
         | inl e ↦ absurd (omega (arith, so.0, undone_front, subst (λ (v : Point). mark_at grid.size stamps cell ≡ mark_at grid.size stamps v) e.0 refl))
@@ -152,7 +152,7 @@ IsSeeking-done grid ends stamps base away now next front held undone_front other
       ]
       | inr (inr waits) ↦ inr (inr waits)
     ]) in
-    let more : (most : ℕ) (cell : Point) → IsMet grid.size stamps base away now next most cell → IsMet grid.size stamps base away (now ++ front ∷ []) next most cell =
+    let more : (most : ℕ) (cell : Point) → IsMetWithin grid.size stamps base away now next most cell → IsMetWithin grid.size stamps base away (now ++ front ∷ []) next most cell =
     (λ most cell m. IsMet-gather grid.size stamps base away now next (now ++ front ∷ []) next most cell (Contains-append_left now (front ∷ []) cell) (λ x. x) m) in
     record {
       stamped = record {
@@ -189,7 +189,7 @@ IsSeeking-done grid ends stamps base away now next front held undone_front other
 pub IsSeeking-rise : (grid : Chart) (ends : Ends) (stamps : List ℕ) (base away : ℕ) (next : List Point) →
     IsSeeking grid ends stamps base away [] next → IsSeeking grid ends stamps base (away + 1) next []
 IsSeeking-rise grid ends stamps base away next s =
-    let met : (most : ℕ) (cell : Point) → IsMet grid.size stamps base away [] next most cell → IsMet grid.size stamps base (away + 1) next [] most cell =
+    let met : (most : ℕ) (cell : Point) → IsMetWithin grid.size stamps base away [] next most cell → IsMetWithin grid.size stamps base (away + 1) next [] most cell =
     (λ most cell m. elim m [
       | inl so ↦ inl so
       | inr (inl waits) ↦ absurd (omega (arith, waits.1.1))
@@ -250,7 +250,7 @@ Walk-all_done grid ends stamps base away s zero c w =
 Walk-all_done grid ends stamps base away s (suc m) c (o, (by, adj, rest)) =
     let back : IsAdjacent by c = IsAdjacent-sym c by adj in
     let (k, is) = Walk-all_done grid ends stamps base away s m by rest in
-    let met : (most : ℕ) → IsMet grid.size stamps base away [] [] most c → (k : ℕ) × (mark_at grid.size stamps c ≡ base + k) =
+    let met : (most : ℕ) → IsMetWithin grid.size stamps base away [] [] most c → (k : ℕ) × (mark_at grid.size stamps c ≡ base + k) =
     (λ most m. elim m [
       | inl done ↦ (mark_at grid.size stamps c - base, omega (arith, done.0))
       | inr (inl waits) ↦ absurd (omega (arith, waits.1.1))
@@ -292,7 +292,7 @@ Holds-front grid ends stamps base away now next front s =
     let w = HasWalk-front grid ends stamps base away now next front s in
     (Walk-open grid ends.goal w.steps front w.walk).0
 
-pub Gathers-trans : (a b c : Frontier) → Gathers a b → Gathers b c → Gathers a c
+pub Gathers-trans : (a b c : Frontier) → GathersCells a b → GathersCells b c → GathersCells a c
 Gathers-trans a b c p q = record {
   grid = q.grid ∙ p.grid;
   stamps = q.stamps ∙ p.stamps;
@@ -303,21 +303,21 @@ Gathers-trans a b c p q = record {
 }
 
 -- what is met stays so
-pub IsMetFrom-later : (a b : Frontier) (ends : Ends) (front cell : Point) → Gathers a b → IsMetFrom a ends front cell → IsMetFrom b ends front cell
+pub IsMetFrom-later : (a b : Frontier) (ends : Ends) (front cell : Point) → GathersCells a b → IsMetFrom a ends front cell → IsMetFrom b ends front cell
 IsMetFrom-later a b ends front cell g met o most e =
     let m = met (rw g.grid at o) most (rw g.away at e) in
     rw (g.grid, g.stamps, g.base, g.away) (IsMet-gather a.grid.size a.stamps.items a.base a.away a.now.items a.next.items b.now.items b.next.items most cell (g.now cell) (g.next cell) m)
 
 -- a mark that was done lessens what is left to do
 pub undone-done : (size : Extent) (stamps : List ℕ) (base away : ℕ) (front : Point) → length stamps ≡ area size → Holds size front → mark_at size stamps front < base →
-    sum_by (undone base) (set stamps (flag_index size front) (base + away)) + 1 ≡ sum_by (undone base) stamps
+    sum_by (left_undone base) (set stamps (flag_index size front) (base + away)) + 1 ≡ sum_by (left_undone base) stamps
 undone-done size stamps base away front l held lt =
-    grind (arith, nat_tests, index_below size front held, sum_by-set (undone base) stamps (flag_index size front) (base + away) 0)
+    grind (arith, nat_tests, index_below size front held, sum_by-set (left_undone base) stamps (flag_index size front) (base + away) 0)
 
 -- at most each stamp is of an earlier search
-pub undone-most : (base : ℕ) (stamps : List ℕ) → sum_by (undone base) stamps ≤ length stamps
+pub undone-most : (base : ℕ) (stamps : List ℕ) → sum_by (left_undone base) stamps ≤ length stamps
 undone-most base [] = omega arith
-undone-most base (m ∷ ms) = grind (arith, nat_tests, undone-most base ms, sum_by-cons (undone base) m ms)
+undone-most base (m ∷ ms) = grind (arith, nat_tests, undone-most base ms, sum_by-cons (left_undone base) m ms)
 
 -- a search that begins at the goal, over stamps of earlier searches
 pub IsSeeking-begin : (grid : Chart) (ends : Ends) (stamps : List ℕ) (base : ℕ) (now : List Point) → IsStamped grid stamps base 0 → Holds grid.size ends.start → Holds grid.size ends.goal →

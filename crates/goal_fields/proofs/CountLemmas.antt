@@ -14,7 +14,7 @@ use Rattle.cell_queue.proofs.Indexes.{index_below}
 use Rattle.goal_fields.specs.Marks.{far, distance_of, mark_at}
 use Rattle.goal_fields.specs.Target.{HaveCounted}
 use Rattle.goal_fields.specs.Rest.{IsAtRest}
-use Rattle.goal_fields.specs.Changes.{grew, came, change_count, AreDistances, IsChangeCount, IsRepaired}
+use Rattle.goal_fields.specs.Changes.{has_grown, came, change_count, AreDistances, IsChangeCount, IsRepaired}
 use Rattle.goal_fields.specs.Repair.{change}
 use Rattle.goal_fields.specs.Lifelong.{count_over}
 use Rattle.goal_fields.proofs.Neighbours.{cell_at}
@@ -26,7 +26,7 @@ abbrev pub one_if : Bool → ℕ
 one_if b = cond b 1 0
 
 -- what one cell adds to the change count, by its distances
-pub change-is : (x y : ℕ) → x ≤ far → y ≤ far → change x y ≡ one_if (grew (distance_of x, distance_of y)) + one_if (came (distance_of x, distance_of y))
+pub change-is : (x y : ℕ) → x ≤ far → y ≤ far → change x y ≡ one_if (has_grown (distance_of x, distance_of y)) + one_if (came (distance_of x, distance_of y))
 change-is x y hx hy = grind (arith, nat_tests)
 
 -- all cells together
@@ -38,7 +38,7 @@ count_over-is (x ∷ d) [] long hd hg = absurd (omega arith)
 count_over-is (x ∷ d) (y ∷ g) long hd hg =
     let rest = count_over-is d g (omega arith) (λ i h. hd (suc i) (omega arith)) (λ i h. hg (suc i) (omega arith)) in
     let cells = zip (map distance_of d) (map distance_of g) in
-    let grown = sum_by-cons (λ p. one_if (grew p)) (distance_of x, distance_of y) cells in
+    let grown = sum_by-cons (λ p. one_if (has_grown p)) (distance_of x, distance_of y) cells in
     let arrived = sum_by-cons (λ p. one_if (came p)) (distance_of x, distance_of y) cells in
     omega (arith, rest, change-is x y (hd 0 (omega arith)) (hg 0 (omega arith)), grown, arrived)
 

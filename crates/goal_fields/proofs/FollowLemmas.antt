@@ -11,7 +11,7 @@ use Rattle.goal_fields.specs.declared.lifelong.Lifelong.{Lifelong}
 use Rattle.goal_fields.specs.Marks.{mark_at}
 use Rattle.goal_fields.specs.Repair.{IsRhs, IsWrite, key_for}
 use Rattle.goal_fields.specs.Lifelong.{IsRoomy, IsGood, IsSameBut, KeepsKey, g_of}
-use Rattle.goal_fields.specs.Taking.{Advances, Lags, Follows, IsTaking, IsUnstirred}
+use Rattle.goal_fields.specs.Taking.{Advances, Lags, FollowsWrite, IsTaking, IsUnstirred}
 use Rattle.goal_fields.proofs.Neighbours.{cases_cell}
 use Rattle.goal_fields.proofs.UpdateLemmas.{key_none}
 use Rattle.goal_fields.proofs.TakeLemmas.{IsRhs-apart, IsWrite-set}
@@ -42,7 +42,7 @@ IsRhs-unmoved grid goal g g' from c r was now w is lowered raised a =
     }
 
 -- a cell that lags and isn't stirred is good
-pub IsGood-unstirred : (g : Point → ℕ) (s : Lifelong) (from c : Point) (was now : ℕ) → Follows g s from was now → IsUnstirred s c was now → Holds s.grid.size c → c ≢ from → IsGood s c
+pub IsGood-unstirred : (g : Point → ℕ) (s : Lifelong) (from c : Point) (was now : ℕ) → FollowsWrite g s from was now → IsUnstirred s c was now → Holds s.grid.size c → c ≢ from → IsGood s c
 IsGood-unstirred g s from c was now follows still held apart = elim (follows.each c held apart) [
   | inl good ↦ good
   | inr lags ↦
@@ -105,7 +105,7 @@ unstirred_later old new c was now on h (inr still) = elim (on.others c h) [
 ]
 
 -- what follows a write goes on
-pub Follows-later : (g : Point → ℕ) (old new : Lifelong) (from : Point) (was now : ℕ) → Advances old new → Follows g old from was now → Follows g new from was now
+pub Follows-later : (g : Point → ℕ) (old new : Lifelong) (from : Point) (was now : ℕ) → Advances old new → FollowsWrite g old from was now → FollowsWrite g new from was now
 Follows-later g old new from was now on f =
     record {
       written = record {
@@ -158,7 +158,7 @@ IsTaking-begun old new u R value roomy held same goal wrote out kept equation qu
     on_new a = subst (λ (t : Chart). IsRhs t new.goal (g_of new) u value) (sym same) (subst (λ (p : Point). IsRhs old.grid p (g_of new) u value) (sym goal) a)
 
 -- a cell that is neither the one that was written nor next to it is good
-pub IsGood-apart : (g : Point → ℕ) (s : Lifelong) (from c : Point) (was now : ℕ) → Follows g s from was now → Holds s.grid.size c → c ≢ from → (IsAdjacent from c → ⊥) → IsGood s c
+pub IsGood-apart : (g : Point → ℕ) (s : Lifelong) (from c : Point) (was now : ℕ) → FollowsWrite g s from was now → Holds s.grid.size c → c ≢ from → (IsAdjacent from c → ⊥) → IsGood s c
 IsGood-apart g s from c was now follows held ne apart = elim (follows.each c held ne) [
   | inl good ↦ good
   | inr lags ↦ record {

@@ -12,7 +12,7 @@ use Rattle.cell_queue.specs.Queue.{area}
 use Rattle.grid_cells.specs.Grid.{flag_index, Chart, IsOpen}
 use Rattle.grid_cells.specs.Walks.{Walk}
 use Rattle.goal_fields.specs.declared.search.Search.{Search}
-use Rattle.goal_fields.specs.Search.{IsSearch, slot, IsSearching, IsReached, GoesOn, front_of, mark_of}
+use Rattle.goal_fields.specs.Search.{IsSearch, slot, IsSearching, IsReached, SearchesOn, front_of, mark_of}
 use Rattle.goal_fields.specs.Marks.{mark_at, far, blank}
 use Rattle.cell_queue.proofs.Indexes.{index_below, same_place}
 use Rattle.goal_fields.proofs.Neighbours.{IsAdjacent-sym}
@@ -116,7 +116,7 @@ IsSearch-next grid goal marks queue head tail s lt near_front =
 pub mark_of-front : (s : Search) → IsSearching s → s.head < s.tail → mark_of s (front_of s) + 1 < far
 mark_of-front s searching lt = grind (arith, searching.sized.cells_most, searching.small s.head lt, searching.counted)
 
-pub GoesOn-trans : (a b c : Search) → GoesOn a b → GoesOn b c → GoesOn a c
+pub GoesOn-trans : (a b c : Search) → SearchesOn a b → SearchesOn b c → SearchesOn a c
 GoesOn-trans a b c p q =
     record {
       grid = q.grid ∙ p.grid;
@@ -128,7 +128,7 @@ GoesOn-trans a b c p q =
     }
 
 -- what was reached stays so
-pub IsReached-later : (s t : Search) (number : ℕ) (c : Point) → GoesOn s t → number < far → IsReached s number c → IsReached t number c
+pub IsReached-later : (s t : Search) (number : ℕ) (c : Point) → SearchesOn s t → number < far → IsReached s number c → IsReached t number c
 IsReached-later s t number c goes small reached open_c = grind (arith, goes.grid, goes.marks c)
 
 -- a mark that was read

@@ -20,8 +20,8 @@ pub record HasWalk (grid : Chart) (ends : Ends) (away : ℕ) (cell : Point) : Ty
   pub length_is : steps + steps_between cell ends.start ≡ steps_between ends.goal ends.start + 2 * away
 
 -- the cell is done or waits, for walks with at most so many steps away
-abbrev pub IsMet : Extent → List ℕ → ℕ → ℕ → List Point → List Point → ℕ → Point → Type 0
-IsMet size stamps base away now next most cell =
+abbrev pub IsMetWithin : Extent → List ℕ → ℕ → ℕ → List Point → List Point → ℕ → Point → Type 0
+IsMetWithin size stamps base away now next most cell =
     ((base ≤ mark_at size stamps cell) × (mark_at size stamps cell ≤ base + most))
     ⊎ (((away ≤ most) × Contains now cell) ⊎ ((away + 1 ≤ most) × Contains next cell))
 
@@ -40,19 +40,19 @@ pub record IsSeeking (grid : Chart) (ends : Ends) (stamps : List ℕ) (base away
   pub start_waits : mark_at grid.size stamps ends.start < base
   pub walks_now : All (HasWalk grid ends away) now
   pub walks_next : All (HasWalk grid ends (away + 1)) next
-  pub begun : IsOpen grid ends.goal → IsMet grid.size stamps base away now next 0 ends.goal
+  pub begun : IsOpen grid ends.goal → IsMetWithin grid.size stamps base away now next 0 ends.goal
   pub covered : (cell : Point) (done : ℕ) → Holds grid.size cell → mark_at grid.size stamps cell ≡ base + done →
       (beside : Point) (most : ℕ) → IsAdjacent cell beside → IsOpen grid beside →
       2 * most + steps_between cell ends.start ≡ 2 * done + steps_between beside ends.start + 1 →
-      IsMet grid.size stamps base away now next most beside
+      IsMetWithin grid.size stamps base away now next most beside
 
 -- the search of a frontier, where these cells wait for walks with as many steps away as now
 abbrev pub IsSeekingFrom : Frontier → Ends → List Point → Type 0
 IsSeekingFrom s ends now = IsSeeking s.grid ends s.stamps.items s.base s.away now s.next.items
 
 -- 1 at the stamp of an earlier search
-abbrev pub undone : ℕ → ℕ → ℕ
-undone base stamp = if nat_lt stamp base then 1 else 0
+abbrev pub left_undone : ℕ → ℕ → ℕ
+left_undone base stamp = if nat_lt stamp base then 1 else 0
 
 -- the cells that wait, those for one more step away counted more
 abbrev pub waiting : Frontier → ℕ
@@ -60,7 +60,7 @@ waiting s = 3 * length s.next.items + 2 * length s.now.items
 
 -- what is left to do: it falls with each turn of a search
 abbrev pub work_left : Frontier → ℕ
-work_left s = 20 * sum_by (undone s.base) s.stamps.items + waiting s
+work_left s = 20 * sum_by (left_undone s.base) s.stamps.items + waiting s
 
 -- a search has as many steps away as it has had turns, at most
 abbrev pub most_work : Extent → ℕ
@@ -73,7 +73,7 @@ pub record IsAtEase (s : Frontier) : Type 0 where
   pub low : s.base ≤ MOST_BASE
 
 -- more cells wait, and nothing else has changed
-pub record Gathers (old new : Frontier) : Type 0 where
+pub record GathersCells (old new : Frontier) : Type 0 where
   pub grid : new.grid ≡ old.grid
   pub stamps : new.stamps ≡ old.stamps
   pub base : new.base ≡ old.base
@@ -92,4 +92,4 @@ pub record KeepsLevel (old new : Frontier) : Type 0 where
 abbrev pub IsMetFrom : Frontier → Ends → Point → Point → Type 0
 IsMetFrom s ends front cell = IsOpen s.grid cell → (most : ℕ) →
     2 * most + steps_between front ends.start ≡ 2 * s.away + steps_between cell ends.start + 1 →
-    IsMet s.grid.size s.stamps.items s.base s.away s.now.items s.next.items most cell
+    IsMetWithin s.grid.size s.stamps.items s.base s.away s.now.items s.next.items most cell

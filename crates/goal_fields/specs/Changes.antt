@@ -10,10 +10,10 @@ use Rattle.cell_queue.specs.Queue.{area}
 use Rattle.goal_fields.specs.Target.{Standing, IsSound, HaveCounted}
 
 -- the old distance is given, and the new one is greater or none
-abbrev pub grew : Option ℕ × Option ℕ → Bool
-grew (None, new) = false
-grew (Some old, None) = true
-grew (Some old, Some new) = nat_lt old new
+abbrev pub has_grown : Option ℕ × Option ℕ → Bool
+has_grown (None, new) = false
+has_grown (Some old, None) = true
+has_grown (Some old, Some new) = nat_lt old new
 
 -- the new distance is given, and differs from the old one
 abbrev pub came : Option ℕ × Option ℕ → Bool
@@ -21,9 +21,9 @@ came (old, None) = false
 came (None, Some new) = true
 came (Some old, Some new) = if old == new then false else true
 
--- the number of cells whose distance grew or went, plus the number of cells with a new distance
+-- the number of cells whose distance has_grown or went, plus the number of cells with a new distance
 abbrev pub change_count : List (Option ℕ) → List (Option ℕ) → ℕ
-change_count olds news = count_by grew (zip olds news) + count_by came (zip olds news)
+change_count olds news = count_by has_grown (zip olds news) + count_by came (zip olds news)
 
 -- the list has the distance of each cell of the map to the goal, row by row
 pub record AreDistances (grid : Chart) (goal : Point) (distances : List (Option ℕ)) : Type 0 where

@@ -58,7 +58,7 @@ pub record IsMarking (s : Search) (front : Point) (at number : ℕ) : Type 0 whe
   pub next : number ≡ mark_of s front + 1
 
 -- the search goes on over the same map, and what it has marked stays
-pub record GoesOn (old new : Search) : Type 0 where
+pub record SearchesOn (old new : Search) : Type 0 where
   pub grid : new.grid ≡ old.grid
   pub goal : new.goal ≡ old.goal
   pub head : new.head ≡ old.head
@@ -72,7 +72,7 @@ pub record KeepsMap (old new : Search) : Type 0 where
   pub goal : new.goal ≡ old.goal
 
 -- the goal is on the map, and there is room for each cell
-pub record HasRoom (s : Search) : Type 0 where
+pub record HasSearchRoom (s : Search) : Type 0 where
   pub sized : IsSize s.grid.size.width s.grid.size.height
   pub goal_held : Holds s.grid.size s.goal
   pub whole : IsWhole s.grid
@@ -85,6 +85,6 @@ IsBlank s = (k : ℕ) → k < length s.marks.items → slice_index s.marks.items
 
 -- there is room, and the marks are the distances
 pub record IsFound (s : Search) : Type 0 where
-  pub room : HasRoom s
+  pub room : HasSearchRoom s
   pub right : (cell : Point) → Holds s.grid.size cell → IsDistance s.grid cell s.goal (distance_of (mark_of s cell))
   pub bounded : (cell : Point) → Holds s.grid.size cell → mark_of s cell ≤ far

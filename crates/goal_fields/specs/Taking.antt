@@ -20,14 +20,14 @@ pub record Lags (g : Point → ℕ) (s : Lifelong) (cell : Point) : Type 0 where
   pub queued : key_at s.queue cell ≡ key_for (g_of s cell) rhs
 
 -- one g was written, which was `was` and is `now`, and each other cell is good or lags
-pub record Follows (g : Point → ℕ) (s : Lifelong) (from : Point) (was now : ℕ) : Type 0 where
+pub record FollowsWrite (g : Point → ℕ) (s : Lifelong) (from : Point) (was now : ℕ) : Type 0 where
   pub written : IsWrite s.grid g (g_of s) from now
   pub before : g from ≡ was
   pub each : (c : Point) → Holds s.grid.size c → c ≢ from → IsGood s c ⊎ Lags g s c
 
 -- one g was just written, and the cell is good where its g went down
 pub record IsTaking (g : Point → ℕ) (s : Lifelong) (from : Point) (was : ℕ) : Type 0 where
-  pub follows : Follows g s from was (g_of s from)
+  pub follows : FollowsWrite g s from was (g_of s from)
   pub lowered : g_of s from < was → IsGood s from
 
 -- the cell isn't queued, and its g is such that a neighbour's g, which was `was` and is `now`, doesn't move it

@@ -3,7 +3,7 @@ ghost use Rattle.grid_cells.specs.Cell.{Point, IsAdjacent};
 ghost use Rattle.grid_cells.specs.Size.{Holds};
 ghost use Rattle.grid_cells.specs.Walks.{IsDistance};
 ghost use Rattle.goal_fields.specs.Marks.{mark_at};
-ghost use Rattle.goal_fields.specs.AStar.{HasWalk, IsStamped, IsAtEase, IsSeeking, IsSeekingFrom, Gathers, KeepsLevel, IsMetFrom, most_work, waiting, work_left};
+ghost use Rattle.goal_fields.specs.AStar.{HasWalk, IsStamped, IsAtEase, IsSeeking, IsSeekingFrom, GathersCells, KeepsLevel, IsMetFrom, most_work, waiting, work_left};
 ghost use Rattle.goal_fields.specs.declared.frontier.Ends.{Ends};
 
 use crate::places::{around, place_of, steps_between, wipe};
@@ -42,7 +42,7 @@ impl Frontier {
         requires beside { IfSome beside (λ cell. Holds self.old.grid.size cell × IsAdjacent front cell) }
         ensures seeking { OnOk result (IsSeekingFrom self.new ends.now (self.new.now.items ++ front ∷ [])) }
         ensures met { OnOk result (IfSome beside (IsMetFrom self.new ends.now front)) }
-        ensures gathers { Gathers self.old self.new }
+        ensures gathers { GathersCells self.old self.new }
         ensures few { waiting self.new ≤ waiting self.old + 3 }
     {
         let Some(cell) = beside else { return Ok(()) };
@@ -65,7 +65,7 @@ impl Frontier {
         requires seeking { IsSeekingFrom self.old ends.now (self.old.now.items ++ front ∷ []) }
         ensures seeking { OnOk result (IsSeekingFrom self.new ends.now (self.new.now.items ++ front ∷ [])) }
         ensures met { OnOk result ((cell : Point) → IsAdjacent front cell → IsMetFrom self.new ends.now front cell) }
-        ensures gathers { Gathers self.old self.new }
+        ensures gathers { GathersCells self.old self.new }
         ensures few { waiting self.new ≤ waiting self.old + 12 }
     {
         let around = around(&self.grid, front);

@@ -2,7 +2,7 @@ ghost use Rattle.std.specs.Prelude.{◌≡◌, ◌+◌, ◌<◌, IfOk};
 ghost use Rattle.grid_cells.specs.Cell.{Point, point, IsAdjacent};
 ghost use Rattle.grid_cells.specs.Size.{Holds};
 ghost use Rattle.grid_cells.specs.Grid.{flag_index};
-ghost use Rattle.goal_fields.specs.Search.{IsSearching, IsMarking, IsReached, GoesOn, KeepsMap, HasRoom, IsBlank, IsFound, front_of, mark_of};
+ghost use Rattle.goal_fields.specs.Search.{IsSearching, IsMarking, IsReached, SearchesOn, KeepsMap, HasSearchRoom, IsBlank, IsFound, front_of, mark_of};
 
 use crate::places::{FAR, place_of};
 use grid_cells::{Cell, Grid, OutOfMemory};
@@ -24,7 +24,7 @@ impl Search {
     // A search with room for each cell, in which nothing is found yet.
     pub(crate) fn new(alloc: Global, grid: &Grid, goal: Cell) -> Result<Search, OutOfMemory>
         requires { Holds grid.now.size goal }
-        ensures room { IfOk result HasRoom }
+        ensures room { IfOk result HasSearchRoom }
         ensures blank { IfOk result IsBlank }
         ensures target { IfOk result (λ search. (search.grid ≡ grid.now) × (search.goal ≡ goal)) }
     {
@@ -42,7 +42,7 @@ impl Search {
 
     // Begins the search at the goal, where that is open.
     fn begin(&mut self)
-        requires room { HasRoom self.old }
+        requires room { HasSearchRoom self.old }
         requires blank { IsBlank self.old }
         ensures searching { IsSearching self.new }
         ensures same_map { KeepsMap self.old self.new }
@@ -67,7 +67,7 @@ impl Search {
         requires adjacent { IsAdjacent (front_of self.old) (point x y) }
         requires next { number ≡ mark_of self.old (front_of self.old) + 1 }
         ensures searching { IsSearching self.new }
-        ensures goes_on { GoesOn self.old self.new }
+        ensures goes_on { SearchesOn self.old self.new }
         ensures reached { IsReached self.new number (point x y) }
     {
         if self.marks[index] != FAR {
@@ -86,7 +86,7 @@ impl Search {
     fn mark_up(&mut self, front: Cell, at: usize, number: u32)
         requires { IsMarking self.old front at number }
         ensures marking { IsMarking self.new front at number }
-        ensures goes_on { GoesOn self.old self.new }
+        ensures goes_on { SearchesOn self.old self.new }
         ensures reached { (c : Point) → c.x ≡ front.x → c.y + 1 ≡ front.y → IsReached self.new number c }
     {
         let row = self.grid.size().width() as usize;
@@ -99,7 +99,7 @@ impl Search {
     fn mark_left(&mut self, front: Cell, at: usize, number: u32)
         requires { IsMarking self.old front at number }
         ensures marking { IsMarking self.new front at number }
-        ensures goes_on { GoesOn self.old self.new }
+        ensures goes_on { SearchesOn self.old self.new }
         ensures reached { (c : Point) → c.x + 1 ≡ front.x → c.y ≡ front.y → IsReached self.new number c }
     {
         if front.x() > 0 {
@@ -111,7 +111,7 @@ impl Search {
     fn mark_right(&mut self, front: Cell, at: usize, number: u32)
         requires { IsMarking self.old front at number }
         ensures marking { IsMarking self.new front at number }
-        ensures goes_on { GoesOn self.old self.new }
+        ensures goes_on { SearchesOn self.old self.new }
         ensures reached { (c : Point) → c.x ≡ front.x + 1 → c.y ≡ front.y → IsReached self.new number c }
     {
         if front.x() + 1 < self.grid.size().width() {
@@ -123,7 +123,7 @@ impl Search {
     fn mark_down(&mut self, front: Cell, at: usize, number: u32)
         requires { IsMarking self.old front at number }
         ensures marking { IsMarking self.new front at number }
-        ensures goes_on { GoesOn self.old self.new }
+        ensures goes_on { SearchesOn self.old self.new }
         ensures reached { (c : Point) → c.x ≡ front.x → c.y ≡ front.y + 1 → IsReached self.new number c }
     {
         let size = self.grid.size();
@@ -152,7 +152,7 @@ impl Search {
 
     // Finds all distances to the goal.
     pub(crate) fn run(&mut self)
-        requires room { HasRoom self.old }
+        requires room { HasSearchRoom self.old }
         requires blank { IsBlank self.old }
         ensures same_map { KeepsMap self.old self.new }
         ensures found { IsFound self.new }

@@ -9,7 +9,7 @@ use Rattle.desk_commits.specs.Entries.{Entry}
 use Rattle.desk_commits.specs.Replays.{Log}
 use Rattle.journal_text.specs.Ranges.{IsJournal}
 use Rattle.journal_text.specs.Lines.{journal_lines, text_of}
-use Rattle.journal_text.specs.Reading.{IsTextOf, mode_of, Begins, IsBadLine}
+use Rattle.journal_text.specs.Reading.{IsTextOf, mode_of, Begins, IsFaultyLine}
 use Rattle.journal_text.specs.Places.{Steps, IsPlace}
 use Rattle.journal_text.specs.declared.places.Heading.{Heading}
 use Rattle.journal_text.specs.declared.places.Heading.TheVariants.{First, Second}
@@ -95,7 +95,7 @@ whole text rest place stands stuck heading entries lawful same =
     (walk-same Start place (Over heading entries) lines (subst (λ (l : List (List (List ℕ))). Walks Start l place) same_lines stands.walk) walk, none.1)
 
 -- where the reader sticks, and is not at the end of a journal, it names the next line
-pub bad-line : (text rest : List ℕ) (place : Place) → Stands text place rest → Sticks place rest → ((heading : Heading) (entries : List Entry) → place ≡ Over heading entries → rest ≡ [] → ⊥) → IsBadLine text (length (place_lines place) + 1)
+pub bad-line : (text rest : List ℕ) (place : Place) → Stands text place rest → Sticks place rest → ((heading : Heading) (entries : List Entry) → place ≡ Over heading entries → rest ≡ [] → ⊥) → IsFaultyLine text (length (place_lines place) + 1)
 bad-line text rest place stands stuck unfinished = record {
   fit = length (place_lines place);
   number = refl;

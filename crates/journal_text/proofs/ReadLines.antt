@@ -8,7 +8,7 @@ use Rattle.session_lines.specs.Requests.{request_of, request_of_words}
 use Rattle.session_lines.specs.declared.requests.Request.TheVariants as request
 use Rattle.journal_text.specs.Ranges.{IsThing, IsEdit}
 use Rattle.journal_text.specs.Lines.{watch_words, edit_words}
-use Rattle.journal_text.specs.Places.{Names}
+use Rattle.journal_text.specs.Places.{IsLineOf}
 use Rattle.journal_text.proofs.PlainWords.{plain-watch, plain-edit}
 use Rattle.journal_text.proofs.PlainLines.{line-words_of}
 use Rattle.journal_text.proofs.Grammar.{request-watch, request-edit}
@@ -27,7 +27,7 @@ request_of-edit line edit lawful same = ap request_of_words (line-words_of (edit
 pub named : {A E : Type 0} (IsLawful : A → Type 0) (words : A → List (List ℕ)) (line : List ℕ) (value : A) (result : Result (Option A) E)
     → ((other : A) → IsLawful other → line_text (words other) ≡ line ++ codes "\n" → other ≡ value)
     → IfOk result (λ found. MatchOption found (line_text (words value) ≢ line ++ codes "\n") (λ same. (same ≡ value) × IsLawful value × (line_text (words value) ≡ line ++ codes "\n")))
-    → IfOk result (Names IsLawful words line)
+    → IfOk result (IsLineOf IsLawful words line)
 named IsLawful words line value (Err why) only is = is
 named IsLawful words line value (Ok None) only is = λ other lawful same. is (ap (λ v. line_text (words v)) (sym (only other lawful same)) ∙ same)
 named IsLawful words line value (Ok (Some same)) only is = (subst IsLawful (sym is.0) is.1, ap (λ v. line_text (words v)) is.0 ∙ is.2)

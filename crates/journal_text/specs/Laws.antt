@@ -7,8 +7,8 @@ use Rattle.journal_text.specs.declared.faults.JournalFault.{JournalFault}
 use Rattle.journal_text.specs.declared.faults.JournalFault.TheVariants.{OutOfMemory}
 
 -- but for want of memory, a text reads as one journal or has one fault
-abbrev pub OneAnswer : Type 0
-OneAnswer = (text : List ℕ) (a b : Result Log JournalFault) → a ≢ Err OutOfMemory → b ≢ Err OutOfMemory → ReadsAs text a → ReadsAs text b → a ≡ b
+abbrev pub OneReading : Type 0
+OneReading = (text : List ℕ) (a b : Result Log JournalFault) → a ≢ Err OutOfMemory → b ≢ Err OutOfMemory → ReadsAs text a → ReadsAs text b → a ≡ b
 
 -- but for want of memory, the text of a journal, of either version, reads as that journal
 abbrev pub ReadsBack : Type 0

@@ -62,9 +62,9 @@ IsPlace (Inside heading entries entry) = (length entries < MOST_ENTRIES) × All 
 IsPlace (Over heading entries) = (length entries ≤ MOST_ENTRIES) × All IsEntry entries
 
 -- the line, without its line feed, is that of the value, or of no value that is lawful
-abbrev pub Names : {A : Type 0} → (A → Type 0) → (A → List (List ℕ)) → List ℕ → Option A → Type 0
-Names IsLawful words line (Some value) = IsLawful value × (line_text (words value) ≡ line ++ codes "\n")
-Names {A} IsLawful words line None = (value : A) → IsLawful value → line_text (words value) ≡ line ++ codes "\n" → ⊥
+abbrev pub IsLineOf : {A : Type 0} → (A → Type 0) → (A → List (List ℕ)) → List ℕ → Option A → Type 0
+IsLineOf IsLawful words line (Some value) = IsLawful value × (line_text (words value) ≡ line ++ codes "\n")
+IsLineOf {A} IsLawful words line None = (value : A) → IsLawful value → line_text (words value) ≡ line ++ codes "\n" → ⊥
 
 -- where a line leads, if it fits
 abbrev pub LeadsTo : Place → List ℕ → Option Place → Type 0

@@ -33,7 +33,7 @@ pub record Begins (text : List ℕ) (n : ℕ) : Type 0 where
   pub begins : text ≡ text_of lines ++ rest
 
 -- the text is no journal's text, and it begins with the lines before this one of a journal's text, and with no more of any
-pub record IsBadLine (text : List ℕ) (line : ℕ) : Type 0 where
+pub record IsFaultyLine (text : List ℕ) (line : ℕ) : Type 0 where
   pub fit : ℕ
   pub number : line ≡ fit + 1
   pub begins : Begins text fit
@@ -43,7 +43,7 @@ pub record IsBadLine (text : List ℕ) (line : ℕ) : Type 0 where
 -- what a text reads as
 abbrev pub ReadsAs : List ℕ → Result Log JournalFault → Type 0
 ReadsAs text (Ok log) = IsJournal log × IsTextOf log text
-ReadsAs text (Err (BadLine line)) = IsBadLine text line
+ReadsAs text (Err (BadLine line)) = IsFaultyLine text line
 ReadsAs text (Err OutOfMemory) = Unit {0}
 
 -- the text of version 2 of what a text reads as, or its fault

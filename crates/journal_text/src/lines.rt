@@ -6,7 +6,7 @@ ghost use Rattle.session_lines.specs.Requests.{request_of};
 ghost use Rattle.journal_text.specs.Ranges.{IsThing, IsEdit};
 ghost use Rattle.journal_text.specs.Lines.{watch_words, edit_words};
 ghost use Rattle.journal_text.specs.Begun.{IsHead, head_words};
-ghost use Rattle.journal_text.specs.Places.{Names};
+ghost use Rattle.journal_text.specs.Places.{IsLineOf};
 ghost use Rattle.grid_cells.specs.declared.numbers.TheConstants.{MOST_PLANNER};
 ghost use Rattle.journal_text.specs.declared.places.Head.{Head};
 
@@ -60,7 +60,7 @@ fn spelled<T: Written + Drop>(
 
 /// The thing that a watch names.
 pub(crate) fn thing_of(alloc: Global, line: &[u8]) -> Result<Option<Thing>, OutOfMemory>
-    ensures { IfOk result (Names IsThing watch_words line.now) }
+    ensures { IfOk result (IsLineOf IsThing watch_words line.now) }
 {
     let Request::Watch(thing) = request_of(alloc, line)? else {
         return Ok(None);
@@ -70,7 +70,7 @@ pub(crate) fn thing_of(alloc: Global, line: &[u8]) -> Result<Option<Thing>, OutO
 
 /// The edit of an edit line.
 pub(crate) fn edit_of(alloc: Global, line: &[u8]) -> Result<Option<Edit>, OutOfMemory>
-    ensures { IfOk result (Names IsEdit edit_words line.now) }
+    ensures { IfOk result (IsLineOf IsEdit edit_words line.now) }
 {
     let Request::Edit(edit) = request_of(alloc, line)? else {
         return Ok(None);
@@ -130,7 +130,7 @@ fn numbers_of(line: &[u8]) -> Option<Head>
 
 /// The numbers of the first line of an entry.
 pub(crate) fn head_of(alloc: Global, line: &[u8]) -> Result<Option<Head>, OutOfMemory>
-    ensures { IfOk result (Names IsHead head_words line.now) }
+    ensures { IfOk result (IsLineOf IsHead head_words line.now) }
 {
     let Some(head) = numbers_of(line) else {
         return Ok(None);

@@ -7,7 +7,7 @@ use Rattle.std.proofs.lemmas.Option.{none-some, slice_get_within, get_or_from_sl
 use Rattle.plan_table.specs.Plans.{row_of, IsByAgent}
 use Rattle.plan_table.specs.declared.plans.Row.{Row}
 use Rattle.plan_table.proofs.Rows.{first_below, tail_by_agent}
-use Rattle.live_report.specs.Prices.{with_row}
+use Rattle.live_report.specs.Prices.{with_row_in}
 
 -- a row that no other one of its agent comes before
 row_of_last : (rows : List (ℕ × Row)) (agent : ℕ) (row : Row) → row_of rows agent ≡ None → (a : ℕ) → row_of (rows ++ (agent, row) ∷ []) a ≡ (if a == agent then Some row else row_of rows a)
@@ -48,7 +48,7 @@ row_of_before (x ∷ rest) by_agent (suc rank) agent row there =
     ]
 
 -- the rows up to an agent's rank, and its own
-pub row_of_more : (rows : List (ℕ × Row)) → IsByAgent rows → (rank agent : ℕ) (row : Row) → slice_get rows rank ≡ Some (agent, row) → with_row (row_of (take rank rows)) agent (Some row) ≡ row_of (take (rank + 1) rows)
+pub row_of_more : (rows : List (ℕ × Row)) → IsByAgent rows → (rank agent : ℕ) (row : Row) → slice_get rows rank ≡ Some (agent, row) → with_row_in (row_of (take rank rows)) agent (Some row) ≡ row_of (take (rank + 1) rows)
 row_of_more rows by_agent rank agent row there = λ i a. sym (here a) i
   where
     more : take (rank + 1) rows ≡ take rank rows ++ (agent, row) ∷ []

@@ -4,7 +4,7 @@ use Rattle.std.proofs.lemmas.Bool.Decides.{eqb_tells, nat_tests}
 use Rattle.std.proofs.lemmas.Grind.{common_steps}
 use Rattle.std.proofs.lemmas.Option.{gets}
 use Rattle.plan_table.proofs.Order.{AllPairs-head, AllPairs-tail, Contains-nil, Contains-cons_tail, Contains-cons_cases}
-use Rattle.live_report.specs.Prices.{Rows, with_row}
+use Rattle.live_report.specs.Prices.{Rows, with_row_in}
 use Rattle.scene_edits.specs.declared.named_agents.Former.{Former}
 use Rattle.live_report.specs.Following.{AreLeft}
 
@@ -13,7 +13,7 @@ pub left_from : {X : Type 0} (xs : List X) (k : ℕ) (x : X) → k < length xs �
 left_from xs k x within is = grind (arith, nat_tests, common_steps, gets)
 
 -- the first one is caught up with
-pub left_fewer : (rows new : Rows) (former : Former) (later : List Former) → AreLeft rows new (former ∷ later) → AreLeft (with_row rows former.agent (new former.agent)) new later
+pub left_fewer : (rows new : Rows) (former : Former) (later : List Former) → AreLeft rows new (former ∷ later) → AreLeft (with_row_in rows former.agent (new former.agent)) new later
 left_fewer rows new former later left =
     record {
       rising = AllPairs-tail (λ a b. a.agent < b.agent) former later left.rising;

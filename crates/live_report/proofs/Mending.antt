@@ -15,7 +15,7 @@ use Rattle.plan_table.proofs.Order.{EachOf-length}
 use Rattle.plan_table.proofs.Rows.{row_of_gap, changes_row_insert, changes_row_remove, changes_row_set, by_agent_insert, by_agent_remove}
 use Rattle.desk_report.specs.declared.reports.AgentLine.{AgentLine}
 use Rattle.live_report.specs.Lines.{IsOpenLine, AreOpenLines, AreLinesOf, GoWith}
-use Rattle.live_report.specs.Prices.{Rows, with_row}
+use Rattle.live_report.specs.Prices.{Rows, with_row_in}
 use Rattle.live_report.proofs.RowAims.{rows_changed}
 
 -- ---- an element more, one fewer, another one
@@ -98,25 +98,25 @@ go_with grid (x ∷ table) [] are = absurd are
 go_with grid (x ∷ table) (y ∷ lines) are = (are.0.agent, go_with grid table lines are.1)
 
 module _ (grid : Chart) (rows : Rows) (lines : List AgentLine) (were : AreLinesOf grid rows lines) (agent at : ℕ) where
-  mended : (table : List (ℕ × Row)) (new : List AgentLine) (changed : Option Row) → ChangesRow were.table table agent changed → IsByAgent table → AreOpenLines grid table new → AreLinesOf grid (with_row rows agent changed) new
+  mended : (table : List (ℕ × Row)) (new : List AgentLine) (changed : Option Row) → ChangesRow were.table table agent changed → IsByAgent table → AreOpenLines grid table new → AreLinesOf grid (with_row_in rows agent changed) new
   mended table new changed change by_agent are = record { table = table; by_agent = by_agent; same = rows_changed rows were.table table agent changed were.same change; are = are }
 
   -- another one in its place
-  pub line_set : (row : Row) (line : AgentLine) → IsAt were.table agent at → IsOpenLine grid (agent, row) line → AreLinesOf grid (with_row rows agent (Some row)) (set lines at line)
+  pub line_set : (row : Row) (line : AgentLine) → IsAt were.table agent at → IsOpenLine grid (agent, row) line → AreLinesOf grid (with_row_in rows agent (Some row)) (set lines at line)
   line_set row line found is =
       mended (set were.table at (agent, row)) (set lines at line) (Some row) (changes_row_set were.table agent at row were.by_agent found)
       (λ i j d lt within. grind (arith, common_steps, were.by_agent i j d, were.by_agent i at d, were.by_agent at j d, found.in_range, found.has_agent d))
       (EachOf-set (IsOpenLine grid) were.table lines at (agent, row) line were.are is)
 
   -- its first one
-  pub line_inserted : (row : Row) (line : AgentLine) → IsGapFor were.table agent at → IsOpenLine grid (agent, row) line → AreLinesOf grid (with_row rows agent (Some row)) (insert lines at line)
+  pub line_inserted : (row : Row) (line : AgentLine) → IsGapFor were.table agent at → IsOpenLine grid (agent, row) line → AreLinesOf grid (with_row_in rows agent (Some row)) (insert lines at line)
   line_inserted row line gap is =
       mended (insert were.table at (agent, row)) (insert lines at line) (Some row) (changes_row_insert were.table agent at row gap) (by_agent_insert were.table agent at row gap were.by_agent) (EachOf-insert (IsOpenLine grid) were.table lines at (agent, row) line were.are is)
 
   -- none
-  pub line_removed : IsAt were.table agent at → AreLinesOf grid (with_row rows agent None) (remove lines at)
+  pub line_removed : IsAt were.table agent at → AreLinesOf grid (with_row_in rows agent None) (remove lines at)
   line_removed found =
       mended (remove were.table at) (remove lines at) None (changes_row_remove were.table agent at were.by_agent found) (by_agent_remove were.table at found.in_range were.by_agent) (EachOf-remove (IsOpenLine grid) were.table lines at were.are)
 
-  pub line_absent : IsGapFor were.table agent at → AreLinesOf grid (with_row rows agent None) lines
+  pub line_absent : IsGapFor were.table agent at → AreLinesOf grid (with_row_in rows agent None) lines
   line_absent gap = mended were.table lines None (record { this_agent = row_of_gap were.table agent at gap; other_agents = λ a h. refl }) were.by_agent were.are

@@ -9,7 +9,7 @@ use Rattle.where_index.specs.Index.{Contents, StandsFor, ChangesRoute, with_rout
 use Rattle.conflict_ledger.specs.Kept.{HasEntries}
 use Rattle.conflict_ledger.specs.Mending.{KeepsUp}
 use Rattle.mapf_rules.specs.declared.entries.Conflict.{Conflict}
-use Rattle.live_report.specs.Fleet.{FleetState, AreOf}
+use Rattle.live_report.specs.Fleet.{FleetState, AreOfFleet}
 use Rattle.live_report.specs.FleetLaws.{RoutesFixBooks}
 
 -- fleets with the same route for each agent are one fleet
@@ -17,7 +17,7 @@ pub same_fleet : (one other : Fleet) → ((agent : ℕ) → one agent ≡ other 
 same_fleet one other same = λ i agent. same agent i
 
 pub routes_fix : RoutesFixBooks
-routes_fix one other books same are = subst (λ (fleet : Fleet). AreOf fleet books) (same_fleet one other same) are
+routes_fix one other books same are = subst (λ (fleet : Fleet). AreOfFleet fleet books) (same_fleet one other same) are
 
 -- an agent's route put in place of another is the one that it has then
 with_own : (fleet : Fleet) (agent : ℕ) (route : Option Route) → with_route fleet agent route agent ≡ route
@@ -36,11 +36,11 @@ entries_back : (kept : List Conflict) (fleet : Fleet) (agent : ℕ) (route was :
 entries_back kept fleet agent route was is has = subst (λ (f : Fleet). HasEntries kept f) (sym (with_back fleet agent route was is)) has
 
 -- books of a fleet are those of the fleet with the route that an agent has
-pub are_same : (books : FleetState) (fleet : Fleet) (agent : ℕ) (route : Option Route) → fleet agent ≡ route → AreOf fleet books → AreOf (with_route fleet agent route) books
-are_same books fleet agent route is are = subst (λ (f : Fleet). AreOf f books) (sym (with_same fleet agent route is)) are
+pub are_same : (books : FleetState) (fleet : Fleet) (agent : ℕ) (route : Option Route) → fleet agent ≡ route → AreOfFleet fleet books → AreOfFleet (with_route fleet agent route) books
+are_same books fleet agent route is are = subst (λ (f : Fleet). AreOfFleet f books) (sym (with_same fleet agent route is)) are
 
 -- books follow an agent to another route where their index does, and then their entries
-pub follow_route : (agent : ℕ) (before after : Option Route) (index moved : Contents) (kept mended : List Conflict) → ChangesRoute index moved agent before after → KeepsUp moved agent before after kept mended → (fleet : Fleet) → StandsFor index fleet → HasEntries kept fleet → fleet agent ≡ before → AreOf (with_route fleet agent after) (record { index = moved; conflicts = mended })
+pub follow_route : (agent : ℕ) (before after : Option Route) (index moved : Contents) (kept mended : List Conflict) → ChangesRoute index moved agent before after → KeepsUp moved agent before after kept mended → (fleet : Fleet) → StandsFor index fleet → HasEntries kept fleet → fleet agent ≡ before → AreOfFleet (with_route fleet agent after) (record { index = moved; conflicts = mended })
 follow_route agent before after index moved kept mended moves keeps fleet stands has is =
     let there = moves fleet stands is in
     record { index = there; entries = keeps (with_route fleet agent after) there (with_own fleet agent after) (entries_back kept fleet agent after before is has) }

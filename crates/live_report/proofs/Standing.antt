@@ -7,14 +7,14 @@ use mathlib.Core.Logic.{◌↔◌}
 use Rattle.grid_cells.specs.Cell.{Point}
 use Rattle.grid_cells.specs.Grid.{Chart, IsClosed}
 use Rattle.plan_table.specs.declared.plans.Row.{Row}
-use Rattle.cost_ledger.specs.Ledger.{Ledger, StandsFor}
+use Rattle.cost_ledger.specs.Ledger.{Ledger, StandsForMap}
 use Rattle.mapf_rules.specs.Visits.{IsVisit}
 use Rattle.mapf_rules.specs.declared.visits.Visit.{Visit}
 
 visit_there : (one other : Chart) (rows : List (ℕ × Row)) (visit : Visit) → ((cell : Point) → IsClosed one cell → IsClosed other cell) → IsVisit one rows visit → IsVisit other rows visit
 visit_there one other rows visit same is = grind (arith, nat_tests, common_steps, gets)
 
-pub stands_there : (ledger : Ledger) (one other : Chart) → ((cell : Point) → IsClosed one cell ↔ IsClosed other cell) → StandsFor ledger one → StandsFor ledger other
+pub stands_there : (ledger : Ledger) (one other : Chart) → ((cell : Point) → IsClosed one cell ↔ IsClosed other cell) → StandsForMap ledger one → StandsForMap ledger other
 stands_there ledger one other same stands = record {
   ascending = stands.ascending;
   exact = λ visit. (

@@ -13,13 +13,13 @@ use Rattle.goal_fields.specs.Target.{Standing, IsSound, Covers}
 use Rattle.goal_fields.proofs.CoverLemmas.{same_map}
 use Rattle.desk_report.specs.declared.reports.AgentLine.{AgentLine}
 use Rattle.live_report.specs.Lines.{AreOpenLines, AreLinesOf, WhereLinesStand}
-use Rattle.live_report.specs.Prices.{Rows, Prices, AreOf}
+use Rattle.live_report.specs.Prices.{Rows, Prices, AreOfRows}
 
 no_lines : (one other : Chart) (lines : List AgentLine) → AreOpenLines one [] lines → AreOpenLines other [] lines
 no_lines one other [] are = tt
 no_lines one other (line ∷ lines) are = absurd are
 
-module _ (old new : Chart) (rows : Rows) (books : Prices) (cells : List Point) (are : AreOf old rows books) (sound : All IsSound books.fields) (whole : IsWhole new) (size : old.size ≡ new.size) (none : length cells ≡ 0) (covers : Covers cells old new) where
+module _ (old new : Chart) (rows : Rows) (books : Prices) (cells : List Point) (are : AreOfRows old rows books) (sound : All IsSound books.fields) (whole : IsWhole new) (size : old.size ≡ new.size) (none : length cells ≡ 0) (covers : Covers cells old new) where
   -- a map that has a field is the same as before
   same_chart : (agent : ℕ) (row : Row) → rows agent ≡ Some row → old ≡ new
   same_chart agent row live =

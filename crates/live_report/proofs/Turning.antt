@@ -14,7 +14,7 @@ use Rattle.grid_cells.specs.Cell.{Point}
 use Rattle.grid_cells.specs.Size.{Extent, Holds}
 use Rattle.grid_cells.specs.Grid.{Chart, IsClosed, flag_index}
 use Rattle.goal_fields.specs.Target.{flag_at, Covers}
-use Rattle.cost_ledger.specs.Ledger.{SameBut, SameAt}
+use Rattle.cost_ledger.specs.Ledger.{SameClosedBut, SameAt}
 use Rattle.live_report.proofs.Cells.{same_test, same_tells}
 
 -- whether the flag of the cell says that it is open
@@ -110,7 +110,7 @@ module _ (old new : Chart) (cells : List Point) (k : ℕ) (cell : Point) (within
   or_false true b e = refl
   or_false false b e = e
 
-  pub turned_but : SameBut (turned old new (take k cells)) (turned old new (take (k + 1) cells)) cell
+  pub turned_but : SameClosedBut (turned old new (take k cells)) (turned old new (take (k + 1) cells)) cell
   turned_but other apart = same_closed (turned old new (take k cells)) (turned old new (take (k + 1) cells)) other
       (turned_size old new (take k cells) ∙ sym (turned_size old new (take (k + 1) cells)))
       (λ h.

@@ -35,7 +35,7 @@ use Rattle.mapf_rules.specs.declared.kinds.Kinds.{Kinds}
 use Rattle.desk_report.specs.declared.reports.AgentLine.{AgentLine}
 use Rattle.desk_report.specs.declared.reports.Report.{Report}
 use Rattle.live_report.specs.Rows.{HaveFields, HavePathsOn}
-use Rattle.live_report.specs.Asked.{HasNamed}
+use Rattle.live_report.specs.Asked.{HasAnyAsked}
 use Rattle.live_report.proofs.Deciding.{Decided, decided_both, given_if, decided_by, truth_of, sum_given, greatest_given, unblocked_or_not}
 
 -- ---- what the line of an agent is made of
@@ -101,7 +101,7 @@ all_done grid (entry ∷ rows) (line ∷ later) (Some n ∷ costs) lines are =
 
 -- ---- the report, and what it says
 module _ (grid : Chart) (mode : Mode) (rows : List (ℕ × Row)) (entries : List Conflict) (visits : List Visit) (costs : List (Option ℕ)) (conflicts : AreConflicts (tracks_of mode rows) entries) (blocked : AreVisits grid rows visits) (priced : AreCosts rows costs) (ready : All (IsReady grid) rows) (kinds : Kinds) where
-  verdict : (answer : Bool) → (IsTrue answer ↔ ((count_by is_none costs ≡ 0) × (length visits ≡ 0) × (HasNamed kinds entries → ⊥))) → IsVerdict grid mode rows kinds answer
+  verdict : (answer : Bool) → (IsTrue answer ↔ ((count_by is_none costs ≡ 0) × (length visits ≡ 0) × (HasAnyAsked kinds entries → ⊥))) → IsVerdict grid mode rows kinds answer
   verdict answer means =
       let lines = lines_of grid rows costs priced ready in
       let sum = sum_given costs in
@@ -129,9 +129,9 @@ module _ (grid : Chart) (mode : Mode) (rows : List (ℕ × Row)) (entries : List
 
 -- from what is kept of the rows
 module _ (rows : List (ℕ × Row)) (entries : List Conflict) (visits : List Visit) (fields : List Standing) (count : ℕ) (kinds : Kinds) (unfinished : IsUnfinishedCount rows count) (by_agent : IsByAgent rows) (listed : IsListed entries) (far : HaveDistances fields) where
-  pub kept_verdict : (answer : Bool) → (IsTrue answer ↔ ((count ≡ 0) × (length visits ≡ 0) × (HasNamed kinds entries → ⊥)))
+  pub kept_verdict : (answer : Bool) → (IsTrue answer ↔ ((count ≡ 0) × (length visits ≡ 0) × (HasAnyAsked kinds entries → ⊥)))
       → (grid : Chart) (mode : Mode) → HasEntries entries (tracks_of mode rows) → AreVisits grid rows visits → StandFor grid fields → HaveFields rows fields → HavePathsOn grid rows → IsVerdict grid mode rows kinds answer
   kept_verdict answer means grid mode has blocked stand aims on =
       let counted : count ≡ count_by is_none unfinished.0 = unfinished.2 in
       verdict grid mode rows entries visits unfinished.0 (record { ascending = listed; exact = has }) blocked unfinished.1 (all_ready grid rows visits fields by_agent blocked stand far aims on) kinds answer
-      (subst (λ (n : ℕ). IsTrue answer ↔ ((n ≡ 0) × (length visits ≡ 0) × (HasNamed kinds entries → ⊥))) counted means)
+      (subst (λ (n : ℕ). IsTrue answer ↔ ((n ≡ 0) × (length visits ≡ 0) × (HasAnyAsked kinds entries → ⊥))) counted means)

@@ -11,5 +11,5 @@ abbrev pub HasAsked : Kinds → Kind → List Conflict → Type 0
 HasAsked kinds kind entries = IsTrue (is_named kinds kind) × HasKind kind entries
 
 -- an entry is of a kind that is asked about
-abbrev pub HasNamed : Kinds → List Conflict → Type 0
-HasNamed kinds entries = (kind : Kind) × HasAsked kinds kind entries
+abbrev pub HasAnyAsked : Kinds → List Conflict → Type 0
+HasAnyAsked kinds entries = (kind : Kind) × HasAsked kinds kind entries

@@ -19,13 +19,13 @@ pub record BooksState : Type 0 where
   pub lines : Option (List AgentLine)
 
 -- the routes of rows in a mode
-abbrev pub fleet_of : Mode → prices.Rows → Fleet
-fleet_of mode rows = λ agent. option_map (route_in mode) (rows agent)
+abbrev pub fleet_in_mode : Mode → prices.Rows → Fleet
+fleet_in_mode mode rows = λ agent. option_map (route_in mode) (rows agent)
 
 -- the books are those of the agents' rows on that map, in that mode
 pub record Keep (mode : Mode) (grid : Chart) (rows : prices.Rows) (books : BooksState) : Type 0 where
-  pub fleet : fleets.AreOf (fleet_of mode rows) books.fleet
-  pub prices : prices.AreOf grid rows books.prices
+  pub fleet : fleets.AreOfFleet (fleet_in_mode mode rows) books.fleet
+  pub prices : prices.AreOfRows grid rows books.prices
   pub lines : WhereLinesStand grid rows books.lines
 
 -- the books are those of the scene
@@ -40,4 +40,4 @@ pub record Know (mode : Mode) (grid : Chart) (agent : ℕ) (row : Option Row) (b
 
 -- books of any rows among which the agent has the one row become those of the rows with the other in its place
 abbrev pub Renews : Mode → Chart → ℕ → Option Row → Option Row → BooksState → BooksState → Type 0
-Renews mode grid agent before after old new = (rows : prices.Rows) → Keep mode grid rows old → rows agent ≡ before → Keep mode grid (prices.with_row rows agent after) new
+Renews mode grid agent before after old new = (rows : prices.Rows) → Keep mode grid rows old → rows agent ≡ before → Keep mode grid (prices.with_row_in rows agent after) new

@@ -14,13 +14,13 @@ pub record FleetState : Type 0 where
   pub conflicts : List Conflict
 
 -- the books are those of the fleet
-pub record AreOf (fleet : Fleet) (books : FleetState) : Type 0 where
+pub record AreOfFleet (fleet : Fleet) (books : FleetState) : Type 0 where
   pub index : StandsFor books.index fleet
   pub entries : HasEntries books.conflicts fleet
 
 -- books of any fleet in which the agent has the one route become those of the fleet with the other in its place
 abbrev pub Reroutes : ℕ → Option Route → Option Route → FleetState → FleetState → Type 0
-Reroutes agent before after old new = (fleet : Fleet) → AreOf fleet old → fleet agent ≡ before → AreOf (with_route fleet agent after) new
+Reroutes agent before after old new = (fleet : Fleet) → AreOfFleet fleet old → fleet agent ≡ before → AreOfFleet (with_route fleet agent after) new
 
 -- the visit to the cell of an agent that passes through it
 abbrev pub visit_to : Point → Passing → Visit

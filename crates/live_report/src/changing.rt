@@ -139,7 +139,7 @@ fn reprice(
 ) -> Result<PriceBooks, OutOfMemory>
     requires alike { SamePlaces old.now.plan.now row.now.plan old.now.alike }
     requires inside { Holds grid.now.size row.now.goal }
-    requires know { (rows : Rows) × priced.AreOf grid.now rows prices × (rows agent ≡ Some (as_row old.now)) }
+    requires know { (rows : Rows) × priced.AreOfRows grid.now rows prices × (rows agent ≡ Some (as_row old.now)) }
     ensures { IfOk result (priced.Reprices grid.now agent (Some (as_row old.now)) (Some row.now) prices) }
 {
     let planned = replan(prices, agent, old, row, grid)?;
@@ -155,7 +155,7 @@ fn replan(
     grid: &Grid,
 ) -> Result<PriceBooks, OutOfMemory>
     requires alike { SamePlaces old.now.plan.now row.now.plan old.now.alike }
-    requires know { (rows : Rows) × priced.AreOf grid.now rows prices × (rows agent ≡ Some (as_row old.now)) }
+    requires know { (rows : Rows) × priced.AreOfRows grid.now rows prices × (rows agent ≡ Some (as_row old.now)) }
     ensures { IfOk result (priced.Reprices grid.now agent (Some (as_row old.now)) (Some (record { goal = old.now.goal; plan = row.now.plan })) prices) }
 {
     if is_same_plan(old.plan, &row.plan, old.alike) {

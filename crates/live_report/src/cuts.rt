@@ -6,7 +6,7 @@ ghost use Rattle.plan_table.specs.declared.tracks.Mode.{Mode};
 ghost use Rattle.mapf_rules.specs.ConflictList.{AreConflicts};
 ghost use Rattle.mapf_rules.specs.declared.entries.Conflict.{Conflict};
 ghost use Rattle.conflict_ledger.specs.Named.{AreNamed};
-ghost use Rattle.cost_ledger.specs.Ledger.{StandsFor};
+ghost use Rattle.cost_ledger.specs.Ledger.{StandsForMap};
 ghost use Rattle.desk_report.specs.Cut.{is_one, IsCutOf};
 ghost use Rattle.live_report.specs.Lines.{AreOpenLines};
 ghost use Rattle.live_report.specs.Rows.{HavePathsOn};
@@ -67,7 +67,7 @@ pub(crate) fn quick_cut(
 ) -> Result<Report, OutOfMemory>
     requires { length lines.now ≤ MOST_AGENT + 1 }
     ensures { IfOk result (λ cut. (grid : Chart) (mode : Mode) (entries : List Conflict) →
-        StandsFor costs.now grid
+        StandsForMap costs.now grid
         → AreOpenLines grid costs.now.rows lines.now
         → HavePathsOn grid costs.now.rows
         → AreConflicts (tracks_of mode costs.now.rows) entries

@@ -7,7 +7,7 @@ ghost use Rattle.conflict_ledger.specs.Named.{AreNamed};
 ghost use Rattle.desk_report.specs.Cut.{IsCutOf};
 ghost use Rattle.scene_edits.specs.Scene.{SceneState};
 ghost use Rattle.live_report.specs.Books.{AreOf};
-ghost use Rattle.live_report.specs.Fleet.{AreOf as AreOfFleet};
+ghost use Rattle.live_report.specs.Fleet.{AreOfFleet};
 ghost use Rattle.live_report.specs.Lines.{AreLinesOf};
 
 use crate::books::Books;

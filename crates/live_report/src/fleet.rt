@@ -7,7 +7,7 @@ ghost use Rattle.where_index.specs.Records.{nothing, records_apart};
 ghost use Rattle.mapf_rules.specs.ConflictList.{AreConflicts};
 ghost use Rattle.cost_ledger.specs.Through.{AreThrough};
 ghost use Rattle.scene_edits.specs.Since.{IsSince};
-ghost use Rattle.live_report.specs.Fleet.{AreOf, Reroutes};
+ghost use Rattle.live_report.specs.Fleet.{AreOfFleet, Reroutes};
 
 use crate::visitors::visits_to;
 use conflict_ledger::ConflictLedger;
@@ -38,7 +38,7 @@ impl Model for FleetBooks {
 impl FleetBooks {
     /// The books of no agents.
     pub fn new(alloc: Global) -> FleetBooks
-        ensures books { AreOf (λ _. None) result }
+        ensures books { AreOfFleet (λ _. None) result }
         ensures touched { result.index.touched ≡ 0 }
     {
         FleetBooks {
@@ -128,7 +128,7 @@ impl FleetBooks {
     ///
     /// Want of memory.
     pub fn conflicts(&self) -> Result<List<Conflict>, OutOfMemory>
-        ensures { IfOk result (λ entries. (fleet : Fleet) → AreOf fleet self.now → AreConflicts fleet entries) }
+        ensures { IfOk result (λ entries. (fleet : Fleet) → AreOfFleet fleet self.now → AreConflicts fleet entries) }
     {
         self.conflicts.listed()
     }
@@ -147,7 +147,8 @@ impl FleetBooks {
     ///
     /// Want of memory.
     pub fn visits(&self, alloc: Global, cell: Cell) -> Result<Vec<Visit>, OutOfMemory>
-        ensures { IfOk result (λ visits. (mode : Mode) (rows : List (ℕ × Row)) → AreOf (tracks_of mode rows) self.now → AreThrough rows cell visits.items) }
+        ensures { IfOk result (λ visits. (mode : Mode) (rows : List (ℕ × Row)) → AreOfFleet (tracks_of mode rows) self.now
+            → AreThrough rows cell visits.items) }
     {
         let passings = self.index.coming_through(cell, Step::new(0))?;
         visits_to(alloc, cell, passings.items())

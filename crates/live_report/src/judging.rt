@@ -4,10 +4,10 @@ ghost use Rattle.plan_table.specs.Route.{tracks_of};
 ghost use Rattle.plan_table.specs.declared.tracks.Mode.{Mode};
 ghost use Rattle.conflict_ledger.specs.Kept.{HasEntries};
 ghost use Rattle.mapf_rules.specs.ConflictList.{IsListed};
-ghost use Rattle.cost_ledger.specs.Ledger.{StandsFor};
+ghost use Rattle.cost_ledger.specs.Ledger.{StandsForMap};
 ghost use Rattle.goal_fields.specs.Held.{StandFor};
 ghost use Rattle.desk_report.specs.Solves.{IsVerdict};
-ghost use Rattle.live_report.specs.Asked.{HasAsked, HasNamed};
+ghost use Rattle.live_report.specs.Asked.{HasAsked, HasAnyAsked};
 ghost use Rattle.live_report.specs.Rows.{HaveFields, HavePathsOn};
 
 use conflict_ledger::ConflictLedger;
@@ -26,7 +26,7 @@ pub fn quick_solves(
 ) -> bool
     ensures { (grid : Chart) (mode : Mode) →
         HasEntries conflicts.now (tracks_of mode costs.now.rows)
-        → StandsFor costs.now grid
+        → StandsForMap costs.now grid
         → StandFor grid fields.now.fields
         → HaveFields costs.now.rows fields.now.fields
         → HavePathsOn grid costs.now.rows
@@ -45,7 +45,7 @@ pub fn quick_solves(
 
 // Whether the ledger has an entry of a kind that is asked about.
 fn has_named(conflicts: &ConflictLedger, kinds: Kinds) -> bool
-    ensures named { IsTrue result ↔ HasNamed kinds conflicts.now }
+    ensures named { IsTrue result ↔ HasAnyAsked kinds conflicts.now }
     ensures once { IsListed conflicts.now }
 {
     has_asked(conflicts, kinds, Kind::Vertex)

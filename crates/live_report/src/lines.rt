@@ -4,7 +4,7 @@ ghost use Rattle.goal_fields.specs.Held.{HasGoal, StandFor};
 ghost use Rattle.plan_table.specs.Plans.{IsByAgent, IsAt, IsGapFor};
 ghost use Rattle.plan_table.specs.declared.plans.Row.{Row};
 ghost use Rattle.live_report.specs.Lines.{IsOpenLine, AreOpenLines, AreLinesOf, GoWith};
-ghost use Rattle.live_report.specs.Prices.{Rows, with_row};
+ghost use Rattle.live_report.specs.Prices.{Rows, with_row_in};
 ghost use Rattle.live_report.specs.Rows.{HaveFields};
 
 use crate::bounds::bound;
@@ -56,7 +56,7 @@ impl Lines {
     /// Gives an agent its line, in the place of the one that it had.
     pub fn put(&mut self, line: AgentLine) -> Result<(), OutOfMemory>
         ensures { OnOk result ((grid : Chart) (rows : Rows) (row : Row) → AreLinesOf grid rows self.old
-            → IsOpenLine grid (line.agent, row) line → AreLinesOf grid (with_row rows line.agent (Some row)) self.new) }
+            → IsOpenLine grid (line.agent, row) line → AreLinesOf grid (with_row_in rows line.agent (Some row)) self.new) }
     {
         match self.search(line.agent) {
             Ok(at) => {
@@ -72,7 +72,7 @@ impl Lines {
 
     /// Takes the agent's line out, if it has one.
     pub fn take(&mut self, agent: Agent)
-        ensures { (grid : Chart) (rows : Rows) → AreLinesOf grid rows self.old → AreLinesOf grid (with_row rows agent None) self.new }
+        ensures { (grid : Chart) (rows : Rows) → AreLinesOf grid rows self.old → AreLinesOf grid (with_row_in rows agent None) self.new }
     {
         if let Ok(at) = self.search(agent) {
             self.lines.remove(at);

@@ -3,8 +3,8 @@ ghost use Rattle.grid_cells.specs.Grid.{Chart};
 ghost use Rattle.plan_table.specs.Route.{tracks_of};
 ghost use Rattle.plan_table.specs.declared.tracks.Mode.{Mode};
 ghost use Rattle.goal_fields.specs.Target.{Covers};
-ghost use Rattle.cost_ledger.specs.Ledger.{StandsFor, SameBut, SameAt};
-ghost use Rattle.live_report.specs.Fleet.{AreOf};
+ghost use Rattle.cost_ledger.specs.Ledger.{StandsForMap, SameClosedBut, SameAt};
+ghost use Rattle.live_report.specs.Fleet.{AreOfFleet};
 
 use crate::fleet::FleetBooks;
 use cost_ledger::CostLedger;
@@ -22,8 +22,8 @@ pub(crate) fn flip_all(
 ) -> Result<CostLedger, OutOfMemory>
     ensures rows { IfOk result (λ ledger. ledger.rows ≡ costs.rows) }
     ensures stands { IfOk result (λ ledger. (mode : Mode) (old : Chart)
-        → AreOf (tracks_of mode costs.rows) fleet.now
-        → old.size ≡ grid.now.size → Covers cells.now old grid.now → StandsFor costs old → StandsFor ledger grid.now) }
+        → AreOfFleet (tracks_of mode costs.rows) fleet.now
+        → old.size ≡ grid.now.size → Covers cells.now old grid.now → StandsForMap costs old → StandsForMap ledger grid.now) }
 {
     let mut ledger = costs;
     for cell in cells {
@@ -42,8 +42,8 @@ fn flip_one(
 ) -> Result<CostLedger, OutOfMemory>
     ensures rows { IfOk result (λ ledger. ledger.rows ≡ costs.rows) }
     ensures stands { IfOk result (λ ledger. (mode : Mode) (old new : Chart)
-        → AreOf (tracks_of mode costs.rows) fleet.now
-        → StandsFor costs old → SameBut old new cell → SameAt grid.now new cell → StandsFor ledger new) }
+        → AreOfFleet (tracks_of mode costs.rows) fleet.now
+        → StandsForMap costs old → SameClosedBut old new cell → SameAt grid.now new cell → StandsForMap ledger new) }
 {
     let Ok(visits) = fleet.visits(alloc, cell) else {
         drop(costs);

@@ -7,7 +7,7 @@ ghost use Rattle.plan_table.specs.declared.plans.Row.{Row};
 ghost use Rattle.goal_fields.specs.Target.{Covers};
 ghost use Rattle.goal_fields.specs.Held.{StandFor};
 ghost use Rattle.plan_table.specs.declared.tracks.Mode.{Mode};
-ghost use Rattle.live_report.specs.Prices.{Rows, with_row, AimsAt, AreOf};
+ghost use Rattle.live_report.specs.Prices.{Rows, with_row_in, AimsAt, AreOfRows};
 ghost use Rattle.live_report.specs.Books.{Keep};
 
 use crate::fleet::FleetBooks;
@@ -39,7 +39,7 @@ impl Model for PriceBooks {
 impl PriceBooks {
     /// Books of no rows, for every map.
     pub fn new(alloc: Global) -> PriceBooks
-        ensures { (grid : Chart) → AreOf grid (λ _. None) result }
+        ensures { (grid : Chart) → AreOfRows grid (λ _. None) result }
     {
         PriceBooks {
             costs: CostLedger::new(alloc),
@@ -76,8 +76,8 @@ impl PriceBooks {
         requires absent { row_of self.costs.rows agent ≡ None }
         requires inside { Holds grid.now.size goal }
         requires stand { StandFor grid.now self.fields }
-        ensures kept { IfOk result (λ books. (fleet : Rows) → AreOf grid.now fleet self
-            → AreOf grid.now (with_row fleet agent (Some (record { goal = goal; plan = plan.now }))) books) }
+        ensures kept { IfOk result (λ books. (fleet : Rows) → AreOfRows grid.now fleet self
+            → AreOfRows grid.now (with_row_in fleet agent (Some (record { goal = goal; plan = plan.now }))) books) }
         ensures stand { IfOk result (λ books. StandFor grid.now books.fields) }
     {
         let PriceBooks { costs, goals } = self;
@@ -94,7 +94,8 @@ impl PriceBooks {
 
     /// Takes the agent's row out. The goal is that of the row.
     pub fn take(&mut self, agent: Agent, goal: Cell)
-        ensures kept { (grid : Chart) (fleet : Rows) → AreOf grid fleet self.old → AimsAt fleet agent goal → AreOf grid (with_row fleet agent None) self.new }
+        ensures kept { (grid : Chart) (fleet : Rows) → AreOfRows grid fleet self.old → AimsAt fleet agent goal
+            → AreOfRows grid (with_row_in fleet agent None) self.new }
         ensures stand { (grid : Chart) → StandFor grid self.old.fields → StandFor grid self.new.fields }
     {
         self.costs.take(agent);
@@ -116,8 +117,8 @@ impl PriceBooks {
     ) -> Result<PriceBooks, OutOfMemory>
         requires inside { Holds grid.now.size goal }
         requires stand { StandFor grid.now self.fields }
-        ensures kept { IfOk result (λ books. (fleet : Rows) (row : Row) → AreOf grid.now fleet self
-            → fleet agent ≡ Some row → row.goal ≡ before → AreOf grid.now (with_row fleet agent (Some (record row { goal = goal }))) books) }
+        ensures kept { IfOk result (λ books. (fleet : Rows) (row : Row) → AreOfRows grid.now fleet self
+            → fleet agent ≡ Some row → row.goal ≡ before → AreOfRows grid.now (with_row_in fleet agent (Some (record row { goal = goal }))) books) }
         ensures stand { IfOk result (λ books. StandFor grid.now books.fields) }
     {
         if before == goal {
@@ -149,8 +150,8 @@ impl PriceBooks {
         grid: &Grid,
     ) -> Result<PriceBooks, OutOfMemory>
         requires { IfSome (row_of self.costs.rows agent) (λ row. SamePlaces row.plan plan.now known) }
-        ensures kept { IfOk result (λ books. (fleet : Rows) → AreOf grid.now fleet self → AimsAt fleet agent goal
-            → AreOf grid.now (with_row fleet agent (Some (record { goal = goal; plan = plan.now }))) books) }
+        ensures kept { IfOk result (λ books. (fleet : Rows) → AreOfRows grid.now fleet self → AimsAt fleet agent goal
+            → AreOfRows grid.now (with_row_in fleet agent (Some (record { goal = goal; plan = plan.now }))) books) }
         ensures fields { IfOk result (λ books. books.fields ≡ self.fields) }
     {
         let PriceBooks { costs, goals } = self;
@@ -178,7 +179,7 @@ impl PriceBooks {
         requires covered { All (λ field. Covers cells.now field.grid grid.now) self.fields }
         ensures kept { IfOk result (λ books. (mode : Mode) (old : Chart) (rows : Rows)
             → Keep mode old rows (record { fleet = fleet.now; prices = self; lines = None })
-            → old.size ≡ grid.now.size → Covers cells.now old grid.now → AreOf grid.now rows books) }
+            → old.size ≡ grid.now.size → Covers cells.now old grid.now → AreOfRows grid.now rows books) }
         ensures stand { IfOk result (λ books. StandFor grid.now books.fields) }
     {
         let PriceBooks { costs, mut goals } = self;

@@ -3,7 +3,7 @@ ghost use Rattle.grid_cells.specs.Grid.{Chart};
 ghost use Rattle.plan_table.specs.Route.{tracks_of};
 ghost use Rattle.plan_table.specs.declared.tracks.Mode.{Mode};
 ghost use Rattle.mapf_rules.specs.ConflictList.{AreConflicts};
-ghost use Rattle.cost_ledger.specs.Ledger.{StandsFor};
+ghost use Rattle.cost_ledger.specs.Ledger.{StandsForMap};
 ghost use Rattle.desk_report.specs.Report.{IsReportOf};
 ghost use Rattle.live_report.specs.Lines.{AreOpenLines};
 ghost use Rattle.live_report.specs.Rows.{HavePathsOn};
@@ -32,7 +32,7 @@ pub fn quick_report(
 ) -> Result<Report, OutOfMemory>
     requires { length lines.now ≤ MOST_AGENT + 1 }
     ensures { IfOk result (λ report. (grid : Chart) (mode : Mode) →
-        StandsFor costs.now grid
+        StandsForMap costs.now grid
         → AreOpenLines grid costs.now.rows lines.now
         → HavePathsOn grid costs.now.rows
         → AreConflicts (tracks_of mode costs.now.rows) conflicts

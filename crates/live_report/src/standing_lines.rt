@@ -5,7 +5,7 @@ ghost use Rattle.grid_cells.specs.Grid.{Chart};
 ghost use Rattle.goal_fields.specs.Target.{Covers};
 ghost use Rattle.goal_fields.specs.Held.{HasGoal, StandFor};
 ghost use Rattle.live_report.specs.Lines.{WhereLinesStand};
-ghost use Rattle.live_report.specs.Prices.{Rows, with_row, AreOf};
+ghost use Rattle.live_report.specs.Prices.{Rows, with_row_in, AreOfRows};
 
 use crate::lines::{Lines, line};
 use crate::prices::PriceBooks;
@@ -22,7 +22,7 @@ pub(crate) fn with_line(
 ) -> Option<Lines>
     requires { HasGoal fields.now.fields row.now.goal }
     ensures { (grid : Chart) (rows : Rows) → StandFor grid fields.now.fields → WhereLinesStand grid rows lines
-        → WhereLinesStand grid (with_row rows agent (Some row.now)) result }
+        → WhereLinesStand grid (with_row_in rows agent (Some row.now)) result }
 {
     let mut lines = lines?;
     match lines.put(line(agent, row, fields)) {
@@ -36,7 +36,7 @@ pub(crate) fn with_line(
 
 // The agent has no row.
 pub(crate) fn without_line(lines: Option<Lines>, agent: Agent) -> Option<Lines>
-    ensures { (grid : Chart) (rows : Rows) → WhereLinesStand grid rows lines → WhereLinesStand grid (with_row rows agent None) result }
+    ensures { (grid : Chart) (rows : Rows) → WhereLinesStand grid rows lines → WhereLinesStand grid (with_row_in rows agent None) result }
 {
     let mut lines = lines?;
     lines.take(agent);
@@ -51,7 +51,7 @@ pub(crate) fn unflipped(
     prices: &PriceBooks,
     grid: &Grid,
 ) -> Option<Lines>
-    ensures { (old : Chart) (rows : Rows) → AreOf old rows prices.now → old.size ≡ grid.now.size → Covers cells.now old grid.now
+    ensures { (old : Chart) (rows : Rows) → AreOfRows old rows prices.now → old.size ≡ grid.now.size → Covers cells.now old grid.now
         → WhereLinesStand old rows lines → WhereLinesStand grid.now rows result }
 {
     let _size = grid.size();

@@ -6,13 +6,13 @@ use Rattle.desk_cli.specs.declared.words.HostWords.{HostWords}
 use Rattle.file_runs.specs.Ends.{IsOpened, IsSavedIn, Savings}
 use Rattle.file_runs.specs.Files.{OfFiles}
 use Rattle.shared_runs.specs.declared.hosts.hosting.HostEnd.{HostEnd}
-use Rattle.mapf_desk.specs.Hosted.{HasHosted, IsEndOf}
+use Rattle.mapf_desk.specs.Hosted.{HasHosted, IsRunEndOf}
 use Rattle.mapf_desk.specs.declared.statuses.RunEnd.{RunEnd}
 
 pub hosted : {E : Type 0} (holds : List ℕ → Option (List ℕ)) (has_saved : Savings) (words : HostWords) (start : DeskState) (end : HostEnd) (held : Option (List ℕ)) (result : Result RunEnd E)
     → OfFiles holds (option_copied words.desk.map) (option_copied words.desk.scen) (option_copied words.desk.journal) (IsOpened words.desk start)
     → held ≡ option_copied words.desk.save
-    → IfOk result (IsEndOf end) → IfOk result (λ run. IsSavedIn has_saved held end.desk) → IfOk result (HasHosted holds has_saved words)
+    → IfOk result (IsRunEndOf end) → IfOk result (λ run. IsSavedIn has_saved held end.desk) → IfOk result (HasHosted holds has_saved words)
 hosted holds has_saved words start end held (Ok run) files save ended saved = record {
   named = files.named;
   texts = files.texts;

@@ -4,7 +4,7 @@ use Rattle.std.specs.Option.{option_copied, option_or}
 use Rattle.desk_cli.specs.declared.words.Words.{Words}
 use Rattle.desk_cli.specs.declared.words.Words.TheVariants.{Version, Serve, Audit, Drill, Host, Check, Draw, Page}
 use Rattle.desk_io.specs.Texts.{untold}
-use Rattle.file_runs.specs.Ends.{HasServed, unsaid}
+use Rattle.file_runs.specs.Ends.{HasNoFault, unsaid}
 use Rattle.file_runs.specs.Files.{OfFiles}
 use Rattle.file_runs.specs.Runs.{HasAudited, HasChecked, HasDrawn, HasPaged}
 use Rattle.mapf_desk.specs.Drilled.{HasDrilled, OfScripts}
@@ -18,7 +18,7 @@ abbrev pub Ends : Words → RunEnd → Type 0
 Ends Version end = end ≡ Yes
 Ends (Serve words) end =
     (end ≡ Yes)
-    × OfFiles untold (option_copied words.map) (option_copied words.scen) (option_copied words.journal) (HasServed unsaid words)
+    × OfFiles untold (option_copied words.map) (option_copied words.scen) (option_copied words.journal) (HasNoFault unsaid words)
 Ends (Audit words) end =
     (end ≡ Yes) × OfFiles untold (Some words.map.now) (option_copied words.scen) (option_copied words.journal) (HasAudited words)
 Ends (Drill words) end =

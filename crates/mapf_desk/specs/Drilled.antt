@@ -20,5 +20,5 @@ pub record OfScripts (holds : List ℕ → Option (List ℕ)) (words : DrillWord
   pub texts : OfFiles holds (Some words.map.now) (option_copied words.scen) None (λ map scen none. IsSo map scen scripts)
 
 -- agents are asked for, and no scenario that has their tasks
-abbrev pub LacksTasks : DrillWords → Type 0
-LacksTasks words = (0 < words.agents) × (words.scen ≡ None)
+abbrev pub LacksDrillTasks : DrillWords → Type 0
+LacksDrillTasks words = (0 < words.agents) × (words.scen ≡ None)

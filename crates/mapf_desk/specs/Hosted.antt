@@ -21,8 +21,8 @@ abbrev pub has_fault : HostEnd → Bool
 has_fault end = is_err end.operator || list_any (λ ended. is_err ended) end.planners.items
 
 -- the run's end says whether a session had a fault, and else whether the audit's report is the desk's
-abbrev pub IsEndOf : HostEnd → RunEnd → Type 0
-IsEndOf end run = (same : Bool) × (end.same ≡ Ok same) × (run ≡ host_end (has_fault end) same)
+abbrev pub IsRunEndOf : HostEnd → RunEnd → Type 0
+IsRunEndOf end run = (same : Bool) × (end.same ≡ Ok same) × (run ≡ host_end (has_fault end) same)
 
 -- that there are no seats, as the program has it
 abbrev pub unseated : PipesFault → ProgramFault
@@ -33,7 +33,7 @@ unseated (pipes.InUse name) = program.InUse name
 abbrev pub HostsBy : Savings → HostWords → (map scen journal : Option (List ℕ)) → RunEnd → Type 0
 HostsBy has_saved words map scen journal run =
     (start : DeskState) × (end : HostEnd) × IsOpened words.desk start map scen journal
-    × IsEndOf end run × IsSavedIn has_saved (option_copied words.desk.save) end.desk
+    × IsRunEndOf end run × IsSavedIn has_saved (option_copied words.desk.save) end.desk
 
 -- and the texts are those of the files of the words, each in its place
 abbrev pub HasHosted : (List ℕ → Option (List ℕ)) → Savings → HostWords → RunEnd → Type 0

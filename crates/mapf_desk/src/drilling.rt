@@ -3,7 +3,7 @@ ghost use Rattle.std.specs.Prelude.{◌≡◌, [], Err, IfErr, IfOk, unwrap_or};
 ghost use Rattle.shared_runs.specs.DrillFaults.{FailsDrill};
 ghost use Rattle.shared_runs.specs.Drills.{Drills, inputs_of};
 ghost use Rattle.solver_check.specs.Opens.{bytes_of};
-ghost use Rattle.mapf_desk.specs.Drilled.{HasDrilled, LacksTasks, OfScripts};
+ghost use Rattle.mapf_desk.specs.Drilled.{HasDrilled, LacksDrillTasks, OfScripts};
 
 use desk_cli::DrillWords;
 use desk_io::{
@@ -33,7 +33,7 @@ pub fn drill_files<R: AllocGlobal + Print + Eprint + Threads + Wait + Clock + Sy
     more: &mut More,
     verbose: bool,
 ) -> Result<bool, Fault>
-    ensures asked { LacksTasks words.now → result ≡ Err Fault.AgentsWithoutScen }
+    ensures asked { LacksDrillTasks words.now → result ≡ Err Fault.AgentsWithoutScen }
     ensures drilled { IfOk result (λ same. OfScripts (F.holds folder.now) words.now (λ map scen scripts. HasDrilled words.now map scen scripts same)) }
 {
     if words.agents > 0 && words.scen.is_none() {

@@ -3,7 +3,7 @@ ghost use Rattle.std.specs.Prelude.{◌≡◌, ◌++◌, IfOk, codes, is_err, op
 ghost use Rattle.std.specs.List.{list_any};
 ghost use Rattle.file_runs.specs.Ends.{IsSavedIn};
 ghost use Rattle.shared_runs.specs.Drills.{same_line};
-ghost use Rattle.mapf_desk.specs.Hosted.{IsEndOf, has_fault, unseated};
+ghost use Rattle.mapf_desk.specs.Hosted.{IsRunEndOf, has_fault, unseated};
 ghost use Rattle.mapf_desk.specs.Statuses.{host_end};
 
 use crate::print_line;
@@ -25,7 +25,7 @@ pub(crate) fn end_hosted<R: AllocGlobal + Print, S: Saver>(
     held: Option<Held<S::Place>>,
     more: &mut More,
 ) -> Result<RunEnd, ProgramFault>
-    ensures end { IfOk result (IsEndOf end.now) }
+    ensures end { IfOk result (IsRunEndOf end.now) }
     ensures saved { IfOk result (λ _. IsSavedIn (S.has_saved saver.now) (option_map (λ held. held.file.now) held) end.now.desk) }
 {
     match save_held(saver, &end.desk, held, more) {

@@ -6,15 +6,15 @@ use Rattle.grid_cells.specs.Cell.{Point}
 use Rattle.plan_table.specs.declared.paths.TheConstants.{MOST_LAST_INDEX}
 use Rattle.scene_edits.specs.declared.scenes.TheConstants.{MOST_AGENTS}
 use Rattle.path_files.specs.Answers.{and_then, unless}
-use Rattle.path_files.specs.Lines.{behind, behind_blanks, labelled}
-use Rattle.path_files.specs.Cells.{cells_of}
+use Rattle.path_files.specs.Lines.{behind, behind_blanks, behind_label}
+use Rattle.path_files.specs.Cells.{cells_listed}
 use Rattle.path_files.specs.declared.faults.PathsFault.{PathsFault}
 use Rattle.path_files.specs.declared.faults.PathsFault.TheVariants.{BadAgent, NoCells, TooManyAgents, TooLong}
 use Rattle.path_files.specs.declared.cells.Notation.TheVariants.{Arrows}
 
 -- what stands behind `Agent N:` and blanks
 abbrev pub cells_behind : ℕ → List ℕ → Option (List ℕ)
-cells_behind agent line = option_map behind_blanks (option_and_then (labelled agent) (behind (codes "Agent ") line))
+cells_behind agent line = option_map behind_blanks (option_and_then (behind_label agent) (behind (codes "Agent ") line))
 
 -- the fault of a path of so many cells
 abbrev pub path_fault : ℕ → ℕ → Option PathsFault
@@ -24,7 +24,7 @@ path_fault line cells =
 
 -- the path of those cells
 abbrev pub path_behind : ℕ → List ℕ → Result (List Point) PathsFault
-path_behind line cells = and_then (cells_of Arrows line cells) (λ path. unless (path_fault line (length path)) path)
+path_behind line cells = and_then (cells_listed Arrows line cells) (λ path. unless (path_fault line (length path)) path)
 
 -- the path of an agent
 abbrev pub path_at : ℕ → ℕ → List ℕ → Result (List Point) PathsFault

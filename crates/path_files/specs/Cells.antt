@@ -22,15 +22,15 @@ ordered Commas first second = point first second
 ordered Arrows first second = point second first
 
 -- the cell between brackets: two numbers and a comma
-abbrev pub cell_of : Notation → List ℕ → Option Point
-cell_of notation pair =
+abbrev pub cell_between : Notation → List ℕ → Option Point
+cell_between notation pair =
     option_and_then
     (λ parts. option_and_then (λ first. option_and_then (λ second. Some (ordered notation first second)) (place_of parts.1)) (place_of parts.0))
     (cut 44 pair)
 
 -- the cell of a part that ends before its `)`: what joins it to the one before, `(`, and the pair
 abbrev pub cell_in : Notation → List ℕ → List ℕ → Option Point
-cell_in notation front part = option_and_then (cell_of notation) (option_and_then (behind (codes "(")) (behind front part))
+cell_in notation front part = option_and_then (cell_between notation) (option_and_then (behind (codes "(")) (behind front part))
 
 -- the fault of a part that is no cell, at its place in the list
 abbrev pub IsBadCell : Notation → ℕ → ℕ → List ℕ → List ℕ → PathsFault → Type 0
@@ -49,5 +49,5 @@ cells_from notation line front cells (part ∷ next ∷ parts) =
     (cell_in notation front part) (Err (BadCell line (length cells)))
 
 -- the cells of a list, or the first that isn't one
-abbrev pub cells_of : Notation → ℕ → List ℕ → Result (List Point) PathsFault
-cells_of notation line text = cells_from notation line [] [] (parts_of text)
+abbrev pub cells_listed : Notation → ℕ → List ℕ → Result (List Point) PathsFault
+cells_listed notation line text = cells_from notation line [] [] (parts_of text)

@@ -6,7 +6,7 @@ use Rattle.grid_cells.specs.Cell.{Point}
 use Rattle.path_files.specs.Answers.{and_then}
 use Rattle.path_files.specs.Forms.{is_told}
 use Rattle.path_files.specs.Lines.{behind}
-use Rattle.path_files.specs.Rows.{row_of}
+use Rattle.path_files.specs.Rows.{row_in_line}
 use Rattle.path_files.specs.declared.faults.PathsFault.{PathsFault}
 use Rattle.path_files.specs.declared.faults.PathsFault.TheVariants.{RepeatedList, BadHeader}
 use Rattle.path_files.specs.declared.heads.Head.{Head}
@@ -24,7 +24,7 @@ agents_told head = first_length head.starts head.goals
 
 -- a list of that line, where the head doesn't have it yet
 abbrev pub list_of : Head → Option (List Point) → ℕ → List ℕ → Result (List Point) PathsFault
-list_of head list line text = if is_some list then Err (RepeatedList line) else row_of line (agents_told head) text
+list_of head list line text = if is_some list then Err (RepeatedList line) else row_in_line line (agents_told head) text
 
 -- the head with the starts, or with the goals, of that line
 abbrev pub with_starts : Head → ℕ → List ℕ → Result Head PathsFault

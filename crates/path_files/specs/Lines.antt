@@ -39,6 +39,6 @@ abbrev pub cut : ℕ → List ℕ → Option (List ℕ × List ℕ)
 cut mark text = option_map (λ place. (take place text, drop (place + 1) text)) (position (λ byte. byte == mark) text)
 
 -- what stands behind a number and a colon, where the line begins with them
-abbrev pub labelled : ℕ → List ℕ → Option (List ℕ)
-labelled number line =
+abbrev pub behind_label : ℕ → List ℕ → Option (List ℕ)
+behind_label number line =
     option_and_then (λ parts. option_and_then (λ told. if told == number then Some parts.1 else None) (number_of parts.0)) (cut 58 line)

@@ -5,8 +5,8 @@ use Rattle.std.specs.Option.{option_map_or}
 use Rattle.grid_cells.specs.Cell.{Point}
 use Rattle.plan_table.specs.declared.paths.TheConstants.{MOST_LAST_INDEX}
 use Rattle.path_files.specs.Answers.{and_then}
-use Rattle.path_files.specs.Lines.{Line, labelled}
-use Rattle.path_files.specs.Rows.{row_of, with_row}
+use Rattle.path_files.specs.Lines.{Line, behind_label}
+use Rattle.path_files.specs.Rows.{row_in_line, paths_with_row}
 use Rattle.path_files.specs.Heads.{agents_told, with_line}
 use Rattle.path_files.specs.declared.faults.PathsFault.{PathsFault}
 use Rattle.path_files.specs.declared.faults.PathsFault.TheVariants.{BadTime, TooLong, NoPaths, MissingSolution}
@@ -17,13 +17,13 @@ use Rattle.path_files.specs.declared.paths.SolverPaths.{SolverPaths}
 -- the row of a time
 abbrev pub row_at : ℕ → Option ℕ → ℕ → List ℕ → Result (List Point) PathsFault
 row_at time count line bytes =
-    option_map_or (λ cells. if nat_lt MOST_LAST_INDEX time then Err (TooLong line) else row_of line count cells) (labelled time bytes) (Err (BadTime line))
+    option_map_or (λ cells. if nat_lt MOST_LAST_INDEX time then Err (TooLong line) else row_in_line line count cells) (behind_label time bytes) (Err (BadTime line))
 
 -- the paths so far, of so many times, and the rows of these lines
 abbrev pub times_from : ℕ → Option ℕ → List (List Point) → List Line → Result (List (List Point)) PathsFault
 times_from time count paths [] = if time == 0 then Err NoPaths else Ok paths
 times_from time count paths (line ∷ lines) =
-    and_then (row_at time count line.number line.bytes) (λ row. times_from (time + 1) (Some (length row)) (with_row paths row) lines)
+    and_then (row_at time count line.number line.bytes) (λ row. times_from (time + 1) (Some (length row)) (paths_with_row paths row) lines)
 
 -- the paths of the lines behind `solution=`
 abbrev pub times_of : Head → List Line → Result SolverPaths PathsFault

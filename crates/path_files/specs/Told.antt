@@ -14,15 +14,15 @@ use Rattle.path_files.specs.declared.forms.Form.TheVariants.{BySession}
 use Rattle.path_files.specs.declared.paths.SolverPaths.{SolverPaths}
 
 -- the path in a line, where that of the agent `due` is the next; a remark in a session has none
-abbrev pub path_told : Form → ℕ → Line → Result (Option (List Point)) PathsFault
-path_told BySession due line = path_in due line.number (request_of line.bytes)
-path_told _ due line = and_then (path_at due line.number line.bytes) (λ path. Ok (Some path))
+abbrev pub path_in_line : Form → ℕ → Line → Result (Option (List Point)) PathsFault
+path_in_line BySession due line = path_in due line.number (request_of line.bytes)
+path_in_line _ due line = and_then (path_at due line.number line.bytes) (λ path. Ok (Some path))
 
 -- the paths so far, of the agents before `due`, and those of these lines
 abbrev pub told_from : Form → ℕ → List (List Point) → List Line → Result (List (List Point)) PathsFault
 told_from form due paths [] = if due == 0 then Err NoPaths else Ok paths
 told_from form due paths (line ∷ lines) =
-    and_then (path_told form due line)
+    and_then (path_in_line form due line)
     (λ told. option_map_or (λ path. told_from form (due + 1) (paths ++ path ∷ []) lines) told (told_from form due paths lines))
 
 -- what the lines spell

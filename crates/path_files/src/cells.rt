@@ -1,7 +1,7 @@
 ghost use Rattle.std.specs.Prelude.{◌≡◌, ◌⊎◌, ◌<◌, [], ◌∷◌, ◌++◌, length, Some, None, MatchOption, IfSome, OnOk, IfErr};
 ghost use Rattle.grid_cells.specs.declared.sizes.TheConstants.{MOST_SIDE};
 ghost use Rattle.path_files.specs.declared.faults.PathsFault.TheVariants.{BadCell, OutOfMemory};
-ghost use Rattle.path_files.specs.Cells.{join_of, ordered, cell_of, cell_in, parts_of, cells_of, IsBadCell};
+ghost use Rattle.path_files.specs.Cells.{join_of, ordered, cell_between, cell_in, parts_of, cells_listed, IsBadCell};
 ghost use Rattle.path_files.specs.Answers.{IsRead};
 
 use crate::faults::PathsFault;
@@ -42,7 +42,7 @@ fn ordered(notation: Notation, first: u32, second: u32) -> Option<Cell>
 
 // The cell that stands between brackets.
 fn cell_of(notation: Notation, pair: &[u8]) -> Option<Cell>
-    ensures { result ≡ cell_of notation pair.now }
+    ensures { result ≡ cell_between notation pair.now }
 {
     let (first, second) = cut(pair, b',')?;
     ordered(notation, place_of(first)?, place_of(second)?)
@@ -94,7 +94,7 @@ pub(crate) fn cells_of(
     line: usize,
     text: &[u8],
 ) -> Result<List<Cell>, PathsFault>
-    ensures { IsRead (cells_of notation line text.now) result }
+    ensures { IsRead (cells_listed notation line text.now) result }
 {
     let mut cells = Vec::new(alloc);
     let mut front: &[u8] = b"";

@@ -2,7 +2,7 @@ ghost use Rattle.std.specs.Prelude.{◌≡◌, ◌+◌, ◌^◌, ◌<◌, ◌≤
 ghost use Rattle.std.specs.Option.{option_copied};
 ghost use Rattle.std.specs.List.{position};
 ghost use Rattle.bench_reader.specs.Lines.{lines_of};
-ghost use Rattle.path_files.specs.Lines.{behind_blanks, trimmed, behind, cut, labelled, written, written_from};
+ghost use Rattle.path_files.specs.Lines.{behind_blanks, trimmed, behind, cut, behind_label, written, written_from};
 
 use bench_reader::{is_blank, is_blank_line, next_line, number_of, row_of};
 
@@ -72,7 +72,7 @@ pub(crate) fn cut(text: &[u8], mark: u8) -> Option<(&[u8], &[u8])>
 
 /// What stands behind the number and a colon, where the line begins with them.
 pub(crate) fn labelled(number: u32, line: &[u8]) -> Option<&[u8]>
-    ensures { option_copied result ≡ labelled number line.now }
+    ensures { option_copied result ≡ behind_label number line.now }
 {
     let (label, rest) = cut(line, b':')?;
     if number_of(label)? == number {

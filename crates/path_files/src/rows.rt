@@ -1,6 +1,6 @@
 ghost use Rattle.std.specs.Prelude.{◌≡◌, ◌≤◌, [], ◌∷◌, ◌++◌, length, IfOk, MatchOption, OnOk};
 ghost use Rattle.scene_edits.specs.declared.scenes.TheConstants.{MOST_AGENTS};
-ghost use Rattle.path_files.specs.Rows.{row_fault, row_of, with_row};
+ghost use Rattle.path_files.specs.Rows.{row_fault, row_in_line, paths_with_row};
 ghost use Rattle.path_files.specs.Answers.{IsRead};
 
 use crate::cells::{Notation, cells_of};
@@ -38,7 +38,7 @@ pub(crate) fn row_of(
     count: Option<usize>,
     text: &[u8],
 ) -> Result<List<Cell>, PathsFault>
-    ensures is { IsRead (row_of line count text.now) result }
+    ensures is { IsRead (row_in_line line count text.now) result }
     ensures few { IfOk result (λ row. length row ≤ MOST_AGENTS) }
 {
     let row = cells_of(alloc, Notation::Commas, line, text)?;
@@ -64,7 +64,7 @@ pub(crate) fn add_row(
     paths: &mut Vec<List<Cell>>,
     row: &[Cell],
 ) -> Result<(), OutOfMemory>
-    ensures { OnOk result (paths.new.items ≡ with_row paths.old.items row.now) }
+    ensures { OnOk result (paths.new.items ≡ paths_with_row paths.old.items row.now) }
 {
     for (agent, cell) in row.iter().enumerate() {
         if agent == paths.len() {

@@ -2,7 +2,7 @@ ghost use Rattle.std.specs.Prelude.{◌<◌, ◌≤◌, length, IfOk, IfSome};
 ghost use Rattle.bench_reader.specs.Lines.{lines_of};
 ghost use Rattle.scene_edits.specs.declared.scenes.TheConstants.{MOST_AGENTS};
 ghost use Rattle.path_files.specs.Lines.{written, written_from};
-ghost use Rattle.path_files.specs.Told.{path_told, by_told};
+ghost use Rattle.path_files.specs.Told.{path_in_line, by_told};
 ghost use Rattle.path_files.specs.Answers.{IsRead};
 
 use crate::agents::path_at;
@@ -22,7 +22,7 @@ fn path_told(
     line: usize,
     bytes: &[u8],
 ) -> Result<Option<List<Cell>>, PathsFault>
-    ensures is { IsRead (path_told form due (written line bytes.now)) result }
+    ensures is { IsRead (path_in_line form due (written line bytes.now)) result }
     ensures bound { IfOk result (λ path. IfSome path (λ _. due < MOST_AGENTS)) }
 {
     match form {

@@ -17,7 +17,7 @@ use Rattle.scene_edits.specs.declared.changes.Change.{Change}
 use Rattle.scene_edits.specs.declared.changes.Change.TheVariants.{Added, Dropped, Aimed}
 use Rattle.scene_edits.specs.Edited.{with_changed}
 use Rattle.scene_edits.specs.Changes.{IsMove}
-use Rattle.scene_edits.specs.Board.{Follows}
+use Rattle.scene_edits.specs.Board.{FollowsPath}
 use Rattle.plan_table.specs.Path.{IsWalkable, IsPathOf}
 use Rattle.scene_edits.proofs.PathsOf.{path_of-is}
 use Rattle.scene_edits.proofs.RowEdits.{with_row_is, without_row_is, with_changed_is}
@@ -66,7 +66,7 @@ aimed scene agent goal old_goal new live inside up_old up_new changes before =
     )
 
 -- a plan of a live agent that is the path of cells
-pub followed : (scene new : SceneState) (agent : ℕ) (plan cells : List Point) (change : Change) → IsWalkable cells → IsPathOf cells plan → IsMove scene new agent change → new ≡ record scene { rows = with_changed scene.rows agent (λ row. record row { plan = plan }) } → Follows scene agent cells change new
+pub followed : (scene new : SceneState) (agent : ℕ) (plan cells : List Point) (change : Change) → IsWalkable cells → IsPathOf cells plan → IsMove scene new agent change → new ≡ record scene { rows = with_changed scene.rows agent (λ row. record row { plan = plan }) } → FollowsPath scene agent cells change new
 followed scene new agent plan cells change walks path moves edited = record {
   walkable = walks;
   edited = subst (λ (p : List Point). new ≡ record scene { rows = with_changed scene.rows agent (λ row. record row { plan = p }) }) (path_of-is cells plan walks path) edited;

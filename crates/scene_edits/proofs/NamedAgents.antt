@@ -8,7 +8,7 @@ use Rattle.std.proofs.lemmas.List.{get_or-map, length-map}
 use Rattle.std.proofs.lemmas.List.Elements.{All-weaker, All-contains, All-contains_itself, All-map}
 use Rattle.std.proofs.lemmas.Map.Views.{All-keys-insert_entry}
 use Rattle.scene_edits.specs.declared.changes.Change.{Change}
-use Rattle.scene_edits.specs.Named.{Names, IsNamed, JoinBy}
+use Rattle.scene_edits.specs.Named.{NamesAgent, IsNamed, JoinBy}
 use Rattle.scene_edits.specs.Formers.{former_of}
 use Rattle.scene_edits.specs.declared.named_agents.Former.{Former}
 use Rattle.scene_edits.specs.declared.taking_back.Kept.{Kept}
@@ -21,26 +21,26 @@ keys-kept entries agent kept =
     All-keys-insert_entry nat_cmp agent kept P entries (All-weaker (Contains (keys_of entries)) P (λ key there. inl there) (keys_of entries) (All-contains_itself (keys_of entries))) (inr refl)
 
 -- one more key, which the change names
-pub keys-joined : {T E : Type 0} (result : Result T E) (change : Change) (agent : ℕ) (old new : List ℕ) → Names change agent → OnOk result (All (λ key. Contains old key ⊎ (agent ≡ key)) new) → OnOk result (JoinBy change old new)
+pub keys-joined : {T E : Type 0} (result : Result T E) (change : Change) (agent : ℕ) (old new : List ℕ) → NamesAgent change agent → OnOk result (All (λ key. Contains old key ⊎ (agent ≡ key)) new) → OnOk result (JoinBy change old new)
 keys-joined (Ok done) change agent old new names added =
-    All-weaker (λ key. Contains old key ⊎ (agent ≡ key)) (λ key. Contains old key ⊎ Names change key) (λ key told. elim told [ inl there ↦ inl there | inr is ↦ inr (subst (Names change) is names) ]) new added
+    All-weaker (λ key. Contains old key ⊎ (agent ≡ key)) (λ key. Contains old key ⊎ NamesAgent change key) (λ key told. elim told [ inl there ↦ inl there | inr is ↦ inr (subst (NamesAgent change) is names) ]) new added
 keys-joined (Err refused) change agent old new names added = tt
 
 -- no key more
 pub keys-same : (change : Change) (keys : List ℕ) → JoinBy change keys keys
-keys-same change keys = All-weaker (Contains keys) (λ key. Contains keys key ⊎ Names change key) (λ key there. inl there) keys (All-contains_itself keys)
+keys-same change keys = All-weaker (Contains keys) (λ key. Contains keys key ⊎ NamesAgent change key) (λ key there. inl there) keys (All-contains_itself keys)
 
 later : (change : Change) (changes : List Change) (agent : ℕ) → IsNamed changes agent → IsNamed (change ∷ changes) agent
 later change changes agent (of, (k, within, is), names) = (of, (suc k, omega arith, is), names)
 
-first : (change : Change) (changes : List Change) (agent : ℕ) → Names change agent → IsNamed (change ∷ changes) agent
+first : (change : Change) (changes : List Change) (agent : ℕ) → NamesAgent change agent → IsNamed (change ∷ changes) agent
 first change changes agent names = (change, (0, omega arith, refl), names)
 
 -- one more change taken back
 pub named-more : (changes : List Change) (at left : ℕ) (change : Change) (old new : List ℕ) → at < length changes → at + 1 ≡ left → change ≡ get_or changes at change → All (IsNamed (drop left changes)) old → JoinBy change old new → All (IsNamed (drop at changes)) new
 named-more changes at left change old new within next is named joined =
     subst (λ (list : List Change). All (IsNamed list) new) (sym (drop_one changes at left change within next is))
-    (All-weaker (λ key. Contains old key ⊎ Names change key) (IsNamed (change ∷ drop left changes)) (λ key told. elim told [
+    (All-weaker (λ key. Contains old key ⊎ NamesAgent change key) (IsNamed (change ∷ drop left changes)) (λ key told. elim told [
       | inl there ↦ later change (drop left changes) key (All-contains (IsNamed (drop left changes)) old key named there)
       | inr names ↦ first change (drop left changes) key names
     ]) new joined)

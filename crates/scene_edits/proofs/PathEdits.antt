@@ -14,7 +14,7 @@ use Rattle.scene_edits.specs.Edited.{continued, with_changed, edited}
 use Rattle.scene_edits.specs.Faults.{◌otherwise◌, too_long, jump}
 use Rattle.scene_edits.specs.Changes.{IsMove}
 use Rattle.scene_edits.specs.Answers.{Applied}
-use Rattle.scene_edits.specs.Board.{Follows}
+use Rattle.scene_edits.specs.Board.{FollowsPath}
 use Rattle.scene_edits.specs.declared.edits.Edit.TheVariants.{Path, Tail}
 use Rattle.scene_edits.specs.declared.edits.EditFault.{EditFault}
 use Rattle.scene_edits.specs.declared.edits.ApplyFault.TheVariants.{Fault}
@@ -27,7 +27,7 @@ pub short_and_stepwise : (cells : List Point) → IsWalkable cells → (fault : 
 short_and_stepwise cells walks = neither (λ fault told. omega (arith, told.1, walks.short)) (λ fault told. no_jump cells walks.steps told.0 told.2)
 
 module _ (scene new : SceneState) (agent : ℕ) (cells : List Point) (row : Row) (there : row_of scene.rows agent ≡ Some row) (inside : AreIn scene.grid.size cells) where
-  pub path_applied : (change : Change) → 0 < length cells → slice_get cells 0 ≡ slice_get row.plan 0 → Follows scene agent cells change new → Applied scene (Path agent cells) (Ok change) new
+  pub path_applied : (change : Change) → 0 < length cells → slice_get cells 0 ≡ slice_get row.plan 0 → FollowsPath scene agent cells change new → Applied scene (Path agent cells) (Ok change) new
   path_applied change some start follows = (
     neither (known scene agent row there) (neither (λ fault told. told.1 inside) (neither (λ fault told. omega (arith, some, ap length told.1)) (neither (λ fault told. told.1 (rw there start)) (short_and_stepwise cells follows.walkable)))),
     subst (λ (s : SceneState). IsMove scene s agent change) follows.edited follows.moves,
@@ -37,7 +37,7 @@ module _ (scene new : SceneState) (agent : ℕ) (cells : List Point) (row : Row)
   pub path_refused : (fault : EditFault) → 0 < length cells → slice_get cells 0 ≡ slice_get row.plan 0 → (too_long cells otherwise jump cells) fault → new ≡ scene → Applied scene (Path agent cells) (Err (Fault fault)) new
   path_refused fault some start told same = grind (arith, nat_tests, common_steps, gets)
 
-  pub tail_applied : (from : ℕ) (change : Change) → from ≤ last_index row.plan → Follows scene agent (continued row.plan from cells) change new → Applied scene (Tail agent from cells) (Ok change) new
+  pub tail_applied : (from : ℕ) (change : Change) → from ≤ last_index row.plan → FollowsPath scene agent (continued row.plan from cells) change new → Applied scene (Tail agent from cells) (Ok change) new
   tail_applied from change early follows =
       let plan : plan_of scene agent ≡ row.plan = rw there refl in
       let same_rows : with_changed scene.rows agent (λ r. record r { plan = path_of (continued row.plan from cells) }) ≡ with_changed scene.rows agent (λ r. record r { plan = path_of (continued r.plan from cells) }) = rw there refl in

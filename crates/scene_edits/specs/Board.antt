@@ -31,7 +31,7 @@ KeepsRoom old (Ok change) new = room_after old change ≤ new
 KeepsRoom old (Err fault) new = old ≤ new
 
 -- the agent's plan is the path of the cells, and the change tells its move
-pub record Follows (old : SceneState) (agent : ℕ) (cells : List Point) (change : Change) (new : SceneState) : Type 0 where
+pub record FollowsPath (old : SceneState) (agent : ℕ) (cells : List Point) (change : Change) (new : SceneState) : Type 0 where
   pub walkable : IsWalkable cells
   pub edited : new ≡ record old { rows = with_changed old.rows agent (λ row. record row { plan = path_of cells }) }
   pub moves : IsMove old new agent change

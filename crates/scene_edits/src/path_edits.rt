@@ -6,7 +6,7 @@ ghost use Rattle.scene_edits.specs.Edited.{with_changed};
 ghost use Rattle.scene_edits.specs.Faults.{◌otherwise◌, too_long, jump};
 ghost use Rattle.scene_edits.specs.Changes.{IsMove};
 ghost use Rattle.scene_edits.specs.Answers.{Applied};
-ghost use Rattle.scene_edits.specs.Board.{scene_of, KeepsRoom, Follows};
+ghost use Rattle.scene_edits.specs.Board.{scene_of, KeepsRoom, FollowsPath};
 
 use crate::boards::{Board, holds_all};
 use crate::changes::Change;
@@ -73,7 +73,7 @@ impl Board {
         requires some { 0 < length cells.items }
         requires steps { AllStepsBelow cells.items known }
         requires front { IfSome (row_of self.old.plans.rows agent) (λ row. SamePlaces row.plan cells.items known) }
-        ensures follows { IfOk result (λ change. Follows (scene_of self.old) agent cells.items change (scene_of self.new)) }
+        ensures follows { IfOk result (λ change. FollowsPath (scene_of self.old) agent cells.items change (scene_of self.new)) }
         ensures fault { IfErr result (too_long cells.items otherwise jump cells.items) }
         ensures unchanged { OnErr result (scene_of self.new ≡ scene_of self.old) }
         ensures room { self.new.plans.room ≡ self.old.plans.room }

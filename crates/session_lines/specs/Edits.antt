@@ -3,7 +3,7 @@ use Rattle.std.specs.Prelude.{ℕ, Option, None, List, [], ◌∷◌}
 use Rattle.std.specs.Option.{option_map}
 use Rattle.scene_edits.specs.declared.edits.Edit.{Edit}
 use Rattle.scene_edits.specs.declared.edits.Edit.TheVariants as edit
-use Rattle.session_lines.specs.Values.{with_both, with_all, agent_of, time_of, cell_of}
+use Rattle.session_lines.specs.Values.{with_both, with_all, agent_of, time_named, cell_of}
 use Rattle.session_lines.specs.Cells.{cells_of}
 use Rattle.session_lines.specs.Shapes.{only_agent, only_cell, agent_and_cell}
 use Rattle.session_lines.specs.declared.commands.EditCommand.{EditCommand}
@@ -21,7 +21,7 @@ path_edit_of (agent ∷ words) = with_both edit.Path (agent_of agent) (cells_of 
 
 -- AGENT TIME CELL..
 abbrev pub tail_of : List (List ℕ) → Option Edit
-tail_of (agent ∷ time ∷ words) = with_all edit.Tail (agent_of agent) (time_of time) (cells_of words)
+tail_of (agent ∷ time ∷ words) = with_all edit.Tail (agent_of agent) (time_named time) (cells_of words)
 tail_of _ = None
 
 -- an edit with a list of cells, which grows as its line is read

@@ -2,7 +2,7 @@
 use Rattle.std.specs.Prelude.{ℕ, Option, Some, None, ◌≡◌, Result, Ok, Err, List, [], ◌∷◌, ◌⊎◌, codes, bytes_eq, if◌then◌else◌}
 use Rattle.std.specs.Option.{IsSomeAnd, option_map, option_map_or, ok_or}
 use Rattle.bench_reader.specs.Words.{words_of}
-use Rattle.session_lines.specs.Agents.{agents_of}
+use Rattle.session_lines.specs.Agents.{agents_named}
 use Rattle.session_lines.specs.Requests.{request_of_words, request_of, HasCells}
 use Rattle.session_lines.specs.Shapes.{alone, only_agent, only_cell, time_and_cell, version_and_seconds}
 use Rattle.session_lines.specs.declared.questions.QuestionCommand.{QuestionCommand}
@@ -28,7 +28,7 @@ question_command_of word =
 -- the whole report, or that of the agents named
 abbrev pub report_of : List (List ℕ) → Option Request
 report_of [] = Some request.Report
-report_of (word ∷ words) = option_map (λ agents. request.Ask (inquiry.Report agents)) (agents_of (word ∷ words))
+report_of (word ∷ words) = option_map (λ agents. request.Ask (inquiry.Report agents)) (agents_named (word ∷ words))
 
 -- the question of a first word and the words behind it, if they are of its shape and in their ranges
 abbrev pub question_of : QuestionCommand → List (List ℕ) → Option Request

@@ -17,18 +17,18 @@ use Rattle.session_lines.specs.declared.requests.Request.{Request}
 use Rattle.session_lines.specs.declared.requests.Request.TheVariants as request
 
 -- `agent AGENT`, `cell X,Y` or `map`
-abbrev pub thing_of : List (List ℕ) → Option Thing
-thing_of (kind ∷ []) = if bytes_eq kind (codes "map") then Some thing.Map else None
-thing_of (kind ∷ name ∷ []) =
+abbrev pub thing_watched : List (List ℕ) → Option Thing
+thing_watched (kind ∷ []) = if bytes_eq kind (codes "map") then Some thing.Map else None
+thing_watched (kind ∷ name ∷ []) =
     if bytes_eq kind (codes "agent") then option_map thing.Agent (agent_of name) else
     if bytes_eq kind (codes "cell") then option_map thing.Cell (cell_of name) else None
-thing_of _ = None
+thing_watched _ = None
 
 -- the request of a first word and the words behind it, if they are of its shape and in their ranges
 abbrev pub shaped : Command → List (List ℕ) → Option Request
 shaped (Edit command) words = option_map request.Edit (edit_of command words)
 shaped Begin words = alone request.Begin words
-shaped Watch words = option_map request.Watch (thing_of words)
+shaped Watch words = option_map request.Watch (thing_watched words)
 shaped Commit words = alone request.Commit words
 shaped Cancel words = alone request.Cancel words
 shaped Version words = alone request.Version words

@@ -1,7 +1,7 @@
 -- What the words behind the first one stand for, by the shape of the line (this project's choice).
 use Rattle.std.specs.Prelude.{ℕ, Option, Some, None, List, [], ◌∷◌}
 use Rattle.grid_cells.specs.Cell.{Point}
-use Rattle.session_lines.specs.Values.{with_both, agent_of, time_of, version_named, seconds_of, cell_of}
+use Rattle.session_lines.specs.Values.{with_both, agent_of, time_named, version_named, seconds_of, cell_of}
 
 -- a line of no more words
 abbrev pub alone : {A : Type 0} → A → List (List ℕ) → Option A
@@ -25,7 +25,7 @@ agent_and_cell _ = None
 
 -- TIME X,Y
 abbrev pub time_and_cell : List (List ℕ) → Option (ℕ × Point)
-time_and_cell (time ∷ cell ∷ []) = with_both (λ t c. (t, c)) (time_of time) (cell_of cell)
+time_and_cell (time ∷ cell ∷ []) = with_both (λ t c. (t, c)) (time_named time) (cell_of cell)
 time_and_cell _ = None
 
 -- VERSION SECONDS

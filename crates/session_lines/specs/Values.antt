@@ -24,16 +24,16 @@ with_all f (Some a) None c = None
 with_all f None b c = None
 
 -- the number, if it is in the range
-abbrev pub number_in : (ℕ → Bool) → List ℕ → Option ℕ
-number_in range word = option_and_then (λ n. if range n then Some n else None) (number_of word)
+abbrev pub number_within : (ℕ → Bool) → List ℕ → Option ℕ
+number_within range word = option_and_then (λ n. if range n then Some n else None) (number_of word)
 
 -- AGENT: a number from 0 to 65,535
 abbrev pub agent_of : List ℕ → Option ℕ
-agent_of word = number_in (λ n. nat_le n MOST_AGENT) word
+agent_of word = number_within (λ n. nat_le n MOST_AGENT) word
 
 -- TIME: a number from 0 to 4,294,967,295, which is each below 2^32
-abbrev pub time_of : List ℕ → Option ℕ
-time_of word = number_of word
+abbrev pub time_named : List ℕ → Option ℕ
+time_named word = number_of word
 
 -- VERSION: decimal digits, leading zeros allowed, below 2^64
 abbrev pub version_named : List ℕ → Option ℕ
@@ -41,11 +41,11 @@ version_named word = if nat_lt 0 (length word) && all_ascii_digits word && nat_l
 
 -- SECONDS: a number from 0 to 86,400, a day
 abbrev pub seconds_of : List ℕ → Option ℕ
-seconds_of word = number_in (λ n. nat_le n MOST_SECONDS) word
+seconds_of word = number_within (λ n. nat_le n MOST_SECONDS) word
 
 -- a column or a row: a number from 0 to 2,047
 abbrev pub place_of : List ℕ → Option ℕ
-place_of word = number_in (λ n. nat_lt n MOST_SIDE) word
+place_of word = number_within (λ n. nat_lt n MOST_SIDE) word
 
 abbrev pub is_comma : ℕ → Bool
 is_comma byte = byte == 44

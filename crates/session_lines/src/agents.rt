@@ -1,6 +1,6 @@
 ghost use Rattle.std.specs.Prelude.{◌≡◌, ◌⊎◌, [], ◌∷◌, ◌++◌, None, MatchOption, OnOk, IfErr};
 ghost use Rattle.bench_reader.specs.Words.{words_of};
-ghost use Rattle.session_lines.specs.Agents.{agents_of};
+ghost use Rattle.session_lines.specs.Agents.{agents_named};
 ghost use Rattle.session_lines.specs.Faults.{IsShaped};
 ghost use Rattle.session_lines.specs.Values.{agent_of};
 ghost use Rattle.session_lines.specs.declared.requests.LineFault.TheVariants.{Shape, OutOfMemory};
@@ -27,7 +27,7 @@ fn add_agent(agents: &mut Vec<Agent>, word: &[u8]) -> Result<(), LineFault>
 /// # Errors
 /// `Shape` where a word names no agent, or want of memory.
 pub(crate) fn agents_of(alloc: Global, line: &[u8]) -> Result<List<Agent>, LineFault>
-    ensures { IsShaped (agents_of (words_of line.now)) result }
+    ensures { IsShaped (agents_named (words_of line.now)) result }
 {
     let mut agents = Vec::new(alloc);
     let mut rest = line;

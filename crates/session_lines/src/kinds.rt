@@ -1,6 +1,6 @@
 ghost use Rattle.std.specs.Prelude.{◌≡◌, ◌∷◌, [], false, true, MatchOption};
 ghost use Rattle.bench_reader.specs.Words.{words_of};
-ghost use Rattle.session_lines.specs.Kinds.{kinds_of, is_kind, named_kinds, joined, kinds_after};
+ghost use Rattle.session_lines.specs.Kinds.{kinds_of, is_kind, named_kinds, both_kinds, kinds_after};
 
 use crate::values::is_word;
 use bench_reader::next_word;
@@ -26,7 +26,7 @@ fn kind_of(word: &[u8]) -> Option<Kinds>
 
 // Both those kinds and these.
 fn joined(those: Kinds, these: Kinds) -> Kinds
-    ensures { result ≡ joined those these }
+    ensures { result ≡ both_kinds those these }
 {
     Kinds {
         vertex: those.vertex || these.vertex,

@@ -3,7 +3,7 @@ ghost use Rattle.std.specs.Option.{ok_or};
 ghost use Rattle.bench_reader.specs.Words.{words_of};
 ghost use Rattle.session_lines.specs.Faults.{IsShapedAs};
 ghost use Rattle.session_lines.specs.Shapes.{alone};
-ghost use Rattle.session_lines.specs.Requests.{thing_of, shaped, AsksForCells, IsRequest};
+ghost use Rattle.session_lines.specs.Requests.{thing_watched, shaped, AsksForCells, IsRequest};
 
 use crate::commands::{Command, command_of, is_remark};
 use crate::edits::edit_of;
@@ -105,7 +105,7 @@ pub(crate) fn alone(request: Request, line: &[u8]) -> Result<Request, LineFault>
 
 // The thing that the words of a line name.
 fn thing_of(line: &[u8]) -> Option<Thing>
-    ensures { result ≡ thing_of (words_of line.now) }
+    ensures { result ≡ thing_watched (words_of line.now) }
 {
     let (kind, rest) = next_word(line)?;
     let Some((name, rest)) = next_word(rest) else {

@@ -1,6 +1,6 @@
 ghost use Rattle.std.specs.Prelude.{◌≡◌, ◌+◌, [], take, drop, bytes_eq, MatchOption};
 ghost use Rattle.std.specs.List.{before_first, after_first, position};
-ghost use Rattle.session_lines.specs.Values.{agent_of, time_of, version_named, seconds_of, place_of, cell_of, is_comma};
+ghost use Rattle.session_lines.specs.Values.{agent_of, time_named, version_named, seconds_of, place_of, cell_of, is_comma};
 
 use bench_reader::number_of;
 use grid_cells::{Agent, Cell, MOST_SIDE, Step};
@@ -24,7 +24,7 @@ pub(crate) fn agent_of(word: &[u8]) -> Option<Agent>
 
 /// The time that a word names.
 pub(crate) fn time_of(word: &[u8]) -> Option<Step>
-    ensures { result ≡ time_of word.now }
+    ensures { result ≡ time_named word.now }
 {
     Some(Step::new(number_of(word)?))
 }

@@ -7,7 +7,7 @@ use Rattle.desk_report.specs.Bytes.{AppendsFront}
 use Rattle.bench_reader.specs.Lines.{lines_of}
 use Rattle.session_protocol.specs.LinesOf.{complete_lines, last_piece}
 use Rattle.session_protocol.specs.Replies.{reply_text, session_text}
-use Rattle.session_protocol.specs.Session.{Answering, IsNext, IsWithin, Run, SendsAll, SendsUpToLast, Served, Serves}
+use Rattle.session_protocol.specs.Session.{Answering, IsNextByte, IsWithin, Run, SendsAll, SendsUpToLast, Served, Serves}
 use Rattle.session_protocol.specs.declared.replies.Reply.{Reply}
 use Rattle.session_protocol.specs.declared.bounds.Bounds.{Bounds}
 use Rattle.session_protocol.specs.declared.bounds.ServeFault.{ServeFault}
@@ -129,7 +129,7 @@ module _ {S : Type 0} (answers : Answering S) (bounds : Bounds) (left0 left1 lef
 
 module _ {S : Type 0} (answers : Answering S) (bounds : Bounds) (left0 left1 left2 held0 held1 : Option (List ℕ)) (s t : S) (line : List ℕ) (lines bytes : ℕ) (p : Progress answers left0 left1 held0 held1 s t line lines bytes) where
   -- There was no next byte for that fault.
-  pub ends-next : (fault : ServeFault) → IsNext left1 left2 bounds lines bytes (Err fault) → lines ≤ bounds.lines → bytes ≤ bounds.bytes → (0 < length line → lines < bounds.lines)
+  pub ends-next : (fault : ServeFault) → IsNextByte left1 left2 bounds lines bytes (Err fault) → lines ≤ bounds.lines → bytes ≤ bounds.bytes → (0 < length line → lines < bounds.lines)
       → Serves answers bounds left0 left2 held0 held1 s t (Err fault)
   ends-next ReadFailed c ls bs room = ends-unread answers bounds left0 left1 left2 held0 held1 s t line lines bytes 0 p c ls bs room
   ends-next WriteFailed c ls bs room = absurd c

@@ -11,18 +11,18 @@ use Rattle.plan_table.specs.Order.{ComesBefore}
 use Rattle.plan_table.specs.Plans.{IsByAgent}
 use Rattle.plan_table.specs.declared.plans.Row.{Row}
 use Rattle.plan_table.proofs.Order.{AllPairs-tail, EachOf-length}
-use Rattle.desk_report.specs.Changes.{agents_of, agent_key, line_key}
+use Rattle.desk_report.specs.Changes.{agents_in_lines, agent_key, line_key}
 use Rattle.desk_report.specs.Report.{AreLines, IsLine}
 use Rattle.desk_report.specs.declared.reports.AgentLine.{AgentLine}
-use Rattle.desk_commits.specs.Questions.{Shows}
+use Rattle.desk_commits.specs.Questions.{ShowsReport}
 use Rattle.desk_commits.specs.State.{DeskState}
 use Rattle.desk_commits.specs.declared.answers.Reading.{Reading}
 use Rattle.session_protocol.specs.Trials.{IsAscending, ShowsInOrder}
 
-pub agents_ascend : (lines : List AgentLine) → IsAscending line_key lines → IsAscending agent_key (agents_of lines)
+pub agents_ascend : (lines : List AgentLine) → IsAscending line_key lines → IsAscending agent_key (agents_in_lines lines)
 agents_ascend [] up = λ i j d lt within. absurd (omega arith)
 agents_ascend (line ∷ lines) up =
-    AllPairs-cons (λ a b. ComesBefore (agent_key a) (agent_key b)) line.agent (agents_of lines)
+    AllPairs-cons (λ a b. ComesBefore (agent_key a) (agent_key b)) line.agent (agents_in_lines lines)
     (All-map (λ a. ComesBefore (agent_key line.agent) (agent_key a)) (λ (l : AgentLine). l.agent) lines (λ k d within. up 0 (suc k) d (omega arith) (omega arith)))
     (agents_ascend lines (AllPairs-tail (λ (a b : AgentLine). ComesBefore (line_key a) (line_key b)) line lines up))
 
@@ -46,7 +46,7 @@ lines_ascend grid rows lines by_agent each = λ i j d lt within.
     ]
 
 -- a desk's rows rise, so the lists of its reading ascend
-pub in_order : (desk : DeskState) (reading : Reading) → IsByAgent desk.scene.rows → Shows desk reading → ShowsInOrder desk reading
+pub in_order : (desk : DeskState) (reading : Reading) → IsByAgent desk.scene.rows → ShowsReport desk reading → ShowsInOrder desk reading
 in_order desk reading by_agent shown = record {
   shown = shown;
   ascending = record {
@@ -56,6 +56,6 @@ in_order desk reading by_agent shown = record {
   };
 }
 
-pub all_in_order : (desk : DeskState) (result : Result Reading OutOfMemory) → IsByAgent desk.scene.rows → IfOk result (Shows desk) → IfOk result (ShowsInOrder desk)
+pub all_in_order : (desk : DeskState) (result : Result Reading OutOfMemory) → IsByAgent desk.scene.rows → IfOk result (ShowsReport desk) → IfOk result (ShowsInOrder desk)
 all_in_order desk (Ok reading) by_agent shown = in_order desk reading by_agent shown
 all_in_order desk (Err refused) by_agent shown = tt

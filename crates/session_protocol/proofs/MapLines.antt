@@ -9,7 +9,7 @@ use Rattle.std.proofs.lemmas.Bool.{cases_lt}
 use Rattle.bench_reader.specs.Announced.{rows_announced}
 use Rattle.bench_reader.specs.Lines.{lines_of}
 use Rattle.session_protocol.specs.LinesOf.{complete_lines, last_piece}
-use Rattle.session_protocol.specs.Start.{Told, HearsMap, Stops, IsFinished}
+use Rattle.session_protocol.specs.Start.{Told, HearsMap, Stops, EndsWithMap}
 use Rattle.session_protocol.proofs.AllLines.{piece_lines, lines_of-split}
 use Rattle.session_protocol.proofs.Pieces.{complete-byte, complete-feed, piece-feed}
 
@@ -79,7 +79,7 @@ hears-whole left0 left1 left2 most text byte lines wanted before took feed low t
     record {
       taken = Consumes-trans left0 left1 left2 text (byte ∷ []) before took;
       within = rw (length-append text (byte ∷ [])) (omega (arith, low));
-      whole = inl (subst (λ (t : List ℕ). IsFinished t) (sym same) (record { ended = piece-feed text; lines = omega (arith, told.counted, told.is, few, full) }));
+      whole = inl (subst (λ (t : List ℕ). EndsWithMap t) (sym same) (record { ended = piece-feed text; lines = omega (arith, told.counted, told.is, few, full) }));
     }
 
 pub stops-over : (left0 left1 left2 : Option (List ℕ)) (text : List ℕ) (byte lines wanted : ℕ) → Consumes left0 left1 text → Consumes left1 left2 (byte ∷ []) → Told text lines wanted → lines < wanted

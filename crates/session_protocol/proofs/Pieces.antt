@@ -1,7 +1,7 @@
 -- How one more byte changes the lines of a text, and how many lines there are.
 use Rattle.std.proofs.Common.{◌≡◌, ℕ, ◌+◌, ◌<◌, ◌≤◌, List, [], ◌∷◌, ◌++◌, length, nat_eq, true, false, cond, refl, ap, ◌∙◌, append-nil, arith, length-append}
 use Rattle.bench_reader.specs.Lines.{lines_of}
-use Rattle.session_protocol.specs.LinesOf.{complete_lines, last_piece, join_first, join_rest}
+use Rattle.session_protocol.specs.LinesOf.{complete_lines, last_piece, join_complete, join_rest}
 use Rattle.session_protocol.proofs.AllLines.{piece_lines, lines_of-split}
 
 -- One more byte at the end of a text.
@@ -19,14 +19,14 @@ piece-byte (x ∷ text) byte h = rw (complete-byte text byte h, piece-byte text 
     (elim (nat_eq x 10) as (λ b. cond b (last_piece text ++ (byte ∷ [])) (join_rest x (complete_lines text) (last_piece text ++ (byte ∷ []))) ≡ cond b (last_piece text) (join_rest x (complete_lines text) (last_piece text)) ++ (byte ∷ []))
     [ true ↦ refl | false ↦ joined x (complete_lines text) (last_piece text) byte ])
 
-joined_first : (x : ℕ) (lines : List (List ℕ)) (rest : List ℕ) → join_first x (lines ++ (rest ∷ [])) ≡ join_first x lines ++ (join_rest x lines rest ∷ [])
+joined_first : (x : ℕ) (lines : List (List ℕ)) (rest : List ℕ) → join_complete x (lines ++ (rest ∷ [])) ≡ join_complete x lines ++ (join_rest x lines rest ∷ [])
 joined_first x [] rest = refl
 joined_first x (line ∷ lines) rest = refl
 
 pub complete-feed : (text : List ℕ) → complete_lines (text ++ (10 ∷ [])) ≡ complete_lines text ++ (last_piece text ∷ [])
 complete-feed [] = refl
 complete-feed (x ∷ text) = rw (complete-feed text)
-    (elim (nat_eq x 10) as (λ b. cond b ([] ∷ (complete_lines text ++ (last_piece text ∷ []))) (join_first x (complete_lines text ++ (last_piece text ∷ []))) ≡ cond b ([] ∷ complete_lines text) (join_first x (complete_lines text)) ++ (cond b (last_piece text) (join_rest x (complete_lines text) (last_piece text)) ∷ []))
+    (elim (nat_eq x 10) as (λ b. cond b ([] ∷ (complete_lines text ++ (last_piece text ∷ []))) (join_complete x (complete_lines text ++ (last_piece text ∷ []))) ≡ cond b ([] ∷ complete_lines text) (join_complete x (complete_lines text)) ++ (cond b (last_piece text) (join_rest x (complete_lines text) (last_piece text)) ∷ []))
     [ true ↦ refl | false ↦ joined_first x (complete_lines text) (last_piece text) ])
 
 no_rest : (x : ℕ) (lines : List (List ℕ)) (rest : List ℕ) → join_rest x (lines ++ (rest ∷ [])) [] ≡ []

@@ -6,7 +6,7 @@ use Rattle.bench_reader.specs.Words.{words_of}
 use Rattle.session_lines.specs.Requests.{HasCells, request_of}
 use Rattle.session_lines.specs.Questions.{HasList, request_in}
 use Rattle.session_protocol.specs.Session.{Answering}
-use Rattle.session_protocol.specs.Table.{Obeys, Adds, FindsNoMemory}
+use Rattle.session_protocol.specs.Table.{Obeys, AddsToList, FindsNoMemory}
 use Rattle.session_protocol.specs.declared.drafts.Session.{Session}
 use Rattle.session_protocol.specs.declared.replies.BadLine.TheVariants as bad
 use Rattle.session_protocol.specs.declared.replies.Reply.{Reply}
@@ -25,7 +25,7 @@ IsReplyTo c number old at (Err OutOfMemory) reply new then = FindsNoMemory old a
 
 -- the line may grow something of the session's: the list of its cells, or what its request adds to
 abbrev pub MayGrow : Session → List ℕ → Type 0
-MayGrow session line = HasCells (words_of line) ⊎ IsOkAnd (request_of line) (Adds session)
+MayGrow session line = HasCells (words_of line) ⊎ IsOkAnd (request_of line) (AddsToList session)
 
 -- a session beside a counter answers a line by its request; one that may grow something may find no memory, and then changes nothing
 abbrev pub answering : {S : Type 0} → Counting S → Answering (Session × S)
@@ -34,7 +34,7 @@ answering c old number line reply new =
 
 -- the same in a version of lines: in version 2 a line may also have a list of agents
 abbrev pub MayGrowIn : LinesVersion → Session → List ℕ → Type 0
-MayGrowIn version session line = HasList version (words_of line) ⊎ IsOkAnd (request_in version line) (Adds session)
+MayGrowIn version session line = HasList version (words_of line) ⊎ IsOkAnd (request_in version line) (AddsToList session)
 
 -- a session in a version of lines answers as above, by that version's requests; in version 1 it is `answering`
 abbrev pub answering_in : LinesVersion → {S : Type 0} → Counting S → Answering (Session × S)

@@ -11,9 +11,9 @@ pub record Draft : Type 0 where
   pub edits : List Edit
 
 -- nothing is gathered yet
-abbrev pub blank : ℕ → Draft
-blank base = record { base = base; watch = []; edits = [] }
+abbrev pub nothing_gathered : ℕ → Draft
+nothing_gathered base = record { base = base; watch = []; edits = [] }
 
 -- the commit of a planner that asks for what was gathered
-abbrev pub entry_of : ℕ → Draft → Entry
-entry_of planner draft = record { planner = planner; base = draft.base; watch = draft.watch; edits = draft.edits }
+abbrev pub entry_gathered : ℕ → Draft → Entry
+entry_gathered planner draft = record { planner = planner; base = draft.base; watch = draft.watch; edits = draft.edits }

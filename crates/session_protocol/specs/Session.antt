@@ -33,14 +33,14 @@ abbrev pub IsWithin : Bounds → List ℕ → Type 0
 IsWithin bounds heard = (length (lines_of heard) ≤ bounds.lines) × (length heard ≤ bounds.bytes)
 
 -- the next byte after so many whole lines and bytes: one that the bounds allow, none at the end, or a fault
-abbrev pub IsNext : (left0 left1 : Option (List ℕ)) → Bounds → ℕ → ℕ → Result (Option ℕ) ServeFault → Type 0
-IsNext left0 left1 bounds lines bytes (Ok (Some byte)) = Consumes left0 left1 (byte ∷ []) × (lines < bounds.lines) × (bytes < bounds.bytes)
-IsNext left0 left1 bounds lines bytes (Ok None) = Consumes left0 left1 [] × IsAtEnd left1
-IsNext left0 left1 bounds lines bytes (Err ReadFailed) = Consumes left0 left1 []
-IsNext left0 left1 bounds lines bytes (Err WriteFailed) = ⊥
-IsNext left0 left1 bounds lines bytes (Err TooManyLines) = (byte : ℕ) × Consumes left0 left1 (byte ∷ []) × (bounds.lines ≤ lines)
-IsNext left0 left1 bounds lines bytes (Err TooManyBytes) = (byte : ℕ) × Consumes left0 left1 (byte ∷ []) × (lines < bounds.lines) × (bounds.bytes ≤ bytes)
-IsNext left0 left1 bounds lines bytes (Err OutOfMemory) = ⊥
+abbrev pub IsNextByte : (left0 left1 : Option (List ℕ)) → Bounds → ℕ → ℕ → Result (Option ℕ) ServeFault → Type 0
+IsNextByte left0 left1 bounds lines bytes (Ok (Some byte)) = Consumes left0 left1 (byte ∷ []) × (lines < bounds.lines) × (bytes < bounds.bytes)
+IsNextByte left0 left1 bounds lines bytes (Ok None) = Consumes left0 left1 [] × IsAtEnd left1
+IsNextByte left0 left1 bounds lines bytes (Err ReadFailed) = Consumes left0 left1 []
+IsNextByte left0 left1 bounds lines bytes (Err WriteFailed) = ⊥
+IsNextByte left0 left1 bounds lines bytes (Err TooManyLines) = (byte : ℕ) × Consumes left0 left1 (byte ∷ []) × (bounds.lines ≤ lines)
+IsNextByte left0 left1 bounds lines bytes (Err TooManyBytes) = (byte : ℕ) × Consumes left0 left1 (byte ∷ []) × (lines < bounds.lines) × (bounds.bytes ≤ bytes)
+IsNextByte left0 left1 bounds lines bytes (Err OutOfMemory) = ⊥
 
 -- the text of all replies went out
 abbrev pub SendsAll : (held0 held1 : Option (List ℕ)) → List Reply → Type 0

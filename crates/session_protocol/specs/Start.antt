@@ -31,7 +31,7 @@ pub record Told (text : List ℕ) (lines wanted : ℕ) : Type 0 where
   pub few : wanted ≤ 2052
 
 -- the text ends with the last line that the map takes
-pub record IsFinished (text : List ℕ) : Type 0 where
+pub record EndsWithMap (text : List ℕ) : Type 0 where
   pub ended : last_piece text ≡ []
   pub lines : length (complete_lines text) ≡ 4 + rows_announced (complete_lines text)
 
@@ -39,7 +39,7 @@ pub record IsFinished (text : List ℕ) : Type 0 where
 pub record HearsMap (left0 left1 : Option (List ℕ)) (most : ℕ) (text : List ℕ) : Type 0 where
   pub taken : Consumes left0 left1 text
   pub within : length text ≤ most
-  pub whole : IsFinished text ⊎ (IsUnfinished text × IsAtEnd left1)
+  pub whole : EndsWithMap text ⊎ (IsUnfinished text × IsAtEnd left1)
 
 -- the input stopped in the map, after the text and the bytes beyond it
 pub record Stops (left0 left1 : Option (List ℕ)) (text over : List ℕ) : Type 0 where

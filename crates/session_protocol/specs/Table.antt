@@ -11,7 +11,7 @@ use Rattle.desk_commits.specs.declared.answers.Refusal.{Refusal}
 use Rattle.desk_commits.specs.declared.answers.Reading.{Reading}
 use Rattle.desk_commits.specs.declared.answers.AskFault.{AskFault}
 use Rattle.desk_commits.specs.Counting.{Counting}
-use Rattle.session_protocol.specs.Drafts.{Draft, blank, entry_of}
+use Rattle.session_protocol.specs.Drafts.{Draft, nothing_gathered, entry_gathered}
 use Rattle.desk_commits.specs.Questions.{TellsCut, TellsPlan, TellsOpen, TellsStanding}
 use Rattle.desk_commits.specs.State.{DeskState}
 use Rattle.desk_report.specs.declared.changed.Changes.{Changes}
@@ -42,12 +42,12 @@ KeepsEdit number draft edit given new =
 -- the commit is made, and its answer is told
 abbrev pub Commits : {S : Type 0} → Counting S → S → Draft → (Result ℕ (Refusal × Entry) → Session) → Reply → Session → S → Type 0
 Commits {S} c at draft where_then given new then =
-    (result : Result ℕ (Refusal × Entry)) × c.commits at (entry_of (c.planner at) draft) result then × (given ≡ commit_reply result) × (new ≡ where_then result)
+    (result : Result ℕ (Refusal × Entry)) × c.commits at (entry_gathered (c.planner at) draft) result then × (given ≡ commit_reply result) × (new ≡ where_then result)
 
 -- the trial of the commit of a draft, and what it tells
 abbrev pub TriesOut : {S : Type 0} → Counting S → S → Draft → Reply → S → Type 0
 TriesOut {S} c at draft given then =
-    (result : Result (ℕ × Changes) Refusal) × c.asks (Result (ℕ × Changes) Refusal) at (λ desk. TellsTrial desk (entry_of (c.planner at) draft)) result then
+    (result : Result (ℕ × Changes) Refusal) × c.asks (Result (ℕ × Changes) Refusal) at (λ desk. TellsTrial desk (entry_gathered (c.planner at) draft)) result then
     × (given ≡ trial_reply result)
 
 -- an edit line outside a gathering: a commit of this edit, with no watch, on the counter's version
@@ -56,8 +56,8 @@ CommitsAlone {S} c at edit given new then =
     (base : ℕ) × (seen : S) × c.versions at base seen × Commits c seen (record { base = base; watch = []; edits = edit ∷ [] }) (λ result. Idle) given new then
 
 -- a new gathering, on the counter's version
-abbrev pub Begins : {S : Type 0} → Counting S → S → Reply → Session → S → Type 0
-Begins c at given new then = (base : ℕ) × c.versions at base then × (given ≡ reply.Base base) × (new ≡ Gathering (blank base))
+abbrev pub BeginsGathering : {S : Type 0} → Counting S → S → Reply → Session → S → Type 0
+BeginsGathering c at given new then = (base : ℕ) × c.versions at base then × (given ≡ reply.Base base) × (new ≡ Gathering (nothing_gathered base))
 
 -- what was asked without a gathering
 abbrev pub IsNotBegun : {S : Type 0} → ℕ → S → Reply → Session → S → Type 0
@@ -79,21 +79,21 @@ abbrev pub TellsDistance : {S : Type 0} → Counting S → S → ℕ → Point �
 TellsDistance c at agent cell given then = (result : Result (Option ℕ) AskFault) × c.tells at agent cell result then × (given ≡ distance_reply result)
 
 -- a question is put to the counter, and what it answers is told, or the first fault of the question
-abbrev pub Asks : {S X : Type 0} → Counting S → S → (DeskState → Result X AskFault → Type 0) → (X → Reply) → Reply → S → Type 0
-Asks {S} {X} c at IsAnswer tell given then = (result : Result X AskFault) × c.asks (Result X AskFault) at IsAnswer result then × (given ≡ asked_reply tell result)
+abbrev pub AsksCounter : {S X : Type 0} → Counting S → S → (DeskState → Result X AskFault → Type 0) → (X → Reply) → Reply → S → Type 0
+AsksCounter {S} {X} c at IsAnswer tell given then = (result : Result X AskFault) × c.asks (Result X AskFault) at IsAnswer result then × (given ≡ asked_reply tell result)
 
 -- a question of version 2 of lines: the report cut to some agents, a plan, whether a cell is open, who is where at a time; a wait ends with the counter's version
 abbrev pub Inquires : {S : Type 0} → Counting S → S → Inquiry → Reply → S → Type 0
-Inquires c at (inquiry.Report agents) given then = Asks c at (λ desk. TellsCut desk agents) reply.Shown given then
-Inquires c at (inquiry.Plan agent) given then = Asks c at (λ desk. TellsPlan desk.scene agent) (reply.Planned agent) given then
-Inquires c at (inquiry.Cell cell) given then = Asks c at (λ desk. TellsOpen desk.scene cell) reply.Open given then
-Inquires c at (inquiry.At time cell) given then = Asks c at (λ desk. TellsStanding desk.scene time cell) reply.Standing given then
+Inquires c at (inquiry.Report agents) given then = AsksCounter c at (λ desk. TellsCut desk agents) reply.Shown given then
+Inquires c at (inquiry.Plan agent) given then = AsksCounter c at (λ desk. TellsPlan desk.scene agent) (reply.Planned agent) given then
+Inquires c at (inquiry.Cell cell) given then = AsksCounter c at (λ desk. TellsOpen desk.scene cell) reply.Open given then
+Inquires c at (inquiry.At time cell) given then = AsksCounter c at (λ desk. TellsStanding desk.scene time cell) reply.Standing given then
 Inquires c at (inquiry.Wait seen seconds) given then = TellsVersion c at given then
 
 -- from a session and a counter, a request in the line of that number is given that reply, and leaves that session and that counter
 abbrev pub Obeys : {S : Type 0} → Counting S → ℕ → Session → S → Request → Reply → Session → S → Type 0
 Obeys c number old at ask.Silent given new then = (given ≡ reply.Silent) × (new ≡ old) × (then ≡ at)
-Obeys c number old at ask.Begin given new then = Begins c at given new then
+Obeys c number old at ask.Begin given new then = BeginsGathering c at given new then
 Obeys c number Idle at (ask.Watch thing) given new then = IsNotBegun number at given new then
 Obeys c number (Gathering draft) at (ask.Watch thing) given new then = KeepsWatch number draft thing given new × (then ≡ at)
 Obeys c number Idle at (ask.Edit edit) given new then = CommitsAlone c at edit given new then
@@ -115,13 +115,13 @@ abbrev pub FindsNoMemory : {S : Type 0} → Session → S → Reply → Session 
 FindsNoMemory old at given new then = (given ≡ reply.NoMemory) × (new ≡ old) × (then ≡ at)
 
 -- the request adds to a list: to one that is gathered and isn't full, or an edit to that of a commit of its own
-abbrev pub Adds : Session → Request → Type 0
-Adds Idle (ask.Edit edit) = Unit {0}
-Adds (Gathering draft) (ask.Edit edit) = length draft.edits < MOST_EDITS
-Adds (Gathering draft) (ask.Watch thing) = length draft.watch < MOST_WATCHES
-Adds session _ = ⊥
+abbrev pub AddsToList : Session → Request → Type 0
+AddsToList Idle (ask.Edit edit) = Unit {0}
+AddsToList (Gathering draft) (ask.Edit edit) = length draft.edits < MOST_EDITS
+AddsToList (Gathering draft) (ask.Watch thing) = length draft.watch < MOST_WATCHES
+AddsToList session _ = ⊥
 
 -- a request is obeyed; one that adds to a list may find no memory, and then changes nothing
 abbrev pub MayObey : {S : Type 0} → Counting S → ℕ → Session → S → Request → Reply → Session → S → Type 0
 MayObey c number old at request given new then =
-    Obeys c number old at request given new then ⊎ (Adds old request × FindsNoMemory old at given new then)
+    Obeys c number old at request given new then ⊎ (AddsToList old request × FindsNoMemory old at given new then)

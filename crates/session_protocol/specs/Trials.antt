@@ -4,12 +4,12 @@ use Rattle.std.specs.List.{slice_index_or}
 use Rattle.plan_table.specs.Order.{ComesBefore}
 use Rattle.mapf_rules.specs.ConflictList.{listing_key}
 use Rattle.mapf_rules.specs.Visits.{visit_key}
-use Rattle.desk_report.specs.Changes.{AreChanges, line_key}
+use Rattle.desk_report.specs.Changes.{AreDifferences, line_key}
 use Rattle.desk_report.specs.declared.changed.Changes.{Changes}
 use Rattle.desk_report.specs.declared.reports.Report.{Report}
 use Rattle.desk_commits.specs.Commits.{Tries}
 use Rattle.desk_commits.specs.Entries.{Entry}
-use Rattle.desk_commits.specs.Questions.{Shows}
+use Rattle.desk_commits.specs.Questions.{ShowsReport}
 use Rattle.desk_commits.specs.State.{DeskState}
 use Rattle.desk_commits.specs.declared.answers.Reading.{Reading}
 use Rattle.desk_commits.specs.declared.answers.Refusal.{Refusal}
@@ -33,16 +33,16 @@ pub record AreAscending (report : Report) : Type 0 where
 
 -- a reading of the desk, whose lists ascend
 pub record ShowsInOrder (desk : DeskState) (reading : Reading) : Type 0 where
-  pub shown : Shows desk reading
+  pub shown : ShowsReport desk reading
   pub ascending : AreAscending reading.report
 
 -- what changed from the report of one desk to that of another
 pub record HasChanged (old new : DeskState) (changes : Changes) : Type 0 where
   pub before : Reading
   pub after : Reading
-  pub was : Shows old before
-  pub is : Shows new after
-  pub changed : AreChanges before.report after.report changes
+  pub was : ShowsReport old before
+  pub is : ShowsReport new after
+  pub changed : AreDifferences before.report after.report changes
 
 -- what a commit would change, and the version that it would make; or the first reason to refuse it, or want of memory
 abbrev pub TellsTrial : DeskState → Entry → Result (ℕ × Changes) Refusal → Type 0

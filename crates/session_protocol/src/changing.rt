@@ -1,6 +1,6 @@
 //! What changed from one report to a later one.
 ghost use Rattle.std.specs.Prelude.{◌≡◌, IfOk};
-ghost use Rattle.desk_report.specs.Changes.{AreChanges, AreOnlyIn, HasCome, agent_key, agents_of, line_key};
+ghost use Rattle.desk_report.specs.Changes.{AreDifferences, AreOnlyIn, HasCome, agent_key, agents_in_lines, line_key};
 ghost use Rattle.session_protocol.specs.Trials.{AreAscending, IsAscending};
 
 use crate::differing::only_in;
@@ -10,7 +10,7 @@ use std::alloc::Global;
 
 // The agents of the lines.
 fn agents_of(alloc: Global, lines: &[AgentLine]) -> Result<Vec<Agent>, OutOfMemory>
-    ensures { IfOk result (λ agents. agents.items ≡ agents_of lines.now) }
+    ensures { IfOk result (λ agents. agents.items ≡ agents_in_lines lines.now) }
 {
     Ok(lines.iter().map(|line| line.agent).collect(alloc)?)
 }
@@ -23,7 +23,7 @@ fn gone_agents(
 ) -> Result<List<Agent>, OutOfMemory>
     requires these { IsAscending line_key these.now }
     requires those { IsAscending line_key those.now }
-    ensures { IfOk result (AreOnlyIn agent_key (agents_of these.now) (agents_of those.now)) }
+    ensures { IfOk result (AreOnlyIn agent_key (agents_in_lines these.now) (agents_in_lines those.now)) }
 {
     let these = agents_of(alloc, these)?;
     let those = agents_of(alloc, those)?;
@@ -58,7 +58,7 @@ fn came(alloc: Global, old: &Report, new: &Report) -> Result<Report, OutOfMemory
 pub(crate) fn changes(alloc: Global, old: &Report, new: &Report) -> Result<Changes, OutOfMemory>
     requires old { AreAscending old.now }
     requires new { AreAscending new.now }
-    ensures { IfOk result (AreChanges old.now new.now) }
+    ensures { IfOk result (AreDifferences old.now new.now) }
 {
     let gone_agents = gone_agents(alloc, old.lines.items(), new.lines.items())?;
     let gone_conflicts = only_in(alloc, old.conflicts.items(), new.conflicts.items())?;

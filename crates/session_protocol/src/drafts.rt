@@ -1,5 +1,5 @@
 ghost use Rattle.std.specs.Prelude.{◌≡◌};
-ghost use Rattle.session_protocol.specs.Drafts.{blank};
+ghost use Rattle.session_protocol.specs.Drafts.{nothing_gathered};
 
 use grid_cells::List;
 use scene_edits::{Edit, Thing};
@@ -32,7 +32,7 @@ impl Model for Gathered {
 impl Gathered {
     /// Nothing gathered, on that version.
     pub(crate) fn new(alloc: Global, base: u64) -> Gathered
-        ensures { result ≡ blank base }
+        ensures { result ≡ nothing_gathered base }
     {
         Gathered {
             base,

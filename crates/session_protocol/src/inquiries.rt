@@ -1,6 +1,6 @@
 //! What the questions of version 2 of lines are answered.
 ghost use Rattle.std.specs.Prelude.{◌≡◌};
-ghost use Rattle.session_protocol.specs.Table.{Asks, Inquires};
+ghost use Rattle.session_protocol.specs.Table.{AsksCounter, Inquires};
 ghost use Rattle.desk_commits.specs.Questions.{TellsCut, TellsPlan, TellsOpen, TellsStanding};
 
 use crate::replies::Reply;
@@ -11,7 +11,7 @@ use session_lines::Inquiry;
 
 // The report, cut to those agents.
 fn cut<C: Counter>(counter: &mut C, agents: List<Agent>) -> Reply
-    ensures { Asks C.counting counter.old (λ desk. TellsCut desk agents) Reply.Shown result counter.new }
+    ensures { AsksCounter C.counting counter.old (λ desk. TellsCut desk agents) Reply.Shown result counter.new }
 {
     match counter.ask(&Cutting { agents }) {
         Ok(reading) => Reply::Shown(reading),
@@ -21,7 +21,7 @@ fn cut<C: Counter>(counter: &mut C, agents: List<Agent>) -> Reply
 
 // The agent's goal and its path.
 fn plan<C: Counter>(counter: &mut C, agent: Agent) -> Reply
-    ensures { Asks C.counting counter.old (λ desk. TellsPlan desk.scene agent) (Reply.Planned agent) result counter.new }
+    ensures { AsksCounter C.counting counter.old (λ desk. TellsPlan desk.scene agent) (Reply.Planned agent) result counter.new }
 {
     match counter.ask(&Planning { agent }) {
         Ok(row) => Reply::Planned(agent, row),
@@ -31,7 +31,7 @@ fn plan<C: Counter>(counter: &mut C, agent: Agent) -> Reply
 
 // Whether the cell is open.
 fn probe<C: Counter>(counter: &mut C, cell: Cell) -> Reply
-    ensures { Asks C.counting counter.old (λ desk. TellsOpen desk.scene cell) Reply.Open result counter.new }
+    ensures { AsksCounter C.counting counter.old (λ desk. TellsOpen desk.scene cell) Reply.Open result counter.new }
 {
     match counter.ask(&Probing { cell }) {
         Ok(is_so) => Reply::Open(is_so),
@@ -41,7 +41,7 @@ fn probe<C: Counter>(counter: &mut C, cell: Cell) -> Reply
 
 // Who is in the cell at that time.
 fn standing<C: Counter>(counter: &mut C, time: Step, cell: Cell) -> Reply
-    ensures { Asks C.counting counter.old (λ desk. TellsStanding desk.scene time cell) Reply.Standing result counter.new }
+    ensures { AsksCounter C.counting counter.old (λ desk. TellsStanding desk.scene time cell) Reply.Standing result counter.new }
 {
     match counter.ask(&Standing { time, cell }) {
         Ok(agents) => Reply::Standing(agents),

@@ -2,7 +2,7 @@ ghost use Rattle.std.specs.Prelude.{◌≡◌, ◌+◌, [], Err, IfErr, ◌||◌
 ghost use Rattle.session_protocol.specs.Answer.{answering_in};
 ghost use Rattle.session_protocol.specs.Keeping.{StopsUnkept};
 ghost use Rattle.session_protocol.specs.Reads.{ReadsWithin};
-ghost use Rattle.session_protocol.specs.Session.{IsAnswered, IsNext, Serves, is_read_failed, is_write_failed};
+ghost use Rattle.session_protocol.specs.Session.{IsAnswered, IsNextByte, Serves, is_read_failed, is_write_failed};
 
 use crate::answers::answer;
 use crate::bounds::{Bounds, ServeFault};
@@ -59,7 +59,7 @@ fn next_within<R: Source>(
     lines: u32,
     bytes: u64,
 ) -> Result<Option<u8>, ServeFault>
-    ensures next { IsNext (R.left reader.old) (R.left reader.new) bounds lines bytes result }
+    ensures next { IsNextByte (R.left reader.old) (R.left reader.new) bounds lines bytes result }
     ensures read { ReadsWithin R.gives 1 reader.old reader.new (is_read_failed result) }
     ensures failed { R.failed reader.new ≡ (R.failed reader.old || is_read_failed result) }
 {

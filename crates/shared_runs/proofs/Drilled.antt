@@ -8,7 +8,7 @@ use Rattle.desk_report.specs.Bytes.{AppendsFront}
 use Rattle.desk_report.specs.Report.{IsReportOf}
 use Rattle.desk_report.specs.declared.reports.Report.{Report}
 use Rattle.desk_commits.specs.Entries.{Entry}
-use Rattle.desk_commits.specs.Questions.{Shows}
+use Rattle.desk_commits.specs.Questions.{ShowsReport}
 use Rattle.desk_commits.specs.Replays.{IsLegal}
 use Rattle.desk_commits.specs.State.{DeskState, opening, after}
 use Rattle.desk_commits.specs.declared.answers.Reading.{Reading}
@@ -49,7 +49,7 @@ ends_at pass reading desk each kept is =
     record {
       legal = subst (IsLegal pass.start) seen on.legal;
       within = subst (λ (made : List Entry). version_at pass.start made ≤ pass.start.limit) seen on.within;
-      shown = subst (λ (made : List Entry). Shows (after pass.start made) reading) seen is.shown.answered;
+      shown = subst (λ (made : List Entry). ShowsReport (after pass.start made) reading) seen is.shown.answered;
       closed = is.closed.desk_is ∙ ap (λ (start : DeskState). after start is.closed.found) same.start ∙ ap (after pass.start) (found ∙ seen);
     }
 

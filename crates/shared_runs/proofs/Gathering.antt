@@ -8,7 +8,7 @@ use mathlib.Core.Logic.{dite}
 use native.Mathlib.Decide.{ℕ_discrete}
 use Rattle.desk_commits.specs.Entries.{Entry}
 use Rattle.desk_shared.specs.Passes.{PassState, own_of, HasJust}
-use Rattle.desk_shared.specs.Calls.{IsSplit, IsJoined}
+use Rattle.desk_shared.specs.Calls.{IsSplit, IsJoinOf}
 use Rattle.shared_runs.specs.Drills.{AreJoined, HasGathered}
 
 -- a number, and its entries
@@ -35,7 +35,7 @@ split_gathered old new other nothing none split =
     none_gathered old new nothing none (λ i. (split.given i).start) (λ i. (split.given i).planners) (λ i. (split.given i).planner) (λ i. (split.given i).made) (λ i. (split.given i).past)
 
 -- a pass was joined after others
-pub join_gathered : (old mid on other new : PassState) → HasGathered old mid → HasGathered mid on → IsJoined on other new → HasGathered old new
+pub join_gathered : (old mid on other new : PassState) → HasGathered old mid → HasGathered mid on → IsJoinOf on other new → HasGathered old new
 join_gathered old mid on other new split others joined =
     record {
       start = joined.start ∙ others.start ∙ split.start;
@@ -53,7 +53,7 @@ own_at made found past before now number (at, numbered, inside, there, is) =
     let then : own_of numbered.0 made ≡ numbered.1 = subst (HasJust made) there (before at numbered inside) in
     subst (λ (n : ℕ). own_of n found ≡ own_of n made) is (here ∙ sym then)
 
-module _ (on other new : PassState) (joined : IsJoined on other new) where
+module _ (on other new : PassState) (joined : IsJoinOf on other new) where
   -- the passes that were joined before have no more entries
   pub own_kept : All (HasJust on.made) on.past → (number : ℕ) → Any (λ (numbered : Numbered). numbered.0 ≡ number) on.past → own_of number new.made ≡ own_of number on.made
   own_kept before number joined_before =

@@ -7,7 +7,7 @@ use mathlib.Core.List.{IsPrefix}
 use Rattle.desk_commits.specs.Entries.{Entry}
 use Rattle.desk_commits.specs.Replays.{IsLegal}
 use Rattle.desk_commits.specs.State.{DeskState, after}
-use Rattle.desk_shared.specs.Calls.{IsClosed, IsFirst, IsJoined, IsSplit}
+use Rattle.desk_shared.specs.Calls.{IsDeskAtClose, IsFirst, IsJoinOf, IsSplit}
 use Rattle.desk_shared.specs.Passes.{PassState, Held, Sharing, AreOfPlanners, HasJust, own_of, version_at}
 use Rattle.shared_runs.proofs.Gathering.{own_at, own_kept, one_more_joined}
 use Rattle.desk_shared.specs.Windows.{window_on}
@@ -46,7 +46,7 @@ module _ (shared : Sharing) (inputs : Inputs) where
   )
 
   -- a planner's pass, split off before the others, is joined after them
-  pub one_more_hosted : (old split mid new : PassState) (pass other : Held) (planner : ℕ) (outcome operator : Result ℕ SeatFault) (later : List (Result ℕ SeatFault)) → old.made ≡ [] → old.planner ≡ 0 → pass.known.planner ≡ planner → IsSplit old split pass.known → HasHosted shared inputs split mid (planner + 1) later operator → IsEnded shared (inputs planner) pass other outcome → IsJoined mid other.known new → HasHosted shared inputs old new planner (outcome ∷ later) operator
+  pub one_more_hosted : (old split mid new : PassState) (pass other : Held) (planner : ℕ) (outcome operator : Result ℕ SeatFault) (later : List (Result ℕ SeatFault)) → old.made ≡ [] → old.planner ≡ 0 → pass.known.planner ≡ planner → IsSplit old split pass.known → HasHosted shared inputs split mid (planner + 1) later operator → IsEnded shared (inputs planner) pass other outcome → IsJoinOf mid other.known new → HasHosted shared inputs old new planner (outcome ∷ later) operator
   one_more_hosted old split mid new pass other planner outcome operator later nothing zeroth number is hosted ends joined =
       let start : split.start ≡ old.start = λ i. (is.given i).start in
       let first : split.planner ≡ old.planner = λ i. (is.given i).planner in
@@ -76,7 +76,7 @@ module _ (shared : Sharing) (inputs : Inputs) where
       }
 
   -- the desk that was closed, and what is told of it
-  pub hosts : (start : DeskState) (planners many : ℕ) (first last : PassState) (desk : DeskState) (end : HostEnd) → many ≡ planners + 1 → length end.planners.items ≡ planners → IsFirst start many first → HasHosted shared inputs first last 1 end.planners.items end.operator → IsClosed last desk → end.desk ≡ desk → IfOk end.same (IsCompared desk) → Hosts inputs start planners end
+  pub hosts : (start : DeskState) (planners many : ℕ) (first last : PassState) (desk : DeskState) (end : HostEnd) → many ≡ planners + 1 → length end.planners.items ≡ planners → IsFirst start many first → HasHosted shared inputs first last 1 end.planners.items end.operator → IsDeskAtClose last desk → end.desk ≡ desk → IfOk end.same (IsCompared desk) → Hosts inputs start planners end
   hosts start planners many first last desk end one_more all_told is hosted closed same compared =
       let began : last.start ≡ start = hosted.start ∙ is.start in
       let shared_for : last.planners ≡ planners + 1 = hosted.planners ∙ is.shared ∙ one_more in

@@ -6,7 +6,7 @@ use Rattle.desk_commits.specs.State.{DeskState, opening}
 use Rattle.desk_commits.specs.declared.limits.TheConstants.{MOST_ENTRIES}
 use Rattle.session_protocol.specs.declared.bounds.ServeFault.{ServeFault}
 use Rattle.desk_shared.specs.Passes.{PassState, Sharing}
-use Rattle.shared_runs.specs.DrillFaults.{HasEnded, WasServed, IsFirstFault, IsScriptsFault, IsSharedFault, FailsUnwritten}
+use Rattle.shared_runs.specs.DrillFaults.{HasEnded, WasServed, IsFirstFaultOfScripts, IsScriptsFault, IsSharedFault, FailsUnwritten}
 use Rattle.shared_runs.specs.Drills.{IsSession}
 use Rattle.solver_check.specs.Faults.{is_of_sink}
 use Rattle.solver_check.specs.Inputs.{Input}
@@ -38,7 +38,7 @@ later_fault shared start planner script later fault was (inl none) = inl none
 later_fault shared start planner script later fault was (inr first) = inr (inr (was, first))
 
 -- no script fails to be answered
-pub first_unbroken : (shared : Sharing) (start : DeskState) (planner : ℕ) (scripts : List Input) (fault : RunFault) → IsFirstFault shared start planner scripts fault → is_of_sink fault ≡ false
+pub first_unbroken : (shared : Sharing) (start : DeskState) (planner : ℕ) (scripts : List Input) (fault : RunFault) → IsFirstFaultOfScripts shared start planner scripts fault → is_of_sink fault ≡ false
 first_unbroken shared start planner [] fault first = absurd first
 first_unbroken shared start planner (script ∷ later) fault (inl (why, ended, told)) = ap is_of_sink told ∙ (session_told why).1 ∙ ended.session.unbroken
 first_unbroken shared start planner (script ∷ later) fault (inr (was, more)) = first_unbroken shared start (planner + 1) later fault more

@@ -34,14 +34,14 @@ abbrev pub HasScriptFault : Sharing → DeskState → ℕ → Input → RunFault
 HasScriptFault shared start planner script fault = (why : ServeFault) × HasEnded shared start planner script (Err why) × (fault ≡ as_told (Serve why))
 
 -- the fault of the first script that has one, for planners numbered from that one: those before it were served to their end
-abbrev pub IsFirstFault : Sharing → DeskState → ℕ → List Input → RunFault → Type 0
-IsFirstFault shared start planner [] fault = ⊥
-IsFirstFault shared start planner (script ∷ later) fault =
-    HasScriptFault shared start planner script fault ⊎ (WasServed shared start planner script × IsFirstFault shared start (planner + 1) later fault)
+abbrev pub IsFirstFaultOfScripts : Sharing → DeskState → ℕ → List Input → RunFault → Type 0
+IsFirstFaultOfScripts shared start planner [] fault = ⊥
+IsFirstFaultOfScripts shared start planner (script ∷ later) fault =
+    HasScriptFault shared start planner script fault ⊎ (WasServed shared start planner script × IsFirstFaultOfScripts shared start (planner + 1) later fault)
 
 -- the scripts were not all served: a thread's start wanted memory, or this is the first script's fault
 abbrev pub IsScriptsFault : Sharing → DeskState → ℕ → List Input → RunFault → Type 0
-IsScriptsFault shared start planner scripts fault = (fault ≡ OutOfMemory) ⊎ IsFirstFault shared start planner scripts fault
+IsScriptsFault shared start planner scripts fault = (fault ≡ OutOfMemory) ⊎ IsFirstFaultOfScripts shared start planner scripts fault
 
 -- the scripts were all served, and the desk did not come back
 pub record LosesDesk (shared : Sharing) (start : DeskState) (scripts : List Input) (fault : RunFault) : Type 0 where
@@ -51,7 +51,7 @@ pub record LosesDesk (shared : Sharing) (start : DeskState) (scripts : List Inpu
 
 -- the fault of the first script that has one, over a shared desk that begins so, or the loss of that desk
 abbrev pub IsSharedFault : DeskState → List Input → RunFault → Type 0
-IsSharedFault start scripts fault = (shared : Sharing) × (IsFirstFault shared start 1 scripts fault ⊎ LosesDesk shared start scripts fault)
+IsSharedFault start scripts fault = (shared : Sharing) × (IsFirstFaultOfScripts shared start 1 scripts fault ⊎ LosesDesk shared start scripts fault)
 
 -- the scene opens, and memory is wanting, a script has a fault, or the desk did not come back
 pub record FailsAtScripts (map : List ℕ) (scen : Option (List ℕ)) (agents : ℕ) (mode : Mode) (scripts : List Input) (fault : RunFault) : Type 0 where

@@ -11,11 +11,11 @@ use Rattle.desk_report.specs.declared.reports.Report.{Report}
 use Rattle.desk_commits.specs.Entries.{Entry}
 use Rattle.desk_commits.specs.State.{DeskState, opening, after}
 use Rattle.desk_commits.specs.Replays.{IsLegal}
-use Rattle.desk_commits.specs.Questions.{Shows}
+use Rattle.desk_commits.specs.Questions.{ShowsReport}
 use Rattle.desk_commits.specs.declared.answers.Reading.{Reading}
 use Rattle.desk_commits.specs.declared.limits.TheConstants.{MOST_ENTRIES}
 use Rattle.desk_shared.specs.Passes.{PassState, Held, Sharing, Owns, own_of, version_at, AreOfPlanners, HasJust}
-use Rattle.desk_shared.specs.Calls.{AsksBy, IsClosed}
+use Rattle.desk_shared.specs.Calls.{AsksBy, IsDeskAtClose}
 use Rattle.session_lines.specs.declared.versions.LinesVersion.{LinesVersion}
 use Rattle.session_lines.specs.declared.versions.LinesVersion.TheVariants.{One}
 use Rattle.session_protocol.specs.Answer.{answering_in}
@@ -103,14 +103,14 @@ drill_text reading same = reported_text reading.version reading.report ++ same_l
 -- the last reading through a pass of the shared desk, and the desk at the end of its sharing: the reading is of a journal that goes on from what the pass had seen, and the desk's goes on from that one
 pub record IsEnd (pass : PassState) (reading : Reading) (desk : DeskState) : Type 0 where
   pub read : PassState
-  pub shown : AsksBy pass (λ state. Shows state reading) read
-  pub closed : IsClosed read desk
+  pub shown : AsksBy pass (λ state. ShowsReport state reading) read
+  pub closed : IsDeskAtClose read desk
 
 -- the reading, and the desk at the end of its sharing, are of these entries and of no others
 pub record AreOfEntries (start : DeskState) (entries : List Entry) (reading : Reading) (desk : DeskState) : Type 0 where
   pub legal : IsLegal start entries
   pub within : version_at start entries ≤ start.limit
-  pub shown : Shows (after start entries) reading
+  pub shown : ShowsReport (after start entries) reading
   pub closed : desk ≡ after start entries
 
 -- what a drill comes to: every script was served on one shared desk, that of the scene. The first pass has then seen all the scripts' commits and no others: none of its own, 0, and each of one of the scripts' planners. The reading, through it, and the desk as it was closed are of just these, and the audit is of that desk

@@ -4,7 +4,7 @@ use mathlib.Core.List.{IsPrefix}
 use Rattle.desk_report.specs.Report.{IsReportOf}
 use Rattle.desk_report.specs.declared.reports.Report.{Report}
 use Rattle.desk_commits.specs.Entries.{Entry}
-use Rattle.desk_commits.specs.Questions.{Shows}
+use Rattle.desk_commits.specs.Questions.{ShowsReport}
 use Rattle.desk_commits.specs.Replays.{IsLegal}
 use Rattle.desk_commits.specs.State.{DeskState, after}
 use Rattle.desk_commits.specs.declared.answers.Reading.{Reading}
@@ -57,7 +57,7 @@ pub record HasHosted (shared : Sharing) (inputs : Inputs) (old new : PassState) 
 -- the audit's report of the desk's scene is the one that the desk shows
 pub record IsCompared (desk : DeskState) (same : Bool) : Type 0 where
   pub reading : Reading
-  pub shown : Shows desk reading
+  pub shown : ShowsReport desk reading
   pub audited : Report
   pub told : IsReportOf desk.scene.grid desk.scene.mode desk.scene.rows audited
   pub answer : IsTrue same ↔ (reading.report ≡ audited)

@@ -1,7 +1,7 @@
 ghost use Rattle.std.specs.Prelude.{◌≡◌, ◌≤◌, ◌||◌, length, unwrap_or, IfErr, IfOk};
 ghost use Rattle.shared_runs.specs.DrillFaults.{FailsDrill, FailsUnwritten};
 ghost use Rattle.shared_runs.specs.Drills.{ComesTo, Drills, inputs_of, texts_of};
-ghost use Rattle.solver_check.specs.Faults.{is_write_fault};
+ghost use Rattle.solver_check.specs.Faults.{is_run_write_fault};
 ghost use Rattle.solver_check.specs.Opens.{bytes_of};
 
 use crate::hearing::AtGate;
@@ -48,7 +48,7 @@ pub fn run_drill<R: Threads + Wait + Sync, G: Gate, W: Sink>(
     requires workers { (1 ≤ workers) × (workers ≤ 64) }
     ensures drilled { IfOk result (Drills map.now (bytes_of scen.entry) agents mode (texts_of scripts.items) (W.held writer.old) (W.held writer.new)) }
     ensures refused { IfErr result (FailsDrill map.now (bytes_of scen.entry) agents mode (texts_of scripts.items) (W.held writer.old) (W.held writer.new)) }
-    ensures broken { W.broken writer.new ≡ (W.broken writer.old || is_write_fault result) }
+    ensures broken { W.broken writer.new ≡ (W.broken writer.old || is_run_write_fault result) }
 {
     let problem = Problem {
         map,
@@ -90,7 +90,7 @@ pub fn hear_drill<R: Threads + Wait + Clock + Sync, H: Hearing + Sync, W: Sink>(
         (inputs_of version scripts.items) (W.held writer.old) (W.held writer.new)) }
     ensures refused { IfErr result (FailsDrill problem.entry.map.now (bytes_of problem.entry.scen) (unwrap_or problem.entry.agents 0) problem.entry.mode
         (inputs_of version scripts.items) (W.held writer.old) (W.held writer.new)) }
-    ensures broken { W.broken writer.new ≡ (W.broken writer.old || is_write_fault result) }
+    ensures broken { W.broken writer.new ≡ (W.broken writer.old || is_run_write_fault result) }
 {
     let spoken = Spoken { version };
     drill(
@@ -114,7 +114,7 @@ fn drill<R: Threads + Wait + Sync, H: Hearing + Sync, P: Serving<R>, W: Sink>(
         (inputs_of (P.version serving.now) scripts.items) (W.held writer.old) (W.held writer.new)) }
     ensures refused { IfErr result (FailsDrill problem.entry.map.now (bytes_of problem.entry.scen) (unwrap_or problem.entry.agents 0) problem.entry.mode
         (inputs_of (P.version serving.now) scripts.items) (W.held writer.old) (W.held writer.new)) }
-    ensures broken { W.broken writer.new ≡ (W.broken writer.old || is_write_fault result) }
+    ensures broken { W.broken writer.new ≡ (W.broken writer.old || is_run_write_fault result) }
 {
     if scripts.len() > MOST_SCRIPTS {
         drop(scripts);

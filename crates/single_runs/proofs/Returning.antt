@@ -4,7 +4,7 @@ use Rattle.scene_edits.specs.Scene.{SceneState}
 use Rattle.scene_edits.proofs.Returning.{edits_keep_size_holds}
 use Rattle.scene_edits.specs.InOrder.{edited_all}
 use Rattle.desk_commits.specs.Entries.{Entry}
-use Rattle.desk_commits.specs.Questions.{Shows}
+use Rattle.desk_commits.specs.Questions.{ShowsReport}
 use Rattle.desk_commits.specs.Replays.{Log, IsReplay}
 use Rattle.desk_commits.specs.State.{DeskState, opening, scene_after, after}
 use Rattle.desk_commits.specs.declared.answers.Reading.{Reading}
@@ -77,7 +77,7 @@ module _ (scene : SceneState) (limit larger : ℕ) (desk : DeskState) (on : Goes
       ]
 
 -- a reading doesn't look at the limit
-shows_under : (limit : ℕ) (desk : DeskState) (reading : Reading) → Shows desk reading → Shows (under limit desk) reading
+shows_under : (limit : ℕ) (desk : DeskState) (reading : Reading) → ShowsReport desk reading → ShowsReport (under limit desk) reading
 shows_under limit desk reading shown = record { version = shown.version; report = shown.report; priced = shown.priced }
 
 pub saved_desks_come_back_holds : SavedDesksComeBack

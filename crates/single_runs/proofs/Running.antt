@@ -12,7 +12,7 @@ use Rattle.session_protocol.specs.declared.drafts.Session.TheVariants.{Idle}
 use Rattle.solver_check.specs.Faults.{run_answer}
 use Rattle.solver_check.specs.Bounds.{run_bounds}
 use Rattle.single_runs.specs.Runs.{RunsOver, Runs}
-use Rattle.single_runs.specs.Sittings.{SitsOver, Sits}
+use Rattle.single_runs.specs.Sittings.{SitsOver, SitsOverFiles}
 use Rattle.solver_check.specs.declared.faults.RunFault.{RunFault}
 
 -- what a run answers that ended so
@@ -35,7 +35,7 @@ module _ (scen : Option (List ℕ)) (agents : ℕ) (mode : Mode) (limit : ℕ) w
   ran_over map bounds left0 left1 held0 held1 (Err fault) (inl first, unread, silent) = inr (record { fault = fault; first = first; told = refl; unread = unread; silent = silent })
   ran_over map bounds left0 left1 held0 held1 (Err fault) (inr entry, unread, silent) = absurd entry.first
 
-  pub ran : (map : Option (List ℕ)) (left0 left1 held0 held1 : Option (List ℕ)) (result : Result (DeskState × Result ℕ ServeFault) RunFault) → Sits One map scen agents mode limit None left0 left1 held0 held1 result → Runs map scen agents mode limit left0 left1 held0 held1 (sat_answer result)
+  pub ran : (map : Option (List ℕ)) (left0 left1 held0 held1 : Option (List ℕ)) (result : Result (DeskState × Result ℕ ServeFault) RunFault) → SitsOverFiles One map scen agents mode limit None left0 left1 held0 held1 result → Runs map scen agents mode limit left0 left1 held0 held1 (sat_answer result)
   ran (Some map) left0 left1 held0 held1 result is = ran_over map run_bounds left0 left1 held0 held1 result is
   ran None left0 left1 held0 held1 (Ok sat) is = inl (record { text = is.text; between = is.between; heard = is.heard; runs = ran_over is.text _ is.between left1 held0 held1 (Ok sat) is.sits })
   ran None left0 left1 held0 held1 (Err fault) (inl is) = inl (record { text = is.text; between = is.between; heard = is.heard; runs = ran_over is.text _ is.between left1 held0 held1 (Err fault) is.sits })

@@ -1,7 +1,7 @@
 -- What is saved of a desk, and what comes of it (this project's choice).
 use Rattle.std.specs.Prelude.{◌≡◌, ◌⊎◌, ◌≤◌, ℕ, List, Option, Some, Result, Ok, Err}
 use Rattle.scene_edits.specs.Scene.{SceneState}
-use Rattle.desk_commits.specs.Questions.{Shows}
+use Rattle.desk_commits.specs.Questions.{ShowsReport}
 use Rattle.desk_commits.specs.Replays.{Log}
 use Rattle.desk_commits.specs.State.{DeskState}
 use Rattle.desk_commits.specs.declared.answers.Reading.{Reading}
@@ -37,4 +37,4 @@ abbrev pub SavedDesksComeBack : Type 0
 SavedDesksComeBack = (version : LinesVersion) (journal : Option (List ℕ)) (scene : SceneState) (limit larger : ℕ) (start desk : DeskState) (bounds : Bounds) (left0 left1 held0 held1 : Option (List ℕ)) (first last : Session) (ended : Result ℕ ServeFault) (result : Result DeskState RunFault)
     → Replays journal scene limit start → Serves (answering_in version desk_counting) bounds left0 left1 held0 held1 (first, start) (last, desk) ended
     → IsJournal (log_of desk) → limit ≤ larger → ReplaysAs (Some (saved_text desk)) scene larger result
-    → ((result ≡ Ok (under larger desk)) × ((reading : Reading) → Shows desk reading → Shows (under larger desk) reading)) ⊎ (result ≡ Err OutOfMemory)
+    → ((result ≡ Ok (under larger desk)) × ((reading : Reading) → ShowsReport desk reading → ShowsReport (under larger desk) reading)) ⊎ (result ≡ Err OutOfMemory)

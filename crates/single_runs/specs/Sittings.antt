@@ -51,9 +51,9 @@ SitsAtReader version scen agents mode limit journal left0 left1 held0 held1 (Err
     SitsAfterMap version scen agents mode limit journal left0 left1 held0 held1 (Err fault) ⊎ StopsBefore left0 left1 held0 held1 fault
 
 -- what a session over the desk of a run's files leaves
-abbrev pub Sits : LinesVersion → Option (List ℕ) → Option (List ℕ) → ℕ → Mode → ℕ → (journal left0 left1 held0 held1 : Option (List ℕ)) → Result (DeskState × Result ℕ ServeFault) RunFault → Type 0
-Sits version (Some map) scen agents mode limit journal left0 left1 held0 held1 result = SitsOver version map scen agents mode limit journal run_bounds left0 left1 held0 held1 result
-Sits version None scen agents mode limit journal left0 left1 held0 held1 result = SitsAtReader version scen agents mode limit journal left0 left1 held0 held1 result
+abbrev pub SitsOverFiles : LinesVersion → Option (List ℕ) → Option (List ℕ) → ℕ → Mode → ℕ → (journal left0 left1 held0 held1 : Option (List ℕ)) → Result (DeskState × Result ℕ ServeFault) RunFault → Type 0
+SitsOverFiles version (Some map) scen agents mode limit journal left0 left1 held0 held1 result = SitsOver version map scen agents mode limit journal run_bounds left0 left1 held0 held1 result
+SitsOverFiles version None scen agents mode limit journal left0 left1 held0 held1 result = SitsAtReader version scen agents mode limit journal left0 left1 held0 held1 result
 
 -- the source failed, before the session or in it; and so the sink
 abbrev pub source_failed : Result (DeskState × Result ℕ ServeFault) RunFault → Bool

@@ -1,6 +1,6 @@
 ghost use Rattle.std.specs.Prelude.{◌≡◌, ◌≤◌, ◌||◌, IfErr, OnOk};
 ghost use Rattle.single_runs.specs.Audits.{Audits, FailsAudit};
-ghost use Rattle.solver_check.specs.Faults.{is_write_fault};
+ghost use Rattle.solver_check.specs.Faults.{is_run_write_fault};
 ghost use Rattle.solver_check.specs.Opens.{bytes_of};
 
 use crate::opening::open_desk;
@@ -36,7 +36,7 @@ pub fn run_audit<T: Threads + Wait, W: Sink>(
     requires workers { (1 ≤ workers) × (workers ≤ 64) }
     ensures audited { OnOk result (Audits map.now (bytes_of scen.entry) agents mode (bytes_of journal.entry) (W.held writer.old) (W.held writer.new)) }
     ensures refused { IfErr result (FailsAudit map.now (bytes_of scen.entry) agents mode (bytes_of journal.entry) (W.held writer.old) (W.held writer.new)) }
-    ensures broken { W.broken writer.new ≡ (W.broken writer.old || is_write_fault result) }
+    ensures broken { W.broken writer.new ≡ (W.broken writer.old || is_run_write_fault result) }
 {
     let Some(limit) = Limit::new(MOST_ENTRIES) else {
         unreachable!()

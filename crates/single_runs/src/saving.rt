@@ -1,6 +1,6 @@
 ghost use Rattle.std.specs.Prelude.{◌≡◌, [], Some, IsTrue, OnOk, OnErr, is_err, ◌||◌};
 ghost use Rattle.std.specs.Io.KnownBytes.{Appends};
-ghost use Rattle.atomic_save.specs.Outcomes.{Only, LeavesOnly, IsOldOrNew, IsFound};
+ghost use Rattle.atomic_save.specs.Outcomes.{Only, LeavesOnly, IsOldOrNew, IsFoundInFile};
 ghost use Rattle.desk_report.specs.Bytes.{AppendsFront};
 ghost use Rattle.journal_text.specs.Ranges.{IsJournal};
 ghost use Rattle.single_runs.specs.Saved.{log_of, saved_text};
@@ -40,7 +40,7 @@ pub fn save_journal<T: TemporaryFile, F: NamedFile<T>>(
 ) -> Result<(), SaveError>
     requires durable { IsTrue F.is_told → Only (F.content named.old) (F.may_leave named.old) }
     requires empty { IsTrue F.is_told → T.written temporary ≡ Some [] }
-    ensures found { IsTrue F.is_told → IsFound (F.content named.old) (saved_text desk.now) result (F.content named.new) }
+    ensures found { IsTrue F.is_told → IsFoundInFile (F.content named.old) (saved_text desk.now) result (F.content named.new) }
     ensures durable { IsTrue F.is_told → OnOk result (Only (Some (saved_text desk.now)) (F.may_leave named.new)) }
     ensures any_moment { IsTrue F.is_told → LeavesOnly F.moment F.left_since named.old named.new (IsOldOrNew (F.content named.old) (saved_text desk.now)) }
     ensures cause { F.has_failed named.new ≡ ((F.has_failed named.old || T.has_failed temporary) || is_err result) }

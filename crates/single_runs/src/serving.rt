@@ -1,8 +1,8 @@
 ghost use Rattle.std.specs.Prelude.{◌≡◌, ◌||◌, unwrap_or};
 ghost use Rattle.session_protocol.specs.Reads.{ReadsUntil};
-ghost use Rattle.solver_check.specs.Faults.{is_read_fault, is_write_fault};
+ghost use Rattle.solver_check.specs.Faults.{is_run_read_fault, is_run_write_fault};
 ghost use Rattle.single_runs.specs.Runs.{Runs};
-ghost use Rattle.single_runs.specs.Sittings.{Sits, SitsOver, sink_failed, source_failed};
+ghost use Rattle.single_runs.specs.Sittings.{SitsOverFiles, SitsOver, sink_failed, source_failed};
 ghost use Rattle.solver_check.specs.Opens.{bytes_of};
 
 use crate::opening::open_desk;
@@ -32,9 +32,9 @@ pub fn run_serve<R: Source, W: Sink>(
 ) -> Result<u32, RunFault>
     ensures runs { Runs (bytes_of map.entry) (bytes_of scen.entry) agents mode limit
         (R.left reader.old) (R.left reader.new) (W.held writer.old) (W.held writer.new) result }
-    ensures reads { ReadsUntil R.gives reader.old reader.new (is_read_fault result) }
-    ensures failed { R.failed reader.new ≡ (R.failed reader.old || is_read_fault result) }
-    ensures broken { W.broken writer.new ≡ (W.broken writer.old || is_write_fault result) }
+    ensures reads { ReadsUntil R.gives reader.old reader.new (is_run_read_fault result) }
+    ensures failed { R.failed reader.new ≡ (R.failed reader.old || is_run_read_fault result) }
+    ensures broken { W.broken writer.new ≡ (W.broken writer.old || is_run_write_fault result) }
 {
     match serve_desk(
         alloc,
@@ -78,7 +78,7 @@ pub fn serve_desk<R: Source, W: Sink>(
     reader: &mut R,
     writer: &mut W,
 ) -> Result<(Desk, Result<u32, ServeFault>), RunFault>
-    ensures sits { Sits version (bytes_of map.entry) (bytes_of scen.entry) agents mode limit (bytes_of journal.entry)
+    ensures sits { SitsOverFiles version (bytes_of map.entry) (bytes_of scen.entry) agents mode limit (bytes_of journal.entry)
         (R.left reader.old) (R.left reader.new) (W.held writer.old) (W.held writer.new) result }
     ensures reads { ReadsUntil R.gives reader.old reader.new (source_failed result) }
     ensures failed { R.failed reader.new ≡ (R.failed reader.old || source_failed result) }

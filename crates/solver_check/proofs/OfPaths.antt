@@ -6,9 +6,9 @@ use Rattle.std.proofs.lemmas.Option.{slice_get_within, get_or_from_slice_get}
 use Rattle.grid_cells.specs.Cell.{Point}
 use Rattle.scene_edits.specs.declared.edits.Edit.{Edit}
 use Rattle.path_files.specs.declared.paths.SolverPaths.{SolverPaths}
-use Rattle.solver_check.specs.CheckEdits.{start_in, goal_in, add_of, adds_from, paths_from, edits_of, IsOfPaths}
+use Rattle.solver_check.specs.CheckEdits.{start_in, goal_in, add_given, adds_from, paths_from, edits_of, IsOfPaths}
 
-add-of_paths : (agent : ℕ) (start goal : Option Point) → AllByRecursion IsOfPaths (add_of agent start goal)
+add-of_paths : (agent : ℕ) (start goal : Option Point) → AllByRecursion IsOfPaths (add_given agent start goal)
 add-of_paths agent (Some start) (Some goal) = (tt, tt)
 add-of_paths agent (Some start) None = tt
 add-of_paths agent None goal = tt
@@ -16,7 +16,7 @@ add-of_paths agent None goal = tt
 adds-of_paths : (spelled : SolverPaths) (agent : ℕ) (paths : List (List Point)) → All IsOfPaths (adds_from spelled agent paths)
 adds-of_paths spelled agent [] = All-from_recursion IsOfPaths [] tt
 adds-of_paths spelled agent (path ∷ paths) =
-    All-append IsOfPaths (add_of agent (start_in spelled agent path) (goal_in spelled agent path)) (adds_from spelled (agent + 1) paths)
+    All-append IsOfPaths (add_given agent (start_in spelled agent path) (goal_in spelled agent path)) (adds_from spelled (agent + 1) paths)
     (All-from_recursion IsOfPaths _ (add-of_paths agent (start_in spelled agent path) (goal_in spelled agent path)))
     (adds-of_paths spelled (agent + 1) paths)
 

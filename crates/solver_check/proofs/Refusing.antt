@@ -15,30 +15,30 @@ use Rattle.path_files.specs.declared.forms.Form.{Form}
 use Rattle.path_files.specs.declared.paths.SolverPaths.{SolverPaths}
 use Rattle.solver_check.specs.Opens.{Opens}
 use Rattle.solver_check.specs.CheckEdits.{edits_of}
-use Rattle.solver_check.specs.CheckTimes.{time_of}
-use Rattle.solver_check.specs.CheckFaults.{Tells, IsRefused, IsPlanFault, HasRefusal, tasks_taken}
+use Rattle.solver_check.specs.CheckTimes.{time_of_fault}
+use Rattle.solver_check.specs.CheckFaults.{TellsFault, IsRefused, IsPlanFault, HasRefusal, tasks_taken}
 use Rattle.solver_check.specs.declared.checks.faults.CheckFault.{CheckFault}
 use Rattle.solver_check.specs.declared.checks.faults.CheckFault.TheVariants.{Agent, Path}
 
 -- told of the edit that stands there
-pub first-refusal : (scene : SceneState) (asked : List Edit) (index : ℕ) (why : EditFault) (edit : Edit) (fault : CheckFault) → IsFirstFault scene asked index why → slice_get asked index ≡ Some edit → Tells scene.grid.size edit why fault → IsRefused scene asked fault
+pub first-refusal : (scene : SceneState) (asked : List Edit) (index : ℕ) (why : EditFault) (edit : Edit) (fault : CheckFault) → IsFirstFault scene asked index why → slice_get asked index ≡ Some edit → TellsFault scene.grid.size edit why fault → IsRefused scene asked fault
 first-refusal scene asked index why edit fault first there told = inl (record {
   index = index;
   why = why;
   first = first;
-  told = subst (λ (e : Edit). Tells scene.grid.size e why fault) (same_Some _ _ (sym there ∙ first.there)) told;
+  told = subst (λ (e : Edit). TellsFault scene.grid.size e why fault) (same_Some _ _ (sym there ∙ first.there)) told;
 })
 
 -- told on the map of that size, of the edit in a list that is the one asked for
-pub told-first : (scene : SceneState) (list asked : List Edit) (index : ℕ) (why : EditFault) (edit : Edit) (size : Extent) (fault : CheckFault) → list ≡ asked → size ≡ scene.grid.size → IsFirstFault scene list index why → slice_get list index ≡ Some edit → Tells size edit why fault → IsRefused scene asked fault
+pub told-first : (scene : SceneState) (list asked : List Edit) (index : ℕ) (why : EditFault) (edit : Edit) (size : Extent) (fault : CheckFault) → list ≡ asked → size ≡ scene.grid.size → IsFirstFault scene list index why → slice_get list index ≡ Some edit → TellsFault size edit why fault → IsRefused scene asked fault
 told-first scene list asked index why edit size fault same on first there told =
     subst (λ (l : List Edit). IsRefused scene l fault) same
-    (first-refusal scene list index why edit fault first there (subst (λ (s : Extent). Tells s edit why fault) on told))
+    (first-refusal scene list index why edit fault first there (subst (λ (s : Extent). TellsFault s edit why fault) on told))
 
 -- a refusal is told of an agent or of a path
-told-so : (size : Extent) (edit : Edit) (why : EditFault) (fault : CheckFault) (P : CheckFault → Type 0) → Tells size edit why fault → ((agent : ℕ) (of : EditFault) → P (Agent agent of)) → ((agent time : ℕ) (of : EditFault) → P (Path agent time of)) → P fault
+told-so : (size : Extent) (edit : Edit) (why : EditFault) (fault : CheckFault) (P : CheckFault → Type 0) → TellsFault size edit why fault → ((agent : ℕ) (of : EditFault) → P (Agent agent of)) → ((agent time : ℕ) (of : EditFault) → P (Path agent time of)) → P fault
 told-so size (edits.Add agent start goal) why fault P told agents paths = subst P (sym told) (agents agent why)
-told-so size (edits.Path agent cells) why fault P told agents paths = subst P (sym told) (paths agent (time_of size cells why) why)
+told-so size (edits.Path agent cells) why fault P told agents paths = subst P (sym told) (paths agent (time_of_fault size cells why) why)
 told-so size (edits.Drop agent) why fault P told agents paths = absurd told
 told-so size (edits.Goal agent goal) why fault P told agents paths = absurd told
 told-so size (edits.Tail agent from cells) why fault P told agents paths = absurd told

@@ -8,27 +8,27 @@ use Rattle.scene_edits.specs.declared.edits.Edit.TheVariants.{Add, Drop, Goal, P
 use Rattle.path_files.specs.declared.paths.SolverPaths.{SolverPaths}
 
 -- an agent's cell in a list of the text's where that has one, else the cell of its path at that index
-abbrev pub cell_in : Option (List Point) → ℕ → List Point → ℕ → Option Point
-cell_in listed agent path at = option_or (option_and_then (λ cells. slice_get cells agent) listed) (slice_get path at)
+abbrev pub cell_given : Option (List Point) → ℕ → List Point → ℕ → Option Point
+cell_given listed agent path at = option_or (option_and_then (λ cells. slice_get cells agent) listed) (slice_get path at)
 
 -- where the agent with that path starts: where the text says, or where its path begins
 abbrev pub start_in : SolverPaths → ℕ → List Point → Option Point
-start_in spelled agent path = cell_in spelled.starts agent path 0
+start_in spelled agent path = cell_given spelled.starts agent path 0
 
 -- its goal: what the text says, or where its path ends
 abbrev pub goal_in : SolverPaths → ℕ → List Point → Option Point
-goal_in spelled agent path = cell_in spelled.goals agent path (last_index path)
+goal_in spelled agent path = cell_given spelled.goals agent path (last_index path)
 
 -- the agent is added, where it has a start and a goal
-abbrev pub add_of : ℕ → Option Point → Option Point → List Edit
-add_of agent (Some start) (Some goal) = Add agent start goal ∷ []
-add_of agent (Some start) None = []
-add_of agent None goal = []
+abbrev pub add_given : ℕ → Option Point → Option Point → List Edit
+add_given agent (Some start) (Some goal) = Add agent start goal ∷ []
+add_given agent (Some start) None = []
+add_given agent None goal = []
 
 -- the agents of these paths are added, which are of agents from that one on
 abbrev pub adds_from : SolverPaths → ℕ → List (List Point) → List Edit
 adds_from spelled agent [] = []
-adds_from spelled agent (path ∷ paths) = add_of agent (start_in spelled agent path) (goal_in spelled agent path) ++ adds_from spelled (agent + 1) paths
+adds_from spelled agent (path ∷ paths) = add_given agent (start_in spelled agent path) (goal_in spelled agent path) ++ adds_from spelled (agent + 1) paths
 
 -- the agents are added
 abbrev pub adds_of : SolverPaths → List Edit

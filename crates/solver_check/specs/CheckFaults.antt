@@ -16,7 +16,7 @@ use Rattle.solver_check.specs.Opens.{Opens, IsOpenFault}
 use Rattle.solver_check.specs.declared.faults.RunFault.{RunFault}
 use Rattle.solver_check.specs.declared.faults.RunFault.TheVariants as run_fault
 use Rattle.solver_check.specs.CheckEdits.{edits_of}
-use Rattle.solver_check.specs.CheckTimes.{time_of}
+use Rattle.solver_check.specs.CheckTimes.{time_of_fault}
 use Rattle.solver_check.specs.Wrongs.{wrongs_of}
 use Rattle.solver_check.specs.declared.checks.faults.CheckFault.{CheckFault}
 use Rattle.solver_check.specs.declared.checks.faults.CheckFault.TheVariants.{Paths, Run, Agent, Path, WriteFailed, OutOfMemory}
@@ -35,21 +35,21 @@ pub record Spells (map : List ℕ) (scen : Option (List ℕ)) (agents : Option �
   pub opens : Opens map scen (tasks_taken agents spelled) mode opened
 
 -- the fault of an agent, or of a path at its time
-abbrev pub Tells : Extent → Edit → EditFault → CheckFault → Type 0
-Tells size (edits.Add agent start goal) why fault = fault ≡ Agent agent why
-Tells size (edits.Path agent cells) why fault = fault ≡ Path agent (time_of size cells why) why
-Tells size (edits.Drop agent) why fault = ⊥
-Tells size (edits.Goal agent goal) why fault = ⊥
-Tells size (edits.Tail agent from cells) why fault = ⊥
-Tells size (edits.Open cell) why fault = ⊥
-Tells size (edits.Close cell) why fault = ⊥
+abbrev pub TellsFault : Extent → Edit → EditFault → CheckFault → Type 0
+TellsFault size (edits.Add agent start goal) why fault = fault ≡ Agent agent why
+TellsFault size (edits.Path agent cells) why fault = fault ≡ Path agent (time_of_fault size cells why) why
+TellsFault size (edits.Drop agent) why fault = ⊥
+TellsFault size (edits.Goal agent goal) why fault = ⊥
+TellsFault size (edits.Tail agent from cells) why fault = ⊥
+TellsFault size (edits.Open cell) why fault = ⊥
+TellsFault size (edits.Close cell) why fault = ⊥
 
 -- the fault is that of the first edit that a scene refuses
 pub record IsFirstRefusal (scene : SceneState) (asked : List Edit) (fault : CheckFault) : Type 0 where
   pub index : ℕ
   pub why : EditFault
   pub first : IsFirstFault scene asked index why
-  pub told : Tells scene.grid.size first.edit why fault
+  pub told : TellsFault scene.grid.size first.edit why fault
 
 -- what is answered where edits aren't all made: that fault, or want of memory
 abbrev pub IsRefused : SceneState → List Edit → CheckFault → Type 0

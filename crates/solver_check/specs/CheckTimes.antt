@@ -16,13 +16,13 @@ abbrev pub first_off : Extent → List Point → Option ℕ
 first_off size cells = position (is_off size) cells
 
 -- the time of the first cell that has the fault; what is wrong with a whole path is wrong at its start
-abbrev pub time_of : Extent → List Point → EditFault → ℕ
-time_of size cells OutOfMap = unwrap_or (first_off size cells) 0
-time_of size cells (NotAStep at) = at
-time_of size cells TooLong = MOST_LAST_INDEX + 1
-time_of size cells UnknownAgent = 0
-time_of size cells AgentTaken = 0
-time_of size cells TooManyAgents = 0
-time_of size cells EmptyPath = 0
-time_of size cells NotFromStart = 0
-time_of size cells NoSuchTime = 0
+abbrev pub time_of_fault : Extent → List Point → EditFault → ℕ
+time_of_fault size cells OutOfMap = unwrap_or (first_off size cells) 0
+time_of_fault size cells (NotAStep at) = at
+time_of_fault size cells TooLong = MOST_LAST_INDEX + 1
+time_of_fault size cells UnknownAgent = 0
+time_of_fault size cells AgentTaken = 0
+time_of_fault size cells TooManyAgents = 0
+time_of_fault size cells EmptyPath = 0
+time_of_fault size cells NotFromStart = 0
+time_of_fault size cells NoSuchTime = 0

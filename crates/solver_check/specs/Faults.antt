@@ -35,10 +35,10 @@ is_of_sink WriteFailed = true
 is_of_sink other = false
 
 -- the run ended by such a fault
-abbrev pub is_read_fault : {T : Type 0} → Result T RunFault → Bool
-is_read_fault (Ok done) = false
-is_read_fault (Err fault) = is_of_source fault
+abbrev pub is_run_read_fault : {T : Type 0} → Result T RunFault → Bool
+is_run_read_fault (Ok done) = false
+is_run_read_fault (Err fault) = is_of_source fault
 
-abbrev pub is_write_fault : {T : Type 0} → Result T RunFault → Bool
-is_write_fault (Ok done) = false
-is_write_fault (Err fault) = is_of_sink fault
+abbrev pub is_run_write_fault : {T : Type 0} → Result T RunFault → Bool
+is_run_write_fault (Ok done) = false
+is_run_write_fault (Err fault) = is_of_sink fault

@@ -12,5 +12,5 @@ abbrev pub told : LinesVersion → List ℕ → Input
 told lines bytes = record { lines = lines; bytes = Some bytes }
 
 -- bytes that aren't told
-abbrev pub untold : LinesVersion → Input
-untold lines = record { lines = lines; bytes = None }
+abbrev pub untold_input : LinesVersion → Input
+untold_input lines = record { lines = lines; bytes = None }

@@ -10,7 +10,7 @@ use Rattle.where_index.specs.declared.trails.Hop.{Hop}
 use Rattle.where_index.specs.Records.{hop}
 use Rattle.where_index.specs.Moves.{PutsMove}
 use Rattle.where_index.specs.Changes.{set_at}
-use Rattle.where_index.specs.Crowds.{place, place_eq, crowd_at, Moves, IsCrowd, HasCrowds, ChangesAt, IsBeside, begun, IsJoined, IsLessened, IsLeft, HasFew}
+use Rattle.where_index.specs.Crowds.{place, place_eq, crowd_at, Moves, IsCrowd, HasCrowds, ChangesAt, IsBeside, begun, IsJoined, IsLessened, IsCrowdLeft, HasFew}
 use Rattle.plan_table.proofs.Order.{Contains-nil, Contains-cons_head, Contains-cons_cases}
 use Rattle.where_index.proofs.Changes.{set_itself, none_some, some_one}
 
@@ -33,20 +33,20 @@ changes_at old new cell time list puts Way way = record {
 
 -- moves that are left, and few of them no longer kept
 module _ (old : List (Place × List Move)) where
-  pub kept : (new : List (Place × List Move)) (cell : Point) (time agent : ℕ) → ChangesAt old new cell time (IsLessened agent) → ChangesAt old new cell time (IsLeft agent)
+  pub kept : (new : List (Place × List Move)) (cell : Point) (time agent : ℕ) → ChangesAt old new cell time (IsLessened agent) → ChangesAt old new cell time (IsCrowdLeft agent)
   kept new cell time agent lost = record { here = same _ _ lost.here; elsewhere = lost.elsewhere } where
-    same : (o n : Option (List Move)) → IsLessened agent o n → IsLeft agent o n
+    same : (o n : Option (List Move)) → IsLessened agent o n → IsCrowdLeft agent o n
     same (Some l) (Some k) h = h
     same (Some l) None h = absurd h
     same None (Some k) h = h
     same None None h = h
 
-  pub dropped : (mid new : List (Place × List Move)) (cell : Point) (time agent : ℕ) → ChangesAt old mid cell time (IsLessened agent) → HasFew (crowd_at mid cell time) → ChangesAt mid new cell time (λ o n. n ≡ None) → ChangesAt old new cell time (IsLeft agent)
+  pub dropped : (mid new : List (Place × List Move)) (cell : Point) (time agent : ℕ) → ChangesAt old mid cell time (IsLessened agent) → HasFew (crowd_at mid cell time) → ChangesAt mid new cell time (λ o n. n ≡ None) → ChangesAt old new cell time (IsCrowdLeft agent)
   dropped mid new cell time agent lost few drops = record {
-    here = subst (IsLeft agent (crowd_at old cell time)) (sym drops.here) (none _ _ lost.here few);
+    here = subst (IsCrowdLeft agent (crowd_at old cell time)) (sym drops.here) (none _ _ lost.here few);
     elsewhere = λ c t apart. drops.elsewhere c t apart ∙ lost.elsewhere c t apart;
   } where
-    none : (o m : Option (List Move)) → IsLessened agent o m → HasFew m → IsLeft agent o None
+    none : (o m : Option (List Move)) → IsLessened agent o m → HasFew m → IsCrowdLeft agent o None
     none (Some l) (Some k) h few = (k, h, few)
     none (Some l) None h few = absurd h
     none None (Some k) h few = absurd h
@@ -153,7 +153,7 @@ module _ (f : ℕ → ℕ → Option Hop) (agent time : ℕ) (leg : Hop) (there 
   left : (m : Move) → Moves rest leg.from time m ↔ (Moves f leg.from time m × (m.agent ≢ agent))
   left m = grind (arith, own f agent time None leg.from m, others f agent time None leg.from m)
 
-  leaves_place : (o n : Option (List Move)) → IsCrowd o (Moves f leg.from time) → IsLeft agent o n → IsCrowd n (Moves rest leg.from time)
+  leaves_place : (o n : Option (List Move)) → IsCrowd o (Moves f leg.from time) → IsCrowdLeft agent o n → IsCrowd n (Moves rest leg.from time)
   leaves_place (Some l) (Some k) is loses = λ m. (
     (λ h. let o = (loses m).0 h in (left m).1 ((is m).0 o.0, o.1)),
     (λ h. let o = (left m).0 h in (loses m).1 ((is m).1 o.0, o.1)),
@@ -164,7 +164,7 @@ module _ (f : ℕ → ℕ → Option Hop) (agent time : ℕ) (leg : Hop) (there 
   leaves_place None (Some k) is loses = absurd loses
   leaves_place None None is loses = λ m n p q. is m n ((left m).0 p).0 ((left n).0 q).0
 
-  pub leaves : (old new : List (Place × List Move)) → ChangesAt old new leg.from time (IsLeft agent) → HasCrowds old f → HasCrowds new rest
+  pub leaves : (old new : List (Place × List Move)) → ChangesAt old new leg.from time (IsCrowdLeft agent) → HasCrowds old f → HasCrowds new rest
   leaves old new changes has c t = elim (place_cases leg.from time c t) [
     | inl at ↦
         let now = leaves_place (crowd_at old leg.from time) (crowd_at new leg.from time) (has leg.from time) changes.here in

@@ -5,7 +5,7 @@ use Rattle.std.specs.Ordering.{nat_cmp, ordering_index}
 use Rattle.std.proofs.lemmas.Cmp.{ranked}
 use Rattle.std.proofs.lemmas.Bool.Decides.{nat_tests}
 use Rattle.where_index.specs.declared.moves.Move.{Move}
-use Rattle.where_index.specs.Moves.{AreByAgent, IsAt, IsGapFor}
+use Rattle.where_index.specs.Moves.{AreByAgent, IsMoveAt, IsMoveGap}
 
 module _ (moves : List Move) (by_agent : AreByAgent moves) (agent : ℕ) where
   comparisons_rise : IsNonDecreasingBy (λ (m : Move). ordering_index (nat_cmp m.agent agent)) moves
@@ -14,7 +14,7 @@ module _ (moves : List Move) (by_agent : AreByAgent moves) (agent : ℕ) where
       grind (arith, nat_tests)
 
   -- it ends at the agent's move, or at the gap for it
-  pub searched : (r : Result ℕ ℕ) → IsSearchInRange r (length moves) → IsBinarySearchResult (λ (m : Move). nat_cmp m.agent agent) moves r → record { found : IfOk r (IsAt moves agent); absent : IfErr r (IsGapFor moves agent) }
+  pub searched : (r : Result ℕ ℕ) → IsSearchInRange r (length moves) → IsBinarySearchResult (λ (m : Move). nat_cmp m.agent agent) moves r → record { found : IfOk r (IsMoveAt moves agent); absent : IfErr r (IsMoveGap moves agent) }
   searched (Ok at) within equal = record { found = record { within = within; has_agent = λ d. ranked _ agent _ (sym (equal d)) }; absent = tt }
   searched (Err at) within parted = record {
     found = tt;

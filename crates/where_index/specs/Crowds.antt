@@ -70,11 +70,11 @@ IsLessened agent (Some old) None = ⊥
 IsLessened agent None (Some new) = ⊥
 
 -- the same, or none are kept where that leaves at most one
-abbrev pub IsLeft : ℕ → Option (List Move) → Option (List Move) → Type 0
-IsLeft agent (Some old) (Some new) = LosesMover old new agent
-IsLeft agent None None = Unit {0}
-IsLeft agent (Some old) None = (rest : List Move) × LosesMover old rest agent × (length rest < 2)
-IsLeft agent None (Some new) = ⊥
+abbrev pub IsCrowdLeft : ℕ → Option (List Move) → Option (List Move) → Type 0
+IsCrowdLeft agent (Some old) (Some new) = LosesMover old new agent
+IsCrowdLeft agent None None = Unit {0}
+IsCrowdLeft agent (Some old) None = (rest : List Move) × LosesMover old rest agent × (length rest < 2)
+IsCrowdLeft agent None (Some new) = ⊥
 
 -- the agent's step out of the cell comes to those of others, of which one is told, where nothing is known of the agent
 abbrev pub AddsStep : List (Place × List Move) → List (Place × List Move) → Point → ℕ → Option Move → Move → Type 0

@@ -24,12 +24,12 @@ abbrev pub LosesMover : List Move → List Move → ℕ → Type 0
 LosesMover old new agent = (m : Move) → Contains new m ↔ (Contains old m × (m.agent ≢ agent))
 
 -- the move at the place is the agent's
-pub record IsAt (moves : List Move) (agent at : ℕ) : Type 0 where
+pub record IsMoveAt (moves : List Move) (agent at : ℕ) : Type 0 where
   pub within : at < length moves
   pub has_agent : (d : Move) → (slice_index_or moves at d).agent ≡ agent
 
 -- the agent's move would go to the place: lesser agents before it, greater ones from it on
-pub record IsGapFor (moves : List Move) (agent at : ℕ) : Type 0 where
+pub record IsMoveGap (moves : List Move) (agent at : ℕ) : Type 0 where
   pub within : at ≤ length moves
   pub lesser_before : (k : ℕ) (d : Move) → k < at → (slice_index_or moves k d).agent < agent
   pub greater_after : (k : ℕ) (d : Move) → at ≤ k → k < length moves → agent < (slice_index_or moves k d).agent

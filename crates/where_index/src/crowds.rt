@@ -1,6 +1,6 @@
 ghost use Rattle.std.specs.Prelude.{◌≡◌, [], Some, None, OnOk, IfSome, IfNone};
 ghost use Rattle.std.specs.Bool.{OnTrue};
-ghost use Rattle.where_index.specs.Crowds.{crowd_at, ChangesAt, begun, IsJoined, IsLessened, IsLeft, HasFew};
+ghost use Rattle.where_index.specs.Crowds.{crowd_at, ChangesAt, begun, IsJoined, IsLessened, IsCrowdLeft, HasFew};
 ghost use Rattle.where_index.specs.Moves.{AreByAgent};
 
 use crate::moves::{Move, MoveList};
@@ -71,7 +71,7 @@ impl Crowds {
 
     /// Takes the agent's move out of that cell in that step out of those that are kept.
     pub(crate) fn leave(&mut self, cell: Cell, time: u32, agent: Agent)
-        ensures { ChangesAt self.old self.new cell time (IsLeft agent) }
+        ensures { ChangesAt self.old self.new cell time (IsCrowdLeft agent) }
     {
         if lose_in(&mut self.lists, cell, time, agent) {
             drop_list(&mut self.lists, cell, time);

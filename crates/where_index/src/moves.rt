@@ -1,5 +1,5 @@
 ghost use Rattle.std.specs.Prelude.{◌≡◌, [], OnOk, IfOk, IfErr};
-ghost use Rattle.where_index.specs.Moves.{AreByAgent, HasNone, GainsMove, PutsMove, LosesMover, IsAt, IsGapFor};
+ghost use Rattle.where_index.specs.Moves.{AreByAgent, HasNone, GainsMove, PutsMove, LosesMover, IsMoveAt, IsMoveGap};
 
 use grid_cells::{Agent, Cell, OutOfMemory};
 use std::alloc::Global;
@@ -84,8 +84,8 @@ impl MoveList {
 // Where the agent's move is, or where it would go.
 fn place_of(moves: &[Move], agent: Agent) -> Result<usize, usize>
     requires { AreByAgent moves.now }
-    ensures found { IfOk result (IsAt moves.now agent) }
-    ensures absent { IfErr result (IsGapFor moves.now agent) }
+    ensures found { IfOk result (IsMoveAt moves.now agent) }
+    ensures absent { IfErr result (IsMoveGap moves.now agent) }
 {
     moves.binary_search_by_key(&agent, |one| one.agent)
 }

@@ -1,7 +1,7 @@
 //! How a ledger changes where a cell opens or closes.
 ghost use Rattle.std.specs.Prelude.{◌≡◌, IfOk};
 ghost use Rattle.grid_cells.specs.Grid.{Chart};
-ghost use Rattle.cost_ledger.specs.Ledger.{StandsFor, SameBut, SameAt};
+ghost use Rattle.cost_ledger.specs.Ledger.{StandsForMap, SameClosedBut, SameAt};
 ghost use Rattle.cost_ledger.specs.Through.{AreThrough};
 
 use super::CostLedger;
@@ -18,7 +18,7 @@ impl CostLedger {
     /// Want of memory. The ledger is gone then.
     pub fn flip(self, cell: Cell, grid: &Grid) -> Result<CostLedger, OutOfMemory>
         ensures rows { IfOk result (λ ledger. ledger.rows ≡ self.rows) }
-        ensures stands { IfOk result (λ ledger. (old new : Chart) → StandsFor self old → SameBut old new cell → SameAt grid.now new cell → StandsFor ledger new) }
+        ensures stands { IfOk result (λ ledger. (old new : Chart) → StandsForMap self old → SameClosedBut old new cell → SameAt grid.now new cell → StandsForMap ledger new) }
     {
         let Ok(visits) = self.rows.through(self.alloc, cell) else {
             drop(self);
@@ -43,7 +43,7 @@ impl CostLedger {
         ensures rows { IfOk result (λ ledger. ledger.rows ≡ self.rows) }
         ensures stands { IfOk result (λ ledger. (old new : Chart)
             → AreThrough self.rows cell visits.now
-            → StandsFor self old → SameBut old new cell → SameAt grid.now new cell → StandsFor ledger new) }
+            → StandsForMap self old → SameClosedBut old new cell → SameAt grid.now new cell → StandsForMap ledger new) }
     {
         match set_blocked(&mut self.blocked, visits, is_closed(grid, cell)) {
             Ok(()) => {

@@ -2,7 +2,7 @@
 ghost use Rattle.std.specs.Prelude.{◌≡◌, None, Some, IfOk, IfSome, IfNone};
 ghost use Rattle.plan_table.specs.Path.{SamePlaces};
 ghost use Rattle.plan_table.specs.Plans.{row_of, ChangesRow, IsByAgent};
-ghost use Rattle.cost_ledger.specs.Ledger.{StandsFor};
+ghost use Rattle.cost_ledger.specs.Ledger.{StandsForMap};
 
 use super::CostLedger;
 use crate::along::unblock;
@@ -28,7 +28,7 @@ impl CostLedger {
         requires absent { row_of self.rows agent ≡ None }
         ensures row { IfOk result (λ ledger. ChangesRow self.rows ledger.rows agent (Some (record { goal = goal; plan = plan.now }))) }
         ensures by_agent { IfOk result (λ ledger. IsByAgent ledger.rows) }
-        ensures stands { IfOk result (λ ledger. StandsFor self grid.now → StandsFor ledger grid.now) }
+        ensures stands { IfOk result (λ ledger. StandsForMap self grid.now → StandsForMap ledger grid.now) }
     {
         let _number = agent.number();
         let planned = Planned {
@@ -66,7 +66,7 @@ impl CostLedger {
     pub fn set_plan(self, agent: Agent, plan: &Plan, grid: &Grid) -> Result<Self, OutOfMemory>
         ensures row { IfOk result (λ ledger. IfSome (row_of self.rows agent) (λ row. ChangesRow self.rows ledger.rows agent (Some (record row { plan = plan.now })))) }
         ensures by_agent { IfOk result (λ ledger. IsByAgent ledger.rows) }
-        ensures stands { IfOk result (λ ledger. StandsFor self grid.now → StandsFor ledger grid.now) }
+        ensures stands { IfOk result (λ ledger. StandsForMap self grid.now → StandsForMap ledger grid.now) }
         ensures none { IfNone (row_of self.rows agent) (IfOk result (λ ledger. ledger ≡ self)) }
     {
         self.follow_plan(agent, plan, 0, grid)
@@ -88,7 +88,7 @@ impl CostLedger {
         requires { IfSome (row_of self.rows agent) (λ row. SamePlaces row.plan plan.now known) }
         ensures row { IfOk result (λ ledger. IfSome (row_of self.rows agent) (λ row. ChangesRow self.rows ledger.rows agent (Some (record row { plan = plan.now })))) }
         ensures by_agent { IfOk result (λ ledger. IsByAgent ledger.rows) }
-        ensures stands { IfOk result (λ ledger. StandsFor self grid.now → StandsFor ledger grid.now) }
+        ensures stands { IfOk result (λ ledger. StandsForMap self grid.now → StandsForMap ledger grid.now) }
         ensures none { IfNone (row_of self.rows agent) (IfOk result (λ ledger. ledger ≡ self)) }
     {
         let Some(old) = self.rows.remove(agent) else {

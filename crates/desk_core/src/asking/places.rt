@@ -21,9 +21,9 @@ pub struct Distance {
 impl Question for Distance {
     type Answer = Result<Option<u32>, AskFault>;
 
-    ghost use Rattle.desk_commits.specs.Questions.{Tells};
+    ghost use Rattle.desk_commits.specs.Questions.{AnswersDistance};
 
-    ghost answers = { λ question desk answer. Tells desk.scene question.agent question.cell answer };
+    ghost answers = { λ question desk answer. AnswersDistance desk.scene question.agent question.cell answer };
 
     fn put(&self, desk: &mut Desk) -> Result<Option<u32>, AskFault> {
         desk.distance(self.agent, self.cell)

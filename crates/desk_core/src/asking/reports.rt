@@ -16,9 +16,9 @@ impl Question for Showing {
     type Answer = Result<Reading, OutOfMemory>;
 
     ghost use Rattle.std.specs.Prelude.{IfOk};
-    ghost use Rattle.desk_commits.specs.Questions.{Shows};
+    ghost use Rattle.desk_commits.specs.Questions.{ShowsReport};
 
-    ghost answers = { λ _ desk answer. IfOk answer (Shows desk) };
+    ghost answers = { λ _ desk answer. IfOk answer (ShowsReport desk) };
 
     fn put(&self, desk: &mut Desk) -> Result<Reading, OutOfMemory> {
         desk.reading()

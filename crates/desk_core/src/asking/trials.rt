@@ -2,7 +2,7 @@
 ghost use Rattle.std.specs.Prelude.{◌≡◌, ◌++◌, ◌∷◌, [], List};
 ghost use Rattle.desk_commits.specs.Commits.{Tries};
 ghost use Rattle.desk_commits.specs.Entries.{Entry};
-ghost use Rattle.desk_core.specs.Kept.{IsKept};
+ghost use Rattle.desk_core.specs.Kept.{IsKeptDesk};
 
 use super::Question;
 use crate::desks::Desk;
@@ -72,7 +72,8 @@ impl Desk {
 
     // Takes the last entry back: that scene is the one before it.
     fn take_back(&mut self, scene: Scene, books: Option<Books>, stamps: Option<Stamps>)
-        requires { (journal : List Entry) × (entry : Entry) × (self.old.journal ≡ journal ++ entry ∷ []) × IsKept scene journal self.old.limit stamps books }
+        requires { (journal : List Entry) × (entry : Entry) × (self.old.journal ≡ journal ++ entry ∷ [])
+            × IsKeptDesk scene journal self.old.limit stamps books }
         ensures { (journal : List Entry) (entry : Entry) → self.old.journal ≡ journal ++ entry ∷ [] → self.new ≡ record { scene = scene; journal = journal; limit = self.old.limit } }
     {
         drop(self.journal.pop());
@@ -83,7 +84,7 @@ impl Desk {
 
     // Keeps these, which are those of its scene and its journal, in place of what it kept.
     fn keep(&mut self, books: Option<Books>, stamps: Option<Stamps>)
-        requires { IsKept self.old.scene self.old.journal self.old.limit stamps books }
+        requires { IsKeptDesk self.old.scene self.old.journal self.old.limit stamps books }
         ensures { self.new ≡ self.old }
     {
         drop(replace(&mut self.books, books));

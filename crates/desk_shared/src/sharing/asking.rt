@@ -1,6 +1,6 @@
 //! What a pass asks the desk in its turn, which changes nothing.
 ghost use Rattle.std.specs.Prelude.{IfOk};
-ghost use Rattle.desk_commits.specs.Questions.{Shows, Judges, Tells, Copies};
+ghost use Rattle.desk_commits.specs.Questions.{ShowsReport, Judges, AnswersDistance, Copies};
 ghost use Rattle.desk_shared.specs.Passes.{Owns};
 ghost use Rattle.desk_shared.specs.Calls.{AsksBy};
 
@@ -30,7 +30,7 @@ impl SharedDesk {
     pub fn reading<R: Wait>(&self, rt: &R, pass: &mut Pass) -> Result<Reading, OutOfMemory>
         requires owned { Owns self.now pass.old }
         ensures owned { Owns self.now pass.new }
-        ensures answer { AsksBy pass.old.known (λ desk. IfOk result (Shows desk)) pass.new.known }
+        ensures answer { AsksBy pass.old.known (λ desk. IfOk result (ShowsReport desk)) pass.new.known }
     {
         self.ask(rt, pass, &Showing)
     }
@@ -68,7 +68,7 @@ impl SharedDesk {
     ) -> Result<Option<u32>, AskFault>
         requires owned { Owns self.now pass.old }
         ensures owned { Owns self.now pass.new }
-        ensures answer { AsksBy pass.old.known (λ desk. Tells desk.scene agent cell result) pass.new.known }
+        ensures answer { AsksBy pass.old.known (λ desk. AnswersDistance desk.scene agent cell result) pass.new.known }
     {
         self.ask(rt, pass, &Distance { agent, cell })
     }

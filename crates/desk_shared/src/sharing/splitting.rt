@@ -2,7 +2,7 @@
 ghost use Rattle.std.specs.Prelude.{◌≡◌, IfOk, IfErr};
 ghost use Rattle.desk_shared.specs.Passes.{Owns};
 ghost use Rattle.desk_shared.specs.declared.faults.SplitFault.TheVariants.{PassesFull};
-ghost use Rattle.desk_shared.specs.Calls.{KeepsNone, IsSplit, IsJoined};
+ghost use Rattle.desk_shared.specs.Calls.{KeepsNone, IsSplit, IsJoinOf};
 
 use super::SharedDesk;
 use crate::faults::SplitFault;
@@ -46,7 +46,7 @@ impl SharedDesk {
         requires owned { Owns self.now pass.old }
         requires owns_other { Owns self.now other }
         ensures owned { Owns self.now pass.new }
-        ensures joined { IsJoined pass.old.known other.known pass.new.known }
+        ensures joined { IsJoinOf pass.old.known other.known pass.new.known }
     {
         let Pass { place, unused, .. } = other;
         let top = &self.table.shared;

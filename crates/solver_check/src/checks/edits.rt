@@ -1,7 +1,7 @@
 //! The edits that a text of paths asks for.
 ghost use Rattle.std.specs.Prelude.{◌≡◌, ◌<◌, ◌≤◌, ◌++◌, length, slice_get, IfOk, OnOk};
 ghost use Rattle.scene_edits.specs.declared.scenes.TheConstants.{MOST_AGENTS};
-ghost use Rattle.solver_check.specs.CheckEdits.{adds_of, cell_in, edits_of, goal_in, paths_from, start_in};
+ghost use Rattle.solver_check.specs.CheckEdits.{adds_of, cell_given, edits_of, goal_in, paths_from, start_in};
 
 use grid_cells::{Agent, Cell, List, OutOfMemory};
 use path_files::SolverPaths;
@@ -21,7 +21,7 @@ pub(crate) fn agent_of(number: usize) -> Agent
 
 // The agent's cell in a list of the text's, or else the cell of its path at that index.
 fn cell_in(list: &Option<List<Cell>>, agent: usize, path: &[Cell], at: usize) -> Option<Cell>
-    ensures { result ≡ cell_in list.now agent path.now at }
+    ensures { result ≡ cell_given list.now agent path.now at }
 {
     let listed = match list {
         Some(cells) => cells.items().get(agent).copied(),

@@ -3,7 +3,7 @@ ghost use Rattle.std.specs.Prelude.{◌≡◌, ◌≤◌, length, IfOk, IfErr, O
 ghost use Rattle.scene_edits.specs.InOrder.{edited_all, AreAllowed};
 ghost use Rattle.scene_edits.specs.declared.scenes.TheConstants.{MOST_AGENTS};
 ghost use Rattle.solver_check.specs.CheckEdits.{edits_of, IsOfPaths};
-ghost use Rattle.solver_check.specs.CheckFaults.{IsPlanFault, IsRefused, IsUnopened, Spells, Tells};
+ghost use Rattle.solver_check.specs.CheckFaults.{IsPlanFault, IsRefused, IsUnopened, Spells, TellsFault};
 ghost use Rattle.solver_check.specs.Checks.{IsPlanned};
 ghost use Rattle.solver_check.specs.Opens.{bytes_of};
 
@@ -19,7 +19,7 @@ use std::alloc::Global;
 // The fault of an agent, or of a path.
 fn refusal_of(size: Size, edit: &Edit, why: EditFault) -> CheckFault
     requires { IsOfPaths edit.now }
-    ensures { Tells size edit.now why result }
+    ensures { TellsFault size edit.now why result }
 {
     match edit {
         Edit::Add { agent, .. } => CheckFault::Agent { agent: *agent, why },

@@ -1,5 +1,5 @@
 ghost use Rattle.std.specs.Prelude.{◌≡◌, ◌<◌, ◌^◌, length, position};
-ghost use Rattle.solver_check.specs.CheckTimes.{first_off, is_off, time_of};
+ghost use Rattle.solver_check.specs.CheckTimes.{first_off, is_off, time_of_fault};
 
 use grid_cells::{Cell, Size};
 use plan_table::MOST_LAST_INDEX;
@@ -21,7 +21,7 @@ fn first_off(size: Size, cells: &[Cell]) -> Option<usize>
 
 /// The time, in steps, at which a path of those cells has that fault.
 pub(crate) fn time_of(size: Size, cells: &[Cell], why: EditFault) -> usize
-    ensures { result ≡ time_of size cells.now why }
+    ensures { result ≡ time_of_fault size cells.now why }
 {
     match why {
         EditFault::OutOfMap => first_off(size, cells).unwrap_or(0),

@@ -1,6 +1,6 @@
 use Rattle.std.proofs.Common.{take, Contains}
-use Rattle.cost_ledger.specs.Sets.{GainsAll}
+use Rattle.cost_ledger.specs.Sets.{GainsEach}
 use Rattle.cost_ledger.proofs.along.block_all.Given as goal
 
 abbrev pub invariant-loop-visit : goal.invariant-loop-visit
-invariant-loop-visit l = GainsAll l.fn.blocked.keys l.blocked.keys (Contains (take l.visit-index l.visits))
+invariant-loop-visit l = GainsEach l.fn.blocked.keys l.blocked.keys (Contains (take l.visit-index l.visits))

@@ -4,13 +4,13 @@ use Rattle.plan_table.specs.Path.{place}
 use Rattle.mapf_rules.specs.declared.visits.Visit.{Visit}
 use Rattle.plan_table.proofs.Sets.{set_loses}
 use Rattle.plan_table.specs.Sets.{Loses}
-use Rattle.cost_ledger.specs.Sets.{LosesAll}
+use Rattle.cost_ledger.specs.Sets.{LosesEach}
 use Rattle.cost_ledger.specs.Through.{IsThrough}
 use Rattle.cost_ledger.proofs.KeyOrders.{visit_total, visit_exact}
 use Rattle.cost_ledger.proofs.along.unblock.Goals as goal
 
 -- the path's visits, one time further
-one_further : (path : List Point) (from : ℕ) (gone : Visit) (old mid new : List Visit) → from ≤ gone.time → place path gone.time ≡ Some gone.cell → LosesAll old mid (IsThrough gone.agent path from gone.time) → Loses mid new gone → LosesAll old new (IsThrough gone.agent path from (gone.time + 1))
+one_further : (path : List Point) (from : ℕ) (gone : Visit) (old mid new : List Visit) → from ≤ gone.time → place path gone.time ≡ Some gone.cell → LosesEach old mid (IsThrough gone.agent path from gone.time) → Loses mid new gone → LosesEach old new (IsThrough gone.agent path from (gone.time + 1))
 one_further path from gone old mid new late there first then v = grind (arith, first v, then v)
 
 pub loop-time-preserved : goal.loop-time-preserved

@@ -3,7 +3,7 @@ use Rattle.std.proofs.lemmas.List.{take_all}
 use Rattle.plan_table.specs.Route.{tracks_of}
 use Rattle.mapf_rules.specs.Naming.{IsOfPair}
 use Rattle.desk_audit.specs.declared.tables.Pass.{Pass}
-use Rattle.desk_audit.specs.Seeking.{Finds, IsOfMet}
+use Rattle.desk_audit.specs.Seeking.{FindsAll, IsOfMet}
 use Rattle.desk_audit.proofs.Finding.{finds_then, finds_as, met_split}
 use Rattle.desk_audit.proofs.adding.add_met.Goals as goal
 use Rattle.desk_audit.proofs.adding.add_met.Goals.{then-pass-time+in_ok-add_pair, else-pass-time}
@@ -28,4 +28,4 @@ loop-pass-preserved c =
 pub returns : goal.returns
 returns c =
     let fleet = tracks_of c.args.mode c.args.plans.now.rows in
-    subst (λ (met : List Pass). Finds fleet c.args.agent c.args.entries.now.items c.loop-pass.entries.items (IsOfMet c.args.time c.args.agent met)) (take_all c.loop-pass.pass-index c.args.met.now (omega arith)) c.loop-pass.invariant
+    subst (λ (met : List Pass). FindsAll fleet c.args.agent c.args.entries.now.items c.loop-pass.entries.items (IsOfMet c.args.time c.args.agent met)) (take_all c.loop-pass.pass-index c.args.met.now (omega arith)) c.loop-pass.invariant

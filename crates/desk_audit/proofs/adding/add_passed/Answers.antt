@@ -3,7 +3,7 @@ use Rattle.std.proofs.lemmas.List.{take_all}
 use Rattle.plan_table.specs.Route.{tracks_of}
 use Rattle.mapf_rules.specs.Naming.{IsOfPair}
 use Rattle.desk_audit.specs.declared.tables.Pass.{Pass}
-use Rattle.desk_audit.specs.Seeking.{Finds, IsOfPassed}
+use Rattle.desk_audit.specs.Seeking.{FindsAll, IsOfPassed}
 use Rattle.desk_audit.proofs.Finding.{finds_then, finds_as, passed_split}
 use Rattle.desk_audit.proofs.adding.add_passed.Goals as goal
 use Rattle.desk_audit.proofs.adding.add_passed.Goals.{then-after-pass+then-pass-last+in_ok-add_pair, else-after-pass, else-after-pass-via-then-after-pass+else-pass-last, else-after-pass-via-else-after-pass}
@@ -34,4 +34,4 @@ loop-pass-preserved c =
 pub returns : goal.returns
 returns c =
     let fleet = tracks_of c.args.mode c.args.plans.now.rows in
-    subst (λ (passes : List Pass). Finds fleet c.args.agent c.args.entries.now.items c.loop-pass.entries.items (IsOfPassed fleet c.args.after c.args.agent passes)) (take_all c.loop-pass.pass-index c.args.passes.now (omega arith)) c.loop-pass.invariant
+    subst (λ (passes : List Pass). FindsAll fleet c.args.agent c.args.entries.now.items c.loop-pass.entries.items (IsOfPassed fleet c.args.after c.args.agent passes)) (take_all c.loop-pass.pass-index c.args.passes.now (omega arith)) c.loop-pass.invariant

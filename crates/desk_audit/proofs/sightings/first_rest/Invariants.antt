@@ -3,8 +3,8 @@ use Rattle.std.specs.List.{slice_get}
 use Rattle.grid_cells.specs.Cell.{Point}
 use Rattle.plan_table.specs.Plans.{agents_of}
 use Rattle.plan_table.specs.Route.{tracks_of, last_of}
-use Rattle.desk_audit.specs.Index.{IsAtRest}
+use Rattle.desk_audit.specs.Index.{HasComeToRest}
 use Rattle.desk_audit.proofs.sightings.first_rest.Given as goal
 
 abbrev pub invariant-loop-rank : goal.invariant-loop-rank
-invariant-loop-rank l = (agent k : ℕ) → k < l.rank → slice_get (agents_of l.plans.rows) k ≡ Some agent → (time : ℕ) (cell : Point) → IsAtRest (tracks_of l.mode l.plans.rows) agent time cell → l.first ≤ last_of (tracks_of l.mode l.plans.rows) agent
+invariant-loop-rank l = (agent k : ℕ) → k < l.rank → slice_get (agents_of l.plans.rows) k ≡ Some agent → (time : ℕ) (cell : Point) → HasComeToRest (tracks_of l.mode l.plans.rows) agent time cell → l.first ≤ last_of (tracks_of l.mode l.plans.rows) agent

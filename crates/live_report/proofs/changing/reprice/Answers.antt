@@ -11,5 +11,5 @@ aim-requires-clause-stand c = (c.in_ok-planned.ensures c.requires.know.0 c.requi
 pub returns : goal.returns
 returns c = IfOk-weaker c.aim.result _ _ (λ books kept rows are has.
     let planned : Row = record { goal = c.args.old.now.goal; plan = c.args.row.now.plan } in
-    let aimed = kept (priced.with_row rows c.args.agent (Some planned)) planned (c.in_ok-planned.ensures rows are has) (in_place rows c.args.agent (Some planned)) refl in
-    subst (λ (r : priced.Rows). priced.AreOf c.args.grid.now r books) (renewed rows c.args.agent (Some planned) (Some c.args.row.now)) aimed) c.aim.ensures.kept
+    let aimed = kept (priced.with_row_in rows c.args.agent (Some planned)) planned (c.in_ok-planned.ensures rows are has) (in_place rows c.args.agent (Some planned)) refl in
+    subst (λ (r : priced.Rows). priced.AreOfRows c.args.grid.now r books) (renewed rows c.args.agent (Some planned) (Some c.args.row.now)) aimed) c.aim.ensures.kept

@@ -5,7 +5,7 @@ use Rattle.scene_edits.specs.Scene.{SceneState}
 use Rattle.scene_edits.specs.InOrder.{AreAllowed, edited_all}
 use Rattle.desk_commits.specs.Entries.{Entry}
 use Rattle.desk_commits.specs.State.{DeskState}
-use Rattle.desk_commits.specs.Stamps.{AreOnMap, WhereTheyStand}
+use Rattle.desk_commits.specs.Stamps.{NameCellsOfMap, WhereTheyStand}
 use Rattle.desk_commits.proofs.OnMap.{all_on, same_size_all, on_map_push}
 use Rattle.desk_core.proofs.desks.Desk.accept.Goals as goal
 
@@ -36,7 +36,7 @@ invariant_of-self-2 c =
     let before : c.self.inside.journal.items ≡ c.args.self.now.journal = ap (λ (d : DeskState). d.journal) c.self.view_is in
     let most : c.self.inside.limit ≡ c.args.self.now.limit = ap (λ (d : DeskState). d.limit) c.self.view_is in
     let old = ap length before in
-    let on : AreOnMap c.self.inside.scene.grid.size (c.self.inside.journal.items ++ c.args.commit ∷ []) = on_map_push c.self.inside.scene.grid.size c.self.inside.journal.items c.args.commit c.self.invariant.on_map (all_on c.self.inside.scene c.args.commit.edits allowed) in
+    let on : NameCellsOfMap c.self.inside.scene.grid.size (c.self.inside.journal.items ++ c.args.commit ∷ []) = on_map_push c.self.inside.scene.grid.size c.self.inside.journal.items c.args.commit c.self.invariant.on_map (all_on c.self.inside.scene c.args.commit.edits allowed) in
     let stand : WhereTheyStand c.apply_all.new.self.grid.size (c.self.inside.journal.items ++ c.args.commit ∷ []) c.with_entry-stamps.result = rw (← size, ← journal) c.with_entry-stamps.ensures in
     record {
       within = omega (arith, many, old, most, length_push c.self.inside.journal.items c.args.commit, c.requires.in_order.room);

@@ -1,6 +1,6 @@
 use Rattle.std.proofs.Common.{rules, sym, ap, ◌∙◌, subst}
 use Rattle.desk_shared.specs.Passes.{PassState}
-use Rattle.desk_shared.specs.Calls.{either_of, IsJoined}
+use Rattle.desk_shared.specs.Calls.{either_of, IsJoinOf}
 use Rattle.desk_shared.specs.Turns.{shown, IsBusy}
 use Rattle.desk_shared.proofs.Views.{compares, joins}
 use Rattle.desk_shared.proofs.Told.{joined_so}
@@ -23,5 +23,5 @@ invariant_of-pass c = let now = c.join_seat.ensures.2 in let told = c.load.ensur
 
 pub returns-clause-joined : goal.returns-clause-joined
 returns-clause-joined c = let now = c.join_seat.ensures.2 in let told = c.load.ensures.2 _ _ _ _ _ (ap (λ m. m.0.stage) now) in
-    subst (λ (z : PassState × PassState). IsJoined z.0 z.1 (shown c.load.new.seat.me.0)) (λ i. ((c.pass.view_is i).known, (c.other.view_is i).known))
+    subst (λ (z : PassState × PassState). IsJoinOf z.0 z.1 (shown c.load.new.seat.me.0)) (λ i. ((c.pass.view_is i).known, (c.other.view_is i).known))
     (joined_so c.pass.inside.place.me.0 c.other.inside.place.me.0 c.join_seat.new.seat.me.0 c.load.new.seat.me.0 (ap (λ m. m.0) now) (told.0, told.1, told.2, told.3, ap (λ m. m.0) told.4))

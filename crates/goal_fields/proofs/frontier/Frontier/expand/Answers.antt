@@ -4,7 +4,7 @@ use Rattle.std.proofs.lemmas.Option.{get_or_from_slice_get}
 use Rattle.std.proofs.lemmas.Bool.{cases_lt}
 use Rattle.grid_cells.specs.Size.{Holds}
 use Rattle.grid_cells.specs.Grid.{Chart}
-use Rattle.goal_fields.specs.AStar.{Gathers}
+use Rattle.goal_fields.specs.AStar.{GathersCells}
 use Rattle.goal_fields.proofs.AStarLemmas.{HasWalk-front, Gathers-trans, IsMetFrom-later, IfSome-neighbour, neighbour_at}
 use Rattle.goal_fields.proofs.frontier.Frontier.expand.Goals as goal
 
@@ -23,7 +23,7 @@ loop-beside-preserved c =
     let s = c.loop-beside.self in
     let t = c.meet.new.self in
     let i = c.loop-beside.beside-index in
-    let goes : Gathers s t = c.in_ok-meet.ensures.gathers in
+    let goes : GathersCells s t = c.in_ok-meet.ensures.gathers in
     record {
       around = c.around-around.ensures;
       seeking = c.in_ok-meet.ensures.seeking;

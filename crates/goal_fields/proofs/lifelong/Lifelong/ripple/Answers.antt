@@ -3,7 +3,7 @@ use Rattle.std.proofs.Common.{◌∙◌, inl, inr, sym, ap, subst, arith, ℕ}
 use Rattle.grid_cells.specs.Cell.{Point}
 use Rattle.grid_cells.specs.Size.{Holds}
 use Rattle.goal_fields.specs.Lifelong.{IsGood}
-use Rattle.goal_fields.specs.Taking.{Advances, Follows}
+use Rattle.goal_fields.specs.Taking.{Advances, FollowsWrite}
 use Rattle.goal_fields.proofs.Neighbours.{cases_cell, cases_adjacent}
 use Rattle.goal_fields.proofs.FollowLemmas.{g_read, IsSameBut-trans, Advances-update, Advances-trans, Follows-later, IsGood-apart, IsGood-unstirred}
 use Rattle.goal_fields.proofs.lifelong.Lifelong.ripple.Goals as goal
@@ -20,10 +20,10 @@ returns-clause-good c g taking v held =
     let update = c.update.ensures in
     let now_is = sym (g_read s from c.place_of.result c.index-now.result.now c.requires.roomy.one_g_each c.place_of.ensures.bound c.place_of.ensures.is
     c.index-now.ensures) in
-    let f0 : Follows g s from c.args.was c.index-now.result.now = subst (λ (n : ℕ). Follows g s from c.args.was n) now_is taking.follows in
+    let f0 : FollowsWrite g s from c.args.was c.index-now.result.now = subst (λ (n : ℕ). FollowsWrite g s from c.args.was n) now_is taking.follows in
     let updated : Advances s c.update.new.self = Advances-update s c.update.new.self c.if-now-was.update update.same update.here update.keeps update.others in
     let both : Advances s c.follow_all.new.self = Advances-trans s c.update.new.self c.follow_all.new.self updated c.follow_all.ensures.advances in
-    let f2 : Follows g c.follow_all.new.self from c.args.was c.index-now.result.now = Follows-later g s c.follow_all.new.self from c.args.was c.index-now.result.now both f0 in
+    let f2 : FollowsWrite g c.follow_all.new.self from c.args.was c.index-now.result.now = Follows-later g s c.follow_all.new.self from c.args.was c.index-now.result.now both f0 in
     let h1 : Holds c.update.new.self.grid.size v = rw update.same.grid held in
     let h2 : Holds c.follow_all.new.self.grid.size v = rw c.follow_all.ensures.advances.same.grid h1 in
     elim (cases_cell v from) [

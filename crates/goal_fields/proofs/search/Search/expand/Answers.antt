@@ -2,7 +2,7 @@ use Rattle.std.specs.Prelude.{slice_index}
 use Rattle.std.proofs.Common.{arith, sym, ap, ◌≡◌, ◌+◌, ◌<◌, ◌≤◌, length, inl, inr}
 use Rattle.std.proofs.lemmas.List.{get_or_read}
 use Rattle.grid_cells.specs.Cell.{Point, IsAdjacent}
-use Rattle.goal_fields.specs.Search.{GoesOn, IsMarking, front_of, mark_of}
+use Rattle.goal_fields.specs.Search.{SearchesOn, IsMarking, front_of, mark_of}
 use Rattle.goal_fields.specs.Marks.{far}
 use Rattle.goal_fields.proofs.SearchLemmas.{mark_of-front, IsSearch-next, IsReached-later, GoesOn-trans}
 use Rattle.goal_fields.proofs.Neighbours.{beside_cases}
@@ -32,9 +32,9 @@ returns-clause-searching c =
     let m : IsMarking now c.index-front.result.now c.place_of-at.result number = c.mark_down.ensures.marking in
     let same : mark_of now (front_of now) ≡ mark_of now c.index-front.result.now = ap (λ (v : Point). mark_of now v) m.turn in
     let small : number < far = omega (arith, m.next, mark_of-front now m.searching m.at_work) in
-    let goes3 : GoesOn c.mark_right.new.self now = c.mark_down.ensures.goes_on in
-    let goes2 : GoesOn c.mark_left.new.self now = GoesOn-trans c.mark_left.new.self c.mark_right.new.self now c.mark_right.ensures.goes_on goes3 in
-    let goes1 : GoesOn c.mark_up.new.self now = GoesOn-trans c.mark_up.new.self c.mark_left.new.self now c.mark_left.ensures.goes_on goes2 in
+    let goes3 : SearchesOn c.mark_right.new.self now = c.mark_down.ensures.goes_on in
+    let goes2 : SearchesOn c.mark_left.new.self now = GoesOn-trans c.mark_left.new.self c.mark_right.new.self now c.mark_right.ensures.goes_on goes3 in
+    let goes1 : SearchesOn c.mark_up.new.self now = GoesOn-trans c.mark_up.new.self c.mark_left.new.self now c.mark_left.ensures.goes_on goes2 in
     IsSearch-next now.grid now.goal now.marks.items now.queue.items now.head now.tail m.searching m.at_work
     (λ n adjacent open_n.
     (let beside : IsAdjacent c.index-front.result.now n = rw (← m.turn) adjacent in

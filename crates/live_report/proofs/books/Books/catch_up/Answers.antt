@@ -3,7 +3,7 @@ use Rattle.std.proofs.lemmas.List.Sums.{sum_by_more}
 use Rattle.std.proofs.lemmas.List.{take_all, drop_all}
 use Rattle.plan_table.specs.Plans.{row_of}
 use Rattle.plan_table.proofs.Order.{Contains-cons_head}
-use Rattle.live_report.specs.Prices.{Rows, with_row}
+use Rattle.live_report.specs.Prices.{Rows, with_row_in}
 use Rattle.live_report.specs.Books.{Keep}
 use Rattle.live_report.specs.Following.{former_apart}
 use Rattle.live_report.proofs.Leaving.{left_from, left_fewer, none_left}
@@ -30,7 +30,7 @@ loop-former-preserved c =
     let has = left.was c.former-item.result (Contains-cons_head _ _) in
     let apart = former_apart c.args.scene.now.mode c.args.scene.now.rows in
     record {
-      rows = with_row rows c.former-item.result.agent (new c.former-item.result.agent);
+      rows = with_row_in rows c.former-item.result.agent (new c.former-item.result.agent);
       keep = c.in-Ok.ensures.kept rows c.loop-former.invariant.keep has;
       left = left_fewer rows new c.former-item.result _ left;
       touched =

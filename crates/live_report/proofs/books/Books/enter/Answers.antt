@@ -5,7 +5,7 @@ use Rattle.plan_table.specs.declared.tracks.Mode.{Mode}
 use Rattle.where_index.specs.Index.{with_route}
 use Rattle.where_index.specs.Records.{nothing, records_apart}
 use Rattle.live_report.specs.Fleet as fleets
-use Rattle.live_report.specs.Books.{fleet_of}
+use Rattle.live_report.specs.Books.{fleet_in_mode}
 use Rattle.live_report.proofs.Keeping.{keep_with}
 use Rattle.live_report.proofs.Rows.{in_place}
 use Rattle.live_report.proofs.books.Books.enter.Goals as goal
@@ -22,8 +22,8 @@ returns-clause-kept c = λ rows keep has.
     let mode = c.args.scene.now.mode in
     let was = rw c.into_parts-fleet.ensures at keep in
     let route : route_of c.track.result ≡ route_in mode c.args.row.now = c.track.ensures ∙ ap (λ (m : Mode). route_in m c.args.row.now) c.mode.ensures in
-    let entered = c.in-Ok.ensures.books (fleet_of mode rows) was.fleet (ap (option_map (route_in mode)) has) in
-    let fleet = subst (λ (r : Route). fleets.AreOf (with_route (fleet_of mode rows) c.args.agent (Some r)) c.in-Ok.fleet) route entered in
+    let entered = c.in-Ok.ensures.books (fleet_in_mode mode rows) was.fleet (ap (option_map (route_in mode)) has) in
+    let fleet = subst (λ (r : Route). fleets.AreOfFleet (with_route (fleet_in_mode mode rows) c.args.agent (Some r)) c.in-Ok.fleet) route entered in
     let prices = rw c.grid.ensures.grid at (c.in-Ok-put.ensures.kept rows (rw c.grid.ensures.grid was.prices)) in
     let lines = c.with_line-lines.ensures c.args.scene.now.grid rows (rw c.fields.ensures prices.fields) was.lines in
     keep_with mode c.args.scene.now.grid rows c.args.agent (Some c.args.row.now) _ fleet prices lines
