@@ -14,7 +14,7 @@ sys.dont_write_bytecode = True
 from functions import CLAUSE, functions_of
 
 CRATES = Path(__file__).resolve().parent.parent / "crates"
-PROGRAM = ("desk_cli", "desk_io", "file_runs", "mapf_desk")
+PROGRAM = ("desk_cli", "desk_io", "mapf_desk")
 
 TRAIT = re.compile(r"(?ms)^(?:pub(?:\([^)]*\))? )?trait (\w+)[^\n]*\{\n(.*?)^\}")
 CLAUSED = re.compile(rf"(?m)^{CLAUSE.pattern}")

@@ -1,13 +1,11 @@
 -- Which file's bytes a text is (this project's choice).
-use Rattle.std.specs.Prelude.{◌≡◌, ◌⊎◌, ℕ, ◌<◌, List, Any, Option, Some, None, Vec, option_map}
-use Rattle.std.specs.Option.{option_copied}
+use Rattle.std.specs.Prelude.{◌≡◌, ◌⊎◌, ℕ, List, Any, Option, Some, None, Vec, option_map}
 use Rattle.std.specs.Borrow.{Bor}
 use Rattle.std.specs.List.{AllZip}
 use Rattle.std.specs.Global.{Global}
 use Rattle.solver_check.specs.declared.faults.Fault.{Fault}
-use Rattle.solver_check.specs.declared.faults.Fault.TheVariants.{AgentsWithoutScen, CannotRead, CannotWrite, InUse, Run}
+use Rattle.solver_check.specs.declared.faults.Fault.TheVariants.{CannotRead, CannotWrite, InUse, Run}
 use Rattle.solver_check.specs.declared.faults.RunFault.TheVariants.{OutOfMemory}
-use Rattle.desk_cli.specs.declared.words.ServeWords.{ServeWords}
 use Rattle.desk_io.specs.declared.named.Named.{Named}
 
 -- the bytes are those that are told of the file
@@ -52,14 +50,3 @@ IsUnheld file (InUse unheld) = unheld.now ≡ file
 IsUnheld file (CannotWrite unheld) = unheld.now ≡ file
 IsUnheld file (Run why) = why ≡ OutOfMemory
 IsUnheld file other = ⊥
-
--- agents are asked for, and no scenario that has their tasks
-abbrev pub LacksScen : ServeWords → Type 0
-LacksScen words = (0 < words.agents) × (words.scen ≡ None)
-
--- why the files of `serve` aren't read: the words lack a scenario, or a file isn't read, or the one to save in isn't held
-abbrev pub IsUnready : ServeWords → Fault → Type 0
-IsUnready words AgentsWithoutScen = LacksScen words
-IsUnready words fault =
-    IsUnreadOf (option_copied words.map) (option_copied words.scen) (option_copied words.journal) fault
-    ⊎ ((file : List ℕ) × (option_copied words.save ≡ Some file) × IsUnheld file fault)

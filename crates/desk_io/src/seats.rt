@@ -10,7 +10,6 @@ use crate::pipes::both_ends;
 use crate::prompting::Prompting;
 use crate::sittings::sit_between;
 use crate::steady::Steady;
-use desk_cli::SESSION_PROMPT;
 use desk_core::Awaits;
 use session_protocol::{LinesVersion, ServeFault};
 use solver_check::{Outcome, SeatFault, Seats};
@@ -38,14 +37,16 @@ pub struct Pipes<'a> {
     pub(crate) version: LinesVersion,
     // Whether it is told who comes and goes.
     pub(crate) stages: bool,
+    // What an operator who types reads first.
+    pub(crate) prompt: &'static str,
     // A file that is given up once the last planners are waited for no longer: so one can be opened,
     // however many are open.
     pub(crate) spare: Mutex<Option<File>>,
 }
 
 impl<'a> Pipes<'a> {
-    /// Seats for the planners of those names, who haven't come yet, and write in that version of lines. Of
-    /// their files those outputs are open that are pipes.
+    /// Seats for the planners of those names, who haven't come yet, and write in that version of lines; an
+    /// operator who types reads the prompt first. Of their files those outputs are open that are pipes.
     ///
     /// # Errors
     ///
@@ -56,10 +57,13 @@ impl<'a> Pipes<'a> {
         names: &'a [&'static str],
         version: LinesVersion,
         stages: bool,
+        prompt: &'static str,
     ) -> Result<Pipes<'a>, PipesFault>
         ensures as_many { IfOk result (λ pipes. length pipes.doors.items ≡ length names.now) }
         ensures named { IfOk result (λ pipes. pipes.names.now ≡ names.now) }
+        ensures version { IfOk result (λ pipes. pipes.version ≡ version) }
         ensures stages { IfOk result (λ pipes. pipes.stages ≡ stages) }
+        ensures prompt { IfOk result (λ pipes. pipes.prompt ≡ prompt) }
     {
         let spare = both_ends().open(host, "/dev/null").ok();
         let mut doors = Vec::new(alloc);
@@ -79,6 +83,7 @@ impl<'a> Pipes<'a> {
             doors,
             version,
             stages,
+            prompt,
             spare: Mutex::new(spare),
         })
     }
@@ -98,7 +103,7 @@ impl<'a> Pipes<'a> {
         // (lent, since standard input has its buffer in itself)
         let mut reader = self.host.reader();
         let typed = self.host.stdin().is_terminal();
-        let input = Prompting::new(&errors, &mut reader, typed, SESSION_PROMPT);
+        let input = Prompting::new(&errors, &mut reader, typed, self.prompt);
         let output = Patient::new(self.host, io::writer(self.host));
         let ended = sit_between(alloc, self.version, counter, input, output);
         self.tell("operator", &ended);

@@ -3,8 +3,8 @@ use Rattle.std.proofs.Common.{◌≡◌, ℕ, List, Option, Result, Ok, Err, IfO
 use Rattle.std.specs.Option.{option_copied}
 use Rattle.desk_commits.specs.State.{DeskState}
 use Rattle.desk_cli.specs.declared.words.HostWords.{HostWords}
-use Rattle.file_runs.specs.Ends.{IsOpened, IsSavedIn, Savings}
-use Rattle.file_runs.specs.Files.{OfFiles}
+use Rattle.mapf_desk.specs.Ends.{IsOpened, IsSavedIn, Savings}
+use Rattle.mapf_desk.specs.Files.{OfFiles}
 use Rattle.shared_runs.specs.declared.hosts.hosting.HostEnd.{HostEnd}
 use Rattle.mapf_desk.specs.Hosted.{HasHosted, IsRunEndOf}
 use Rattle.mapf_desk.specs.declared.statuses.RunEnd.{RunEnd}

@@ -4,9 +4,9 @@ use Rattle.std.specs.Option.{option_copied, option_or}
 use Rattle.desk_cli.specs.declared.words.Words.{Words}
 use Rattle.desk_cli.specs.declared.words.Words.TheVariants.{Version, Serve, Audit, Drill, Host, Check, Draw, Page}
 use Rattle.desk_io.specs.Texts.{untold}
-use Rattle.file_runs.specs.Ends.{HasNoFault, unsaid}
-use Rattle.file_runs.specs.Files.{OfFiles}
-use Rattle.file_runs.specs.Runs.{HasAudited, HasChecked, HasDrawn, HasPaged}
+use Rattle.mapf_desk.specs.Ends.{HasNoFault, unsaid}
+use Rattle.mapf_desk.specs.Files.{OfFiles}
+use Rattle.mapf_desk.specs.Runs.{HasAudited, HasChecked, HasDrawn, HasPaged}
 use Rattle.mapf_desk.specs.Drilled.{HasDrilled, OfScripts}
 use Rattle.mapf_desk.specs.Statuses.{answered}
 use Rattle.mapf_desk.specs.declared.statuses.RunEnd.{RunEnd}

@@ -5,7 +5,7 @@ use Rattle.std.specs.Option.{option_copied}
 use Rattle.shared_runs.specs.Drills.{Drills, inputs_of}
 use Rattle.desk_cli.specs.declared.words.DrillWords.{DrillWords}
 use Rattle.desk_io.specs.Texts.{AreTold}
-use Rattle.file_runs.specs.Files.{OfFiles}
+use Rattle.mapf_desk.specs.Files.{OfFiles}
 
 -- the scripts were served over one desk of the texts, with that answer
 pub record HasDrilled (words : DrillWords) (map scen : Option (List ℕ)) (scripts : List (Vec ℕ Global)) (same : Bool) : Type 0 where

@@ -4,15 +4,15 @@ use Rattle.std.specs.List.{list_any}
 use Rattle.std.specs.Option.{option_copied}
 use Rattle.desk_commits.specs.State.{DeskState}
 use Rattle.desk_cli.specs.declared.words.HostWords.{HostWords}
-use Rattle.file_runs.specs.Ends.{IsOpened, IsSavedIn, Savings}
-use Rattle.file_runs.specs.Files.{OfFiles}
+use Rattle.mapf_desk.specs.Ends.{IsOpened, IsSavedIn, Savings}
+use Rattle.mapf_desk.specs.Files.{OfFiles}
 use Rattle.shared_runs.specs.declared.hosts.hosting.HostEnd.{HostEnd}
 use Rattle.solver_check.specs.declared.faults.Fault.TheVariants as desk
 use Rattle.solver_check.specs.declared.faults.RunFault.TheVariants.{OutOfMemory}
 use Rattle.desk_io.specs.declared.seats.PipesFault.{PipesFault}
 use Rattle.desk_io.specs.declared.seats.PipesFault.TheVariants as pipes
-use Rattle.file_runs.specs.declared.faults.ProgramFault.{ProgramFault}
-use Rattle.file_runs.specs.declared.faults.ProgramFault.TheVariants as program
+use Rattle.mapf_desk.specs.declared.faults.ProgramFault.{ProgramFault}
+use Rattle.mapf_desk.specs.declared.faults.ProgramFault.TheVariants as program
 use Rattle.mapf_desk.specs.Statuses.{host_end}
 use Rattle.mapf_desk.specs.declared.statuses.RunEnd.{RunEnd}
 

@@ -1,5 +1,10 @@
 pub mod Statuses
 pub mod Questions
+pub mod Names
+pub mod Files
+pub mod Words
+pub mod Runs
+pub mod Ends
 pub mod Drilled
 pub mod Hosted
 pub mod Answers

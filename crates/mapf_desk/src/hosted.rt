@@ -1,15 +1,16 @@
 //! What the hosting of a desk comes to.
 ghost use Rattle.std.specs.Prelude.{◌≡◌, ◌++◌, IfOk, codes, is_err, option_map};
 ghost use Rattle.std.specs.List.{list_any};
-ghost use Rattle.file_runs.specs.Ends.{IsSavedIn};
+ghost use Rattle.mapf_desk.specs.Ends.{IsSavedIn};
 ghost use Rattle.shared_runs.specs.Drills.{same_line};
 ghost use Rattle.mapf_desk.specs.Hosted.{IsRunEndOf, has_fault, unseated};
 ghost use Rattle.mapf_desk.specs.Statuses.{host_end};
 
+use crate::faults::ProgramFault;
 use crate::print_line;
+use crate::saving::{Held, Saver, save_held};
 use crate::statuses::{RunEnd, answered};
 use desk_io::{More, PipesFault};
-use file_runs::{Held, ProgramFault, Saver, save_held};
 use shared_runs::{Fault, HostEnd, Outcome, RunFault};
 
 /// Saves the desk's journal if a file for it is held, and prints whether the audit's report is that of

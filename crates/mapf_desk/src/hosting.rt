@@ -2,12 +2,15 @@
 ghost use Rattle.std.specs.Prelude.{◌≡◌, IfOk, length};
 ghost use Rattle.mapf_desk.specs.Hosted.{HasHosted};
 
+use crate::faults::ProgramFault;
 use crate::hosted::{end_hosted, fault_of, out_of_memory};
+use crate::opening::open_named;
+use crate::reading::let_go;
+use crate::saving::Saver;
 use crate::statuses::RunEnd;
-use desk_cli::HostWords;
+use desk_cli::{HostWords, SESSION_PROMPT};
 use desk_core::Desk;
 use desk_io::{Folder, More, Pipes, Steady, System};
-use file_runs::{ProgramFault, Saver, let_go, open_named};
 use shared_runs::{HostEnd, HostFault, MOST_HOSTED, host_planners};
 use std::alloc::Global;
 use std::fs::File;
@@ -101,7 +104,7 @@ fn host_over<R: Threads + Wait + Clock + Sync, P: AllocGlobal + Print, F: Folder
         }
     };
     let (names, version) = (words.names.as_slice(), words.desk.lines);
-    let pipes = match Pipes::new(alloc, host, names, version, stages) {
+    let pipes = match Pipes::new(alloc, host, names, version, stages, SESSION_PROMPT) {
         Ok(pipes) => pipes,
         Err(fault) => {
             drop(desk);

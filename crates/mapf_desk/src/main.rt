@@ -2,8 +2,10 @@
 //! drills planners that share it, checks the paths that a solver wrote, draws pictures, and makes pages
 //! that play plans.
 //!
-//! `drilling` and `hosting` obey these two words, `main` the others, by `file_runs`; `hosted` and
-//! `statuses` have what a run and the program end with.
+//! Each word but `version` has a file: `serving`, `auditing`, `drilling`, `hosting`, `checking`,
+//! `drawing`, `paging`. `reading` reads and holds the files of a session, `saving` saves in the one that
+//! is held, `closing` is what is done at a session's end, `opening` opens the desk that planners are to
+//! share; `hosted` and `statuses` have what a run and the program end with, `faults` all faults.
 #![tactic(auto)]
 
 ghost use Rattle.std.specs.Prelude.{◌≡◌, ◌≢◌, ◌⊎◌, IfErr, IfOk};
@@ -12,16 +14,31 @@ ghost use Rattle.mapf_desk.specs.Answers.{Ends};
 ghost use Rattle.mapf_desk.specs.Questions.{IsQuestion};
 ghost use Rattle.mapf_desk.specs.Statuses.{run_status};
 
+mod auditing;
+mod checking;
+mod closing;
+mod drawing;
 mod drilling;
+mod faults;
 mod hosted;
 mod hosting;
+mod opening;
+mod paging;
+mod reading;
+mod saving;
+mod serving;
 mod statuses;
 
+use auditing::audit_files;
+use checking::check_files;
 use desk_cli::{Asked, VERSION, Words, read_words};
 use desk_io::{FAULT, More, Steady, System, fill_standard, tell, tell_more, tell_served};
+use drawing::draw_files;
 use drilling::drill_files;
-use file_runs::{ProgramFault, audit_files, check_files, draw_files, page_files, serve_streams};
+use faults::ProgramFault;
 use hosting::host_files;
+use paging::page_files;
+use serving::serve_streams;
 use shared_runs::{Fault, RunFault};
 use statuses::{RunEnd, answered, status_of};
 use std::env;

@@ -1,6 +1,0 @@
-use Rattle.std.proofs.Common.{◌≡◌, [], take, drop}
-use Rattle.file_runs.specs.Names.{first_repeated}
-use Rattle.file_runs.proofs.opening.named_twice.Given as goal
-
-abbrev pub invariant-loop-place : goal.invariant-loop-place
-invariant-loop-place l = first_repeated (take l.place l.names) (drop l.place l.names) ≡ first_repeated [] l.names

@@ -1,6 +1,0 @@
-use Rattle.std.proofs.Common.{inl, refl}
-use Rattle.solver_check.specs.declared.faults.RunFault.TheVariants.{OutOfMemory}
-use Rattle.file_runs.proofs.serving.serve_between.Goals as goal
-
-pub returns-in-Err : goal.returns-in-Err
-returns-in-Err g c = (OutOfMemory, inl refl, inl refl)
