@@ -8,8 +8,8 @@ use desk_shared::{Pass, SharedDesk, Window};
 use solver_check::{Outcome, SeatFault, Seats};
 use std::alloc::Global;
 use std::snapshot::Snapshot;
-use std::sync::Wait;
 use std::sync::atomic::{AtomicU32, Ordering};
+use std::sync::{Mutex, Wait};
 use std::thread::{Promise, PromisedHandle, Scope, Threads};
 use std::time::Clock;
 
@@ -35,11 +35,30 @@ pub(crate) type Sitting<'a, S> = Result<PromisedHandle<Ended, Seat<'a, S>>, Ende
 /// The bytes of stack of a session's thread, whatever the system's limit of stacks is.
 const SESSION_STACK: usize = 1_048_576;
 
-/// No planner's number.
-pub(crate) const NOBODY: u32 = u32::MAX;
+// No planner's number.
+const NOBODY: u32 = u32::MAX;
 
-/// Serves the planner of that number at its seat, unless its thread did not start: then the seat is
-/// told so.
+/// How sessions begin: together, once each has its thread. So their stacks are there before the first of
+/// them takes memory, of which an allocator may set much aside for each thread.
+#[derive(Drop)]
+pub(crate) struct Start {
+    // The planner whose thread did not start.
+    unstarted: AtomicU32,
+    /// Held until all have their threads.
+    pub gate: Mutex<()>,
+}
+
+impl Start {
+    pub fn new() -> Start {
+        Start {
+            unstarted: AtomicU32::new(NOBODY),
+            gate: Mutex::new(()),
+        }
+    }
+}
+
+/// Serves the planner of that number at its seat once all have their threads, unless its own did not
+/// start: then the seat is told so.
 pub(crate) fn sit<R: Wait + Clock, S: Seats>(
     rt: &R,
     alloc: Global,
@@ -47,15 +66,16 @@ pub(crate) fn sit<R: Wait + Clock, S: Seats>(
     pass: Pass,
     seats: &S,
     number: u32,
-    unstarted: &AtomicU32,
+    start: &Start,
 ) -> Ended
     requires { Owns desk.now pass }
     ensures { IsEnded desk.now (S.inputs seats.now number) pass result.0 result.1 }
 {
-    if unstarted.load(Ordering::SeqCst) == number {
+    if start.unstarted.load(Ordering::SeqCst) == number {
         seats.miss(rt, number);
         return (pass, Err(SeatFault::NoThread));
     }
+    drop(start.gate.lock(rt));
     let mut window = Window::new(rt, desk, pass);
     let ended = seats.seat(rt, alloc, number, &mut window);
     (window.into_pass(), ended)
@@ -71,7 +91,7 @@ pub(crate) fn begin<'s, E: 's, R: Wait + Clock + Sync, S: Seats>(
     pass: Pass,
     seats: &'s S,
     number: u32,
-    unstarted: &'s AtomicU32,
+    start: &'s Start,
 ) -> Sitting<'s, S>
     requires { Owns desk.now pass }
     ensures begun { IfOk result (λ child. child.promise.desk.now ≡ desk.now) }
@@ -91,12 +111,12 @@ pub(crate) fn begin<'s, E: 's, R: Wait + Clock + Sync, S: Seats>(
         move || -> Ended
             requires { Owns desk.now pass }
             ensures { IsEnded desk.entry.now (S.inputs seats.entry.now number) pass result.0 result.1 }
-        { sit(rt, alloc, desk, pass, seats, number, unstarted) },
+        { sit(rt, alloc, desk, pass, seats, number, start) },
     );
     match started {
         Ok(child) => Ok(child),
         Err(refused) => {
-            unstarted.store(number, Ordering::SeqCst);
+            start.unstarted.store(number, Ordering::SeqCst);
             let unseated = refused.value;
             Err(unseated())
         }

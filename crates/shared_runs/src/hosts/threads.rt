@@ -4,17 +4,16 @@ ghost use Rattle.desk_shared.specs.Passes.{Owns};
 ghost use Rattle.shared_runs.specs.Drills.{MaySplit};
 ghost use Rattle.shared_runs.specs.Hosts.{HasHosted, IsEnded};
 
-use crate::hosts::sittings::{Ended, NOBODY, begin};
+use crate::hosts::sittings::{Ended, Start, begin};
 use desk_shared::{Pass, SharedDesk};
 use solver_check::{Outcome, Seats};
 use std::alloc::Global;
-use std::sync::Wait;
-use std::sync::atomic::AtomicU32;
+use std::sync::{MutexGuard, Wait};
 use std::thread;
 use std::thread::{Scope, Threads};
 use std::time::Clock;
 
-// Serves the operator in a thread of its own, through the first pass, once the planners sit.
+// Serves the operator in a thread of its own, through the first pass, and lets all sessions begin.
 fn operate<'s, E: 's, R: Threads + Wait + Clock + Sync, S: Seats>(
     rt: &'s R,
     alloc: Global,
@@ -22,12 +21,14 @@ fn operate<'s, E: 's, R: Threads + Wait + Clock + Sync, S: Seats>(
     desk: &'s SharedDesk,
     first: Pass,
     seats: &'s S,
-    unstarted: &'s AtomicU32,
+    start: &'s Start,
+    gate: MutexGuard<'s, ()>,
 ) -> Ended
     requires { Owns desk.now first }
     ensures { IsEnded desk.now (S.inputs seats.now 0) first result.0 result.1 }
 {
-    let sitting = begin(rt, alloc, scope, desk, first, seats, 0, unstarted);
+    let sitting = begin(rt, alloc, scope, desk, first, seats, 0, start);
+    drop(gate);
     let (pass, ended) = match sitting {
         Ok(child) => child.join(rt),
         Err(missed) => missed,
@@ -36,8 +37,9 @@ fn operate<'s, E: 's, R: Threads + Wait + Clock + Sync, S: Seats>(
 }
 
 // Serves the planners, so many as there are outcomes, the first of them as planner number + 1, and the
-// operator through the first pass, each in a thread that is joined before this returns. Their passes
-// are joined into the first one. Answers how the operator's session ended.
+// operator through the first pass, each in a thread that is joined before this returns; none begins
+// before all have their threads. Their passes are joined into the first one. Answers how the operator's
+// session ended.
 fn host_all<'s, E: 's, R: Threads + Wait + Clock + Sync, S: Seats>(
     rt: &'s R,
     alloc: Global,
@@ -45,7 +47,8 @@ fn host_all<'s, E: 's, R: Threads + Wait + Clock + Sync, S: Seats>(
     desk: &'s SharedDesk,
     mut first: Pass,
     seats: &'s S,
-    unstarted: &'s AtomicU32,
+    start: &'s Start,
+    gate: MutexGuard<'s, ()>,
     number: u32,
     outcomes: &mut [Outcome],
 ) -> (Pass, Outcome)
@@ -56,15 +59,15 @@ fn host_all<'s, E: 's, R: Threads + Wait + Clock + Sync, S: Seats>(
     ensures hosted { HasHosted desk.now (S.inputs seats.now) first.known result.0.known (number + 1) outcomes.new result.1 }
 {
     let Some((outcome, later)) = outcomes.split_first_mut() else {
-        return operate(rt, alloc, scope, desk, first, seats, unstarted);
+        return operate(rt, alloc, scope, desk, first, seats, start, gate);
     };
     let Ok(pass) = desk.split(&mut first) else {
         unreachable!()
     };
     let number = number + 1;
-    let sitting = begin(rt, alloc, scope, desk, pass, seats, number, unstarted);
+    let sitting = begin(rt, alloc, scope, desk, pass, seats, number, start);
     let (mut first, operator) = host_all(
-        rt, alloc, scope, desk, first, seats, unstarted, number, later,
+        rt, alloc, scope, desk, first, seats, start, gate, number, later,
     );
     let (pass, ended) = match sitting {
         Ok(child) => child.join(rt),
@@ -90,7 +93,7 @@ pub(crate) fn host_threads<R: Threads + Wait + Clock + Sync, S: Seats>(
     ensures as_many { length result.2.items ≡ length outcomes.items }
     ensures hosted { HasHosted desk.now (S.inputs seats.now) first.known result.0.known 1 result.2.items result.1 }
 {
-    let unstarted = &AtomicU32::new(NOBODY);
+    let start = &Start::new();
     thread::scope(
         thread::scope_env(),
         rt,
@@ -103,8 +106,9 @@ pub(crate) fn host_threads<R: Threads + Wait + Clock + Sync, S: Seats>(
         {
             let mut outcomes = outcomes;
             let seated = outcomes.as_mut_slice();
+            let gate = start.gate.lock(rt);
             let (first, operator) = host_all(
-                rt, alloc, scope, desk, first, seats, unstarted, 0, seated,
+                rt, alloc, scope, desk, first, seats, start, gate, 0, seated,
             );
             (first, operator, outcomes)
         },
