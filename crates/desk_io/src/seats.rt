@@ -63,7 +63,7 @@ impl<'a> Pipes<'a> {
         ensures named { IfOk result (λ pipes. pipes.names.now ≡ names.now) }
         ensures version { IfOk result (λ pipes. pipes.version ≡ version) }
         ensures stages { IfOk result (λ pipes. pipes.stages ≡ stages) }
-        ensures prompt { IfOk result (λ pipes. pipes.prompt ≡ prompt) }
+        ensures prompt { IfOk result (λ pipes. pipes.prompt.now ≡ prompt.now) }
     {
         let spare = both_ends().open(host, "/dev/null").ok();
         let mut doors = Vec::new(alloc);
