@@ -1,4 +1,5 @@
-//! Files of paths: their form, the starts and goals that they tell, and each path with all its cells.
+//! Files of paths: their form, the starts, goals and number of agents that they tell, and each path with
+//! all its cells.
 use grid_cells::{Cell, List};
 use path_files::{Form, SolverPaths, read_paths};
 use std::alloc::{AllocError, Global};
@@ -40,10 +41,18 @@ fn put_list(told: &mut String, name: &str, list: &Option<List<Cell>>) -> Result<
     }
 }
 
+fn put_number(told: &mut String, name: &str, number: Option<u32>) -> Result<(), AllocError> {
+    match number {
+        Some(number) => write!(told, " {name} {number}"),
+        None => Ok(()),
+    }
+}
+
 fn put_read(told: &mut String, read: &SolverPaths) -> Result<(), AllocError> {
     told.push_str(name_of(read.form))?;
     put_list(told, "starts", &read.starts)?;
     put_list(told, "goals", &read.goals)?;
+    put_number(told, "agents", read.agents)?;
     for path in read.paths.items() {
         put_cells(told, "path", path.items())?;
     }

@@ -40,6 +40,5 @@ line_in_paths (paths.BadCell line cell) = Some line
 line_in_paths (paths.NoCells line) = Some line
 line_in_paths (paths.CellCount line) = Some line
 line_in_paths (paths.TooManyAgents line) = Some line
-line_in_paths (paths.TooLong line) = Some line
 line_in_paths paths.NoPaths = None
 line_in_paths paths.OutOfMemory = None

@@ -103,8 +103,7 @@ fn paths_line(why: PathsFault) -> Option<usize>
         | PathsFault::BadCell { line, .. }
         | PathsFault::NoCells { line }
         | PathsFault::CellCount { line }
-        | PathsFault::TooManyAgents { line }
-        | PathsFault::TooLong { line } => Some(line),
+        | PathsFault::TooManyAgents { line } => Some(line),
         _ => None,
     }
 }

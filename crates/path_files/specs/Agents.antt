@@ -1,15 +1,14 @@
 -- Paths by agent, as the programs of CBS, EECBS, PBS and MAPF-LNS2 print them.
 -- A line `Agent N: (row,column)->(row,column)->..` for each agent from 0.
-use Rattle.std.specs.Prelude.{ℕ, ◌-◌, nat_lt, nat_le, Option, Some, None, Result, Err, List, ◌==◌, length, codes, if◌then◌else◌}
+use Rattle.std.specs.Prelude.{ℕ, nat_le, Option, Some, None, Result, Err, List, ◌==◌, length, codes, if◌then◌else◌}
 use Rattle.std.specs.Option.{option_map, option_and_then, option_map_or}
 use Rattle.grid_cells.specs.Cell.{Point}
-use Rattle.plan_table.specs.declared.paths.TheConstants.{MOST_LAST_INDEX}
 use Rattle.scene_edits.specs.declared.scenes.TheConstants.{MOST_AGENTS}
 use Rattle.path_files.specs.Answers.{and_then, unless}
 use Rattle.path_files.specs.Lines.{behind, behind_blanks, behind_label}
 use Rattle.path_files.specs.Cells.{cells_listed}
 use Rattle.path_files.specs.declared.faults.PathsFault.{PathsFault}
-use Rattle.path_files.specs.declared.faults.PathsFault.TheVariants.{BadAgent, NoCells, TooManyAgents, TooLong}
+use Rattle.path_files.specs.declared.faults.PathsFault.TheVariants.{BadAgent, NoCells, TooManyAgents}
 use Rattle.path_files.specs.declared.cells.Notation.TheVariants.{Arrows}
 
 -- what stands behind `Agent N:` and blanks
@@ -18,9 +17,7 @@ cells_behind agent line = option_map behind_blanks (option_and_then (behind_labe
 
 -- the fault of a path of so many cells
 abbrev pub path_fault : ℕ → ℕ → Option PathsFault
-path_fault line cells =
-    if cells == 0 then Some (NoCells line) else
-    if nat_lt MOST_LAST_INDEX (cells - 1) then Some (TooLong line) else None
+path_fault line cells = if cells == 0 then Some (NoCells line) else None
 
 -- the path of those cells
 abbrev pub path_behind : ℕ → List ℕ → Result (List Point) PathsFault

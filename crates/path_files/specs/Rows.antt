@@ -9,7 +9,7 @@ use Rattle.path_files.specs.declared.faults.PathsFault.{PathsFault}
 use Rattle.path_files.specs.declared.faults.PathsFault.TheVariants.{NoCells, TooManyAgents, CellCount}
 use Rattle.path_files.specs.declared.cells.Notation.TheVariants.{Commas}
 
--- the fault of a row of so many cells, where the text's first row has `count`
+-- the fault of a row of so many cells, where that of time 0 has `count`
 abbrev pub row_fault : ℕ → Option ℕ → ℕ → Option PathsFault
 row_fault line count cells =
     if cells == 0 then Some (NoCells line) else

@@ -1,23 +1,21 @@
 -- Paths by time, as LaCAM's and PIBT's programs print them.
 -- `solution=`, and then a line `T:(x,y),(x,y),..,` for each time from 0.
-use Rattle.std.specs.Prelude.{ℕ, ◌+◌, nat_lt, Option, Some, Result, Ok, Err, List, [], ◌∷◌, ◌==◌, length, codes, bytes_eq, if◌then◌else◌}
+use Rattle.std.specs.Prelude.{ℕ, ◌+◌, Option, Some, None, Result, Ok, Err, List, [], ◌∷◌, ◌==◌, length, codes, bytes_eq, if◌then◌else◌}
 use Rattle.std.specs.Option.{option_map_or}
 use Rattle.grid_cells.specs.Cell.{Point}
-use Rattle.plan_table.specs.declared.paths.TheConstants.{MOST_LAST_INDEX}
 use Rattle.path_files.specs.Answers.{and_then}
 use Rattle.path_files.specs.Lines.{Line, behind_label}
 use Rattle.path_files.specs.Rows.{row_in_line, paths_with_row}
-use Rattle.path_files.specs.Heads.{agents_told, with_line}
+use Rattle.path_files.specs.Heads.{with_line}
 use Rattle.path_files.specs.declared.faults.PathsFault.{PathsFault}
-use Rattle.path_files.specs.declared.faults.PathsFault.TheVariants.{BadTime, TooLong, NoPaths, MissingSolution}
+use Rattle.path_files.specs.declared.faults.PathsFault.TheVariants.{BadTime, NoPaths, MissingSolution}
 use Rattle.path_files.specs.declared.forms.Form.TheVariants.{ByTime}
 use Rattle.path_files.specs.declared.heads.Head.{Head}
 use Rattle.path_files.specs.declared.paths.SolverPaths.{SolverPaths}
 
 -- the row of a time
 abbrev pub row_at : ℕ → Option ℕ → ℕ → List ℕ → Result (List Point) PathsFault
-row_at time count line bytes =
-    option_map_or (λ cells. if nat_lt MOST_LAST_INDEX time then Err (TooLong line) else row_in_line line count cells) (behind_label time bytes) (Err (BadTime line))
+row_at time count line bytes = option_map_or (row_in_line line count) (behind_label time bytes) (Err (BadTime line))
 
 -- the paths so far, of so many times, and the rows of these lines
 abbrev pub times_from : ℕ → Option ℕ → List (List Point) → List Line → Result (List (List Point)) PathsFault
@@ -28,7 +26,8 @@ times_from time count paths (line ∷ lines) =
 -- the paths of the lines behind `solution=`
 abbrev pub times_of : Head → List Line → Result SolverPaths PathsFault
 times_of head lines =
-    and_then (times_from 0 (agents_told head) [] lines) (λ paths. Ok (record { form = ByTime; starts = head.starts; goals = head.goals; paths = paths }))
+    and_then (times_from 0 None [] lines)
+    (λ paths. Ok (record { form = ByTime; starts = head.starts; goals = head.goals; agents = head.agents; paths = paths }))
 
 -- the head so far, and what these lines spell
 abbrev pub by_time : Head → List Line → Result SolverPaths PathsFault

@@ -27,4 +27,4 @@ told_from form due paths (line ∷ lines) =
 
 -- what the lines spell
 abbrev pub by_told : Form → List Line → Result SolverPaths PathsFault
-by_told form lines = and_then (told_from form 0 [] lines) (λ paths. Ok (record { form = form; starts = None; goals = None; paths = paths }))
+by_told form lines = and_then (told_from form 0 [] lines) (λ paths. Ok (record { form = form; starts = None; goals = None; agents = None; paths = paths }))

@@ -8,7 +8,6 @@ use crate::cells::{Notation, cells_of};
 use crate::faults::PathsFault;
 use crate::lines::{behind, behind_blanks, labelled};
 use grid_cells::{Cell, List};
-use plan_table::MOST_LAST_INDEX;
 use scene_edits::MOST_AGENTS;
 use std::alloc::Global;
 
@@ -16,7 +15,7 @@ use std::alloc::Global;
 fn cells_behind(agent: u32, line: &[u8]) -> Option<&[u8]>
     ensures { option_copied result ≡ cells_behind agent line.now }
 {
-    Some(behind_blanks(labelled(agent, behind(b"Agent ", line)?)?))
+    Some(behind_blanks(labelled(agent as usize, behind(b"Agent ", line)?)?))
 }
 
 /// The fault of a path of so many cells.
@@ -25,8 +24,6 @@ pub(crate) fn path_fault(line: usize, cells: usize) -> Option<PathsFault>
 {
     if cells == 0 {
         Some(PathsFault::NoCells { line })
-    } else if cells - 1 > MOST_LAST_INDEX as usize {
-        Some(PathsFault::TooLong { line })
     } else {
         None
     }

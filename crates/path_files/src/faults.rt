@@ -6,9 +6,9 @@ use std::fmt;
 pub enum PathsFault {
     /// The first line that isn't blank begins no form.
     NoForm { line: usize },
-    /// Before `solution=` stands a line that isn't `key=value`.
+    /// Before `solution=` stands a line that isn't `key=value`, or `agents=` without a number.
     BadHeader { line: usize },
-    /// A second line `starts=`, or a second line `goals=`.
+    /// A second line `starts=`, `goals=` or `agents=`.
     RepeatedList { line: usize },
     /// The text is over before `solution=`.
     MissingSolution,
@@ -24,12 +24,10 @@ pub enum PathsFault {
     BadCell { line: usize, cell: usize },
     /// A list without a cell.
     NoCells { line: usize },
-    /// Another number of cells than in the text's first list.
+    /// Another number of cells than in the first line of a time.
     CellCount { line: usize },
     /// The line is of more than `MOST_AGENTS` agents, or of the agent behind them.
     TooManyAgents { line: usize },
-    /// A path of a last index above `MOST_LAST_INDEX`.
-    TooLong { line: usize },
     /// The text is over before its first path.
     NoPaths,
     /// There was no memory.
@@ -51,7 +49,6 @@ impl PathsFault {
             PathsFault::NoCells { line } => ("no cells", Some(line)),
             PathsFault::CellCount { line } => ("cell count", Some(line)),
             PathsFault::TooManyAgents { line } => ("too many agents", Some(line)),
-            PathsFault::TooLong { line } => ("too long", Some(line)),
             PathsFault::NoPaths => ("no paths", None),
             PathsFault::OutOfMemory => ("out of memory", None),
         }

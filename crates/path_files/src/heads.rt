@@ -1,10 +1,11 @@
 ghost use Rattle.std.specs.Prelude.{◌≡◌};
-ghost use Rattle.path_files.specs.Heads.{agents_told, with_line, list_of, with_starts, with_goals};
+ghost use Rattle.path_files.specs.Heads.{with_line, list_of, with_starts, with_goals, with_agents};
 ghost use Rattle.path_files.specs.Answers.{IsRead};
 
 use crate::faults::PathsFault;
-use crate::lines::behind;
+use crate::lines::{behind, behind_blanks};
 use crate::rows::row_of;
+use bench_reader::number_of;
 use grid_cells::{Cell, List};
 use std::alloc::Global;
 
@@ -13,43 +14,33 @@ use std::alloc::Global;
 pub(crate) struct Head {
     pub(crate) starts: Option<List<Cell>>,
     pub(crate) goals: Option<List<Cell>>,
-}
-
-/// How many agents the text's first list has, if there was one.
-pub(crate) fn agents_told(head: &Head) -> Option<usize>
-    ensures { result ≡ agents_told head.now }
-{
-    match (&head.starts, &head.goals) {
-        (Some(starts), _) => Some(starts.items().len()),
-        (None, Some(goals)) => Some(goals.items().len()),
-        (None, None) => None,
-    }
+    pub(crate) agents: Option<u32>,
 }
 
 // The list of that line, where the head doesn't have it yet.
 fn list_of(
     alloc: Global,
-    head: &Head,
     list: &Option<List<Cell>>,
     line: usize,
     text: &[u8],
 ) -> Result<List<Cell>, PathsFault>
-    ensures { IsRead (list_of head.now list.now line text.now) result }
+    ensures { IsRead (list_of list.now line text.now) result }
 {
     if list.is_some() {
         return Err(PathsFault::RepeatedList { line });
     }
-    row_of(alloc, line, agents_told(head), text)
+    row_of(alloc, line, None, text)
 }
 
 // The head with the starts of that line.
 fn with_starts(alloc: Global, head: Head, line: usize, text: &[u8]) -> Result<Head, PathsFault>
     ensures { IsRead (with_starts head line text.now) result }
 {
-    let starts = list_of(alloc, &head, &head.starts, line, text)?;
+    let starts = list_of(alloc, &head.starts, line, text)?;
     Ok(Head {
         starts: Some(starts),
         goals: head.goals,
+        agents: head.agents,
     })
 }
 
@@ -57,11 +48,29 @@ fn with_starts(alloc: Global, head: Head, line: usize, text: &[u8]) -> Result<He
 fn with_goals(alloc: Global, head: Head, line: usize, text: &[u8]) -> Result<Head, PathsFault>
     ensures { IsRead (with_goals head line text.now) result }
 {
-    let goals = list_of(alloc, &head, &head.goals, line, text)?;
+    let goals = list_of(alloc, &head.goals, line, text)?;
     Ok(Head {
         starts: head.starts,
         goals: Some(goals),
+        agents: head.agents,
     })
+}
+
+// The head with the number of agents of that line.
+fn with_agents(head: Head, line: usize, text: &[u8]) -> Result<Head, PathsFault>
+    ensures { result ≡ with_agents head line text.now }
+{
+    if head.agents.is_some() {
+        return Err(PathsFault::RepeatedList { line });
+    }
+    match number_of(behind_blanks(text)) {
+        Some(agents) => Ok(Head {
+            starts: head.starts,
+            goals: head.goals,
+            agents: Some(agents),
+        }),
+        None => Err(PathsFault::BadHeader { line }),
+    }
 }
 
 /// The head with one more line `key=value`.
@@ -80,6 +89,8 @@ pub(crate) fn with_line(
         with_starts(alloc, head, line, cells)
     } else if let Some(cells) = behind(b"goals=", bytes) {
         with_goals(alloc, head, line, cells)
+    } else if let Some(number) = behind(b"agents=", bytes) {
+        with_agents(head, line, number)
     } else if bytes.contains(&b'=') {
         Ok(head)
     } else {

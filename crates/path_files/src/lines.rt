@@ -71,11 +71,11 @@ pub(crate) fn cut(text: &[u8], mark: u8) -> Option<(&[u8], &[u8])>
 }
 
 /// What stands behind the number and a colon, where the line begins with them.
-pub(crate) fn labelled(number: u32, line: &[u8]) -> Option<&[u8]>
+pub(crate) fn labelled(number: usize, line: &[u8]) -> Option<&[u8]>
     ensures { option_copied result ≡ behind_label number line.now }
 {
     let (label, rest) = cut(line, b':')?;
-    if number_of(label)? == number {
+    if number_of(label)? as usize == number {
         Some(rest)
     } else {
         None

@@ -9,13 +9,14 @@ use crate::told::read_told;
 use grid_cells::{Cell, List};
 use std::alloc::Global;
 
-/// What a file of paths spells: the agents' starts and goals, where it tells them, and for each
-/// agent, from 0, its cells from time 0 on.
+/// What a file of paths spells: the agents' starts, their goals and how many they are, where it tells
+/// them, and for each agent, from 0, its cells from time 0 on.
 #[derive(Drop)]
 pub struct SolverPaths {
     pub form: Form,
     pub starts: Option<List<Cell>>,
     pub goals: Option<List<Cell>>,
+    pub agents: Option<u32>,
     pub paths: List<List<Cell>>,
 }
 

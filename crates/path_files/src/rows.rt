@@ -10,7 +10,7 @@ use scene_edits::MOST_AGENTS;
 use std::alloc::Global;
 use std::mem;
 
-// The fault of a list of so many cells, one for each agent, where the text's first list has `count`.
+// The fault of a list of so many cells, one for each agent, where the one of time 0 has `count`.
 fn row_fault(line: usize, count: Option<usize>, cells: usize) -> Option<PathsFault>
     ensures is { result ≡ row_fault line count cells }
     ensures few { MatchOption result (cells ≤ MOST_AGENTS) (λ _. Unit {0}) }
@@ -27,8 +27,7 @@ fn row_fault(line: usize, count: Option<usize>, cells: usize) -> Option<PathsFau
     }
 }
 
-/// A list of one cell for each agent. `count` is how many the text's first list has, if there was
-/// one.
+/// A list of one cell for each agent. `count` is how many the one of time 0 has, behind it.
 ///
 /// # Errors
 /// `BadCell`, then `NoCells`, `TooManyAgents` or `CellCount`; or want of memory.

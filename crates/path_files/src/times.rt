@@ -1,4 +1,4 @@
-ghost use Rattle.std.specs.Prelude.{◌≡◌, ◌+◌, ◌^◌, ◌<◌, ◌≤◌, length, IfOk, OnOk};
+ghost use Rattle.std.specs.Prelude.{◌≡◌, ◌+◌, ◌^◌, ◌<◌, ◌≤◌, length, IfOk};
 ghost use Rattle.bench_reader.specs.Lines.{lines_of};
 ghost use Rattle.scene_edits.specs.declared.scenes.TheConstants.{MOST_AGENTS};
 ghost use Rattle.path_files.specs.Lines.{written_from};
@@ -8,33 +8,28 @@ ghost use Rattle.path_files.specs.Answers.{IsRead};
 
 use crate::faults::PathsFault;
 use crate::forms::Form;
-use crate::heads::{Head, agents_told, with_line};
+use crate::heads::{Head, with_line};
 use crate::lines::{labelled, next_written};
 use crate::paths::SolverPaths;
 use crate::rows::{add_row, row_of};
 use grid_cells::{Cell, List};
-use plan_table::MOST_LAST_INDEX;
 use session_lines::is_word;
 use std::alloc::Global;
 
 // The cells of the agents in the line of that time.
 fn row_at(
     alloc: Global,
-    time: u32,
+    time: usize,
     count: Option<usize>,
     line: usize,
     bytes: &[u8],
 ) -> Result<List<Cell>, PathsFault>
     ensures is { IsRead (row_at time count line bytes.now) result }
-    ensures bound { OnOk result (time ≤ MOST_LAST_INDEX) }
     ensures few { IfOk result (λ row. length row ≤ MOST_AGENTS) }
 {
     let Some(cells) = labelled(time, bytes) else {
         return Err(PathsFault::BadTime { line });
     };
-    if time > MOST_LAST_INDEX {
-        return Err(PathsFault::TooLong { line });
-    }
     row_of(alloc, line, count, cells)
 }
 
@@ -50,9 +45,9 @@ fn read_times(
     ensures is { IsRead (times_of head (written_from first (lines_of text.now))) result }
     ensures few { IfOk result (λ spelled. length spelled.paths ≤ MOST_AGENTS) }
 {
-    let mut count = agents_told(&head);
+    let mut count = None;
     let mut paths = Vec::new(alloc);
-    let mut time = 0;
+    let mut time: usize = 0;
     let mut rest = text;
     let mut number = first;
     while let Some((line, bytes, below)) = next_written(rest, number) {
@@ -70,6 +65,7 @@ fn read_times(
         form: Form::ByTime,
         starts: head.starts,
         goals: head.goals,
+        agents: head.agents,
         paths: List::new(paths),
     })
 }
@@ -85,6 +81,7 @@ pub(crate) fn read_by_time(alloc: Global, text: &[u8]) -> Result<SolverPaths, Pa
     let mut head = Head {
         starts: None,
         goals: None,
+        agents: None,
     };
     let mut rest = text;
     let mut number = 1;

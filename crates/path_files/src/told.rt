@@ -58,6 +58,7 @@ pub(crate) fn read_told(alloc: Global, form: Form, text: &[u8]) -> Result<Solver
         form,
         starts: None,
         goals: None,
+        agents: None,
         paths: List::new(paths),
     })
 }

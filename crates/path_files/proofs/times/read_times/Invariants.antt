@@ -1,17 +1,15 @@
-use Rattle.std.proofs.Common.{◌≡◌, ◌+◌, ◌≤◌, [], length}
+use Rattle.std.proofs.Common.{◌≡◌, ◌+◌, ◌≤◌, None, [], length}
 use Rattle.bench_reader.specs.Lines.{lines_of}
-use Rattle.plan_table.specs.declared.paths.TheConstants.{MOST_LAST_INDEX}
 use Rattle.scene_edits.specs.declared.scenes.TheConstants.{MOST_AGENTS}
 use Rattle.path_files.specs.Lines.{written_from}
-use Rattle.path_files.specs.Heads.{agents_told}
 use Rattle.path_files.specs.Times.{times_from}
 use Rattle.path_files.proofs.times.read_times.Given as goal
 
 abbrev pub invariant-loop-line : goal.invariant-loop-line
 invariant-loop-line l = record {
-  so_far : times_from 0 (agents_told l.head) [] (written_from l.first (lines_of l.text)) ≡ times_from l.time l.count l.paths.items (written_from l.number (lines_of l.rest));
+  so_far : times_from 0 None [] (written_from l.first (lines_of l.text)) ≡ times_from l.time l.count l.paths.items (written_from l.number (lines_of l.rest));
   room : l.number + length l.rest ≤ l.first + length l.text;
-  timed : l.time ≤ MOST_LAST_INDEX + 1;
+  timed : l.time + length l.rest ≤ length l.text;
   few : length l.paths.items ≤ MOST_AGENTS;
 }
 
