@@ -54,20 +54,31 @@ def wrong_in(start, goal, path, columns, rows):
     return f"0 out-of-map {told(goal)}" if outside(goal) else None
 
 
+def ends_of(listed, ends):
+    """The cells listed, and behind them those of the paths."""
+    return [*(listed or []), *ends[len(listed or []) :]][: len(ends)]
+
+
+def differences(starts, goals, agents, paths):
+    """The lines of numbers that a text tells and that aren't that of its paths."""
+    found = [("agents", agents), *((name, it and len(it)) for name, it in (("starts", starts), ("goals", goals)))]
+    return "".join(f"differs {name} {it} {len(paths)}\n" for name, it in found if it not in (None, len(paths)))
+
+
 def wrong_paths(starts, goals, paths, size):
     """The lines of the agents whose paths aren't any."""
     found = [(agent, wrong_in(*it, *size)) for agent, it in enumerate(zip(starts, goals, paths))]
     return "".join(f"wrong {agent} {why}\n" for agent, why in found if why)
 
 
-def report_of(goals, paths):
+def report_of(goals, paths, differs):
     """The verdict on paths over closed cells, without the lines of conflicts."""
     last = [max([0, *(n for n in range(1, len(it)) if it[n] != it[n - 1])]) for it in paths]
     done = [path[-1] == goal for path, goal in zip(paths, goals)]
     lines = [f"agent {n} settle {t} goal {'yes' if it else 'no'} bound none gap none" for n, (t, it) in enumerate(zip(last, done))]
     visits = [f"visit {n} {t} {path[t][0]},{path[t][1]}" for n, path in enumerate(paths) for t in range(last[n] + 1)]
     totals = (sum(last), max(last)) if all(done) else ("none", "none")
-    ends = [f"sum {totals[0]}", f"makespan {totals[1]}", "bounds none", "gap none", "end", "solves no"]
+    ends = [f"sum {totals[0]}", f"makespan {totals[1]}", "bounds none", "gap none", "end", *differs.splitlines(), "solves no"]
     return ["version 0", f"agents {len(paths)}", *lines, f"blocked {len(visits)}", *visits, *ends]
 
 
@@ -80,19 +91,20 @@ def compare(text, form, size):
     words = ["check", "--map", "closed_%d_%d" % size, "--paths", "edited", "--workers", "1", *(["--form", form] if form else [])]
     status, said, complained = run(words)
     try:
-        told, starts, goals, paths = read_paths(text, form)
-        fault, wrong = None, wrong_paths(starts or [it[0] for it in paths], goals or [it[-1] for it in paths], paths, size)
+        told, *lists, agents, paths = read_paths(text, form)
+        starts, goals = ends_of(lists[0], [it[0] for it in paths]), ends_of(lists[1], [it[-1] for it in paths])
+        fault, wrong, differs = None, wrong_paths(starts, goals, paths, size), differences(*lists, agents, paths)
         kind = f"read by {told}"
     except Fault as why:
         fault, kind = str(why), re.sub(r" \d+", "", str(why))
-        wrong = "no paths\n" if kind == "no paths" else ""
+        wrong, differs = "no paths\n" if kind == "no paths" else "", ""
     if wrong:
-        want(f"the check of {text!r} by {form}", (status, said, complained), (1, f"{wrong}solves no\n", ""))
+        want(f"the check of {text!r} by {form}", (status, said, complained), (1, f"{wrong}{differs}solves no\n", ""))
     elif fault:
         want(f"the check of {text!r} by {form}", (status, said, complained), (2, "", f"mapf_desk: paths: {fault}\n"))
     else:
         lines = [it for it in said.splitlines() if it.split()[0] not in CONFLICTS]
-        want(f"the report of {text!r} by {form}", lines, report_of(goals or [it[-1] for it in paths], paths))
+        want(f"the report of {text!r} by {form}", lines, report_of(goals, paths, differs))
         want("the status and standard error", (status, complained), (1, ""))
     return kind
 

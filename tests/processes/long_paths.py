@@ -53,15 +53,17 @@ def settled(last, visits):
 
 
 def longest_paths(form):
-    """131,072 cells are read, and no more: of an agent that stays, and of one that goes to and fro."""
+    """A path has 131,072 cells, and no more: of an agent that stays, and of one that goes to and fro."""
     name, times = put_closed(5, 5), TIMES[form]
-    fault = f"paths: too long in line {MOST_CELLS + 2 if form == 'time' else 1}"
+    too_long = lambda text, cell: is_run(check(text, "--map", name), b"", (1, f"wrong 0 {MOST_CELLS} too-long {cell}\nsolves no\n", ""))
     is_run(check(times([(3, 4)] * MOST_CELLS), "--map", name), b"", (1, settled(0, "visit 0 0 3,4\n"), ""))
-    is_fault(check(times([(3, 4)] * (MOST_CELLS + 1)), "--map", name), fault)
+    too_long(times([(3, 4)] * MOST_CELLS + [(0, 9)]), "0,9")
+    is_run(check(times([(3, 4)] * 3 + [(9, 0)] + [(3, 4)] * MOST_CELLS), "--map", name), b"", (1, "wrong 0 3 out-of-map 9,0\nsolves no\n", ""))
     cells = [(3, 3 + n % 2) for n in range(MOST_CELLS)]
     visits = "".join(f"visit 0 {n} 3,{3 + n % 2}\n" for n in range(MOST_CELLS))
     is_run(check(times(cells), "--map", name), b"", (1, settled(MOST_CELLS - 1, visits), ""))
-    is_fault(check(times([*cells, (3, 3)]), "--map", name), fault)
+    too_long(times([*cells, (3, 3)]), "3,3")
+    is_fault(["draw", "--map", name, "--paths", "many"], f"paths: agent 0 at time {MOST_CELLS}: too-long")
     remove("many", name)
 
 

@@ -1,7 +1,7 @@
 """A plain reader of files of paths, by docs/FILES.md."""
 from .plain_words import BLANKS, Fault, cell_of, number, words_of
 
-MOST_AGENTS, MOST_CELLS = 8192, 131072
+MOST_AGENTS = 8192
 
 
 def is_of_session(line):
@@ -34,8 +34,8 @@ def cells(line, text, join, turned):
     return found
 
 
-def row_of(line, text, count):
-    """A list by time, of as many cells as that, where a number is known."""
+def row_of(line, text, count=None):
+    """A list by time, of as many cells as that, where a number is told."""
     row = cells(line, text, b",", False)
     if not row:
         raise Fault(f"no cells in line {line}")
@@ -47,23 +47,24 @@ def row_of(line, text, count):
 
 
 def head_of(lines):
-    """The lists of starts and goals in the lines before the paths."""
-    lists, count = {}, None
+    """The lists of starts and goals, and the number of agents, in the lines before the paths."""
+    told = {}
     for line, text in lines:
         key, sign, rest = text.partition(b"=")
         if not sign:
             raise Fault(f"bad header in line {line}")
-        if key in (b"starts", b"goals"):
-            if key in lists:
+        if key in (b"starts", b"goals", b"agents"):
+            if key in told:
                 raise Fault(f"repeated list in line {line}")
-            lists[key] = row_of(line, rest, count)
-            count = len(lists[key])
-    return lists, count
+            told[key] = number(rest.lstrip(BLANKS)) if key == b"agents" else row_of(line, rest)
+            if told[key] is None:
+                raise Fault(f"bad header in line {line}")
+    return told
 
 
 def by_time(lines):
     at = next((n for n, (_, text) in enumerate(lines) if text == b"solution="), len(lines))
-    lists, count = head_of(lines[:at])
+    told, count = head_of(lines[:at]), None
     if at == len(lines):
         raise Fault("missing solution")
     rows = []
@@ -71,11 +72,9 @@ def by_time(lines):
         rest = behind_number(time, text)
         if rest is None:
             raise Fault(f"bad time in line {line}")
-        if time >= MOST_CELLS:
-            raise Fault(f"too long in line {line}")
         rows.append(row_of(line, rest, count))
         count = len(rows[0])
-    return lists.get(b"starts"), lists.get(b"goals"), list(zip(*rows))
+    return told.get(b"starts"), told.get(b"goals"), told.get(b"agents"), list(zip(*rows))
 
 
 def path_by_agent(agent, line, text):
@@ -106,10 +105,8 @@ def by_line(lines, path_of):
         path = path_of(len(paths), line, text)
         if not path:
             raise Fault(f"no cells in line {line}")
-        if len(path) > MOST_CELLS:
-            raise Fault(f"too long in line {line}")
         paths.append(path)
-    return None, None, paths
+    return None, None, None, paths
 
 
 def form_of(lines):
@@ -124,7 +121,7 @@ def form_of(lines):
 
 
 def read_paths(text, form=None):
-    """The form of a text, its starts and its goals where it tells them, and its paths."""
+    """The form of a text, its starts, its goals and its number of agents where it tells them, and its paths."""
     lines = [(n, it.strip(BLANKS)) for n, it in enumerate(text.split(b"\n"), 1) if it.strip(BLANKS)]
     if form is None and not lines:
         raise Fault("no paths")
@@ -132,6 +129,6 @@ def read_paths(text, form=None):
     if form == "session":
         lines = [it for it in lines if it[1][:1] != b"#"]
     told = by_time(lines) if form == "time" else by_line(lines, {"agent": path_by_agent, "session": path_by_session}[form])
-    if not told[2]:
+    if not told[3]:
         raise Fault("no paths")
     return form, *told

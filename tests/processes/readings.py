@@ -15,7 +15,7 @@ from .plain_texts import read_journal, read_scen
 from .plain_words import Fault, lines_of, words_of
 from .running import PATIENCE, TOP, Program, Wrong, put, remove, want
 
-LACAM_LISTS = "time starts 0,0 2,1 goals 2,0 0,1 path 0,0 1,0 2,0 2,0 path 2,1 2,1 1,1 0,1"
+LACAM_LISTS = "time starts 0,0 2,1 goals 2,0 0,1 agents 2 path 0,0 1,0 2,0 2,0 path 2,1 2,1 1,1 0,1"
 # What each text of LENIENT tells before its path.
 LENIENT_LISTS = ["", "", "", " starts 0,2047 goals 7,2047", " starts 0,2047", " goals 7,2047", ""]
 
@@ -41,11 +41,12 @@ def listed(name, cells):
 def read_lists(text, form):
     """What a file of paths tells by the plain reader, and the kind of the answer."""
     try:
-        told, starts, goals, paths = read_paths(text, form)
+        told, starts, goals, agents, paths = read_paths(text, form)
     except Fault as why:
         return str(why), kind_of(why)
-    lists = [("starts", starts), ("goals", goals), *(("path", it) for it in paths)]
-    return told + "".join(listed(name, cells) for name, cells in lists if cells is not None), f"read by {told}"
+    lists = "".join(listed(name, cells) for name, cells in (("starts", starts), ("goals", goals)) if cells is not None)
+    number = "" if agents is None else f" agents {agents}"
+    return told + lists + number + "".join(listed("path", it) for it in paths), f"read by {told}"
 
 
 def compare_lists(rows):
@@ -101,10 +102,9 @@ def lists_of_ten_thousand_agents():
 
 
 def lists_of_longest_paths():
-    """One agent's path may have 131,072 cells, and no more: the line of the next is refused."""
+    """One agent's path is read with more cells than it may have, which are 131,072."""
     for form, text in STAYING.items():
-        fault = f"too long in line {131074 if form == 'time' else 1}"
-        are_read([("any", text(131072), f"{form} path" + " 3,4" * 131072), ("any", text(131073), fault)])
+        are_read([("any", text(count), f"{form} path" + " 3,4" * count) for count in (131072, 131073)])
 
 
 def read_buckets(text):

@@ -1,6 +1,6 @@
--- Where a text of paths differs from the problem: fewer paths than agents are asked for, or starts and goals that aren't those of the
--- scenario (this project's choice).
-use Rattle.std.specs.Prelude.{ℕ, ◌+◌, nat_lt, Option, Some, None, List, [], ◌∷◌, ◌++◌, length, slice_get, if◌then◌else◌}
+-- Where a text of paths differs from the problem, or from itself: fewer paths than agents are asked for, another number of agents, lists
+-- of another length than there are paths, or starts and goals that aren't those of the scenario (this project's choice).
+use Rattle.std.specs.Prelude.{ℕ, ◌+◌, ◌==◌, nat_lt, Option, Some, None, List, [], ◌∷◌, ◌++◌, length, slice_get, if◌then◌else◌}
 use Rattle.std.specs.Option.{option_map, option_and_then, option_to_list}
 use Rattle.grid_cells.specs.Cell.{Point}
 use Rattle.plan_table.specs.Plans.{row_of}
@@ -8,7 +8,7 @@ use Rattle.scene_edits.specs.Scene.{SceneState, start_of}
 use Rattle.path_files.specs.declared.paths.SolverPaths.{SolverPaths}
 use Rattle.solver_check.specs.Wrongs.{is_same}
 use Rattle.solver_check.specs.declared.checks.differences.Difference.{Difference}
-use Rattle.solver_check.specs.declared.checks.differences.Difference.TheVariants.{Paths, Start, Goal}
+use Rattle.solver_check.specs.declared.checks.differences.Difference.TheVariants.{Paths, Agents, Starts, Goals, Start, Goal}
 
 -- an agent's cell in a list of the text's
 abbrev pub listed_for : Option (List Point) → ℕ → Option Point
@@ -44,6 +44,33 @@ abbrev pub lacking : SceneState → SolverPaths → Option Difference
 lacking scene spelled =
     if nat_lt (length spelled.paths) (length scene.rows) then Some (Paths (length spelled.paths) (length scene.rows)) else None
 
+-- how many agents there are: one for each path, or for each task where these are more
+abbrev pub agents_due : SceneState → SolverPaths → ℕ
+agents_due scene spelled =
+    if nat_lt (length spelled.paths) (length scene.rows) then length scene.rows else length spelled.paths
+
+-- the number of agents that the text tells, where it is another
+abbrev pub agents_apart : Option ℕ → ℕ → Option Difference
+agents_apart (Some listed) agents = if listed == agents then None else Some (Agents listed agents)
+agents_apart None agents = None
+
+-- how many starts, or goals, are listed, where there are not as many as paths
+abbrev pub starts_uneven : Option (List Point) → ℕ → Option Difference
+starts_uneven (Some starts) paths = if length starts == paths then None else Some (Starts (length starts) paths)
+starts_uneven None paths = None
+
+abbrev pub goals_uneven : Option (List Point) → ℕ → Option Difference
+goals_uneven (Some goals) paths = if length goals == paths then None else Some (Goals (length goals) paths)
+goals_uneven None paths = None
+
+-- the numbers that differ: of paths, of agents, of starts and of goals
+abbrev pub counts_apart : SceneState → SolverPaths → List Difference
+counts_apart scene spelled =
+    option_to_list (lacking scene spelled)
+    ++ (option_to_list (agents_apart spelled.agents (agents_due scene spelled))
+    ++ (option_to_list (starts_uneven spelled.starts (length spelled.paths))
+    ++ option_to_list (goals_uneven spelled.goals (length spelled.paths))))
+
 -- where a text differs from the scene of the map and the tasks
 abbrev pub differences_of : SceneState → SolverPaths → List Difference
-differences_of scene spelled = option_to_list (lacking scene spelled) ++ ends_from scene spelled 0 spelled.paths
+differences_of scene spelled = counts_apart scene spelled ++ ends_from scene spelled 0 spelled.paths

@@ -1,15 +1,17 @@
 -- Which paths of a text aren't any, and why: the first cell, by time, that isn't on the map, isn't the agent's start, or is no step
--- from the cell before (Stern et al. 2019, single-agent plans; which of these comes first at one time is this project's choice).
-use Rattle.std.specs.Prelude.{ℕ, ◌+◌, ◌==◌, ◌&&◌, nat_le, Bool, true, false, Option, Some, None, List, [], ◌∷◌, ◌++◌, if◌then◌else◌}
+-- from the cell before, or stands behind the last one that a path may have (Stern et al. 2019, single-agent plans; how long a path may
+-- be, and which of these comes first at one time, is this project's choice).
+use Rattle.std.specs.Prelude.{ℕ, ◌+◌, ◌==◌, ◌&&◌, nat_le, nat_lt, Bool, true, false, Option, Some, None, List, [], ◌∷◌, ◌++◌, if◌then◌else◌}
 use Rattle.std.specs.Option.{option_or, option_to_list}
 use Rattle.grid_cells.specs.Cell.{Point, steps_between}
 use Rattle.grid_cells.specs.Size.{Extent}
+use Rattle.plan_table.specs.declared.paths.TheConstants.{MOST_LAST_INDEX}
 use Rattle.scene_edits.specs.Scene.{SceneState, start_of}
 use Rattle.path_files.specs.declared.paths.SolverPaths.{SolverPaths}
 use Rattle.solver_check.specs.CheckEdits.{start_in, goal_in}
 use Rattle.solver_check.specs.CheckTimes.{is_off}
 use Rattle.solver_check.specs.declared.checks.wrongs.Wrong.{Wrong}
-use Rattle.solver_check.specs.declared.checks.wrongs.Wrong.TheVariants.{OutOfMap, NotFromStart, NotAStep}
+use Rattle.solver_check.specs.declared.checks.wrongs.Wrong.TheVariants.{TooLong, OutOfMap, NotFromStart, NotAStep}
 
 abbrev pub is_same : Point → Point → Bool
 is_same a b = (a.y == b.y) && (a.x == b.x)
@@ -20,6 +22,7 @@ is_step a b = nat_le (steps_between a b) 1
 -- what is wrong with the cell at a time behind the one before, which at time 0 is the agent's start
 abbrev pub wrong_at : Extent → ℕ → ℕ → Point → Point → Option Wrong
 wrong_at size agent time before cell =
+    if nat_lt MOST_LAST_INDEX time then Some (TooLong agent time cell) else
     if is_off size cell then Some (OutOfMap agent time cell) else
     if time == 0 then (if is_same before cell then None else Some (NotFromStart agent before cell)) else
     if is_step before cell then None else Some (NotAStep agent time before cell)

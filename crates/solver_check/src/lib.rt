@@ -8,8 +8,8 @@
 //!
 //! In `checks`, for the word `check`, `edits` are what a text of paths asks for, `scenes` the scene
 //! that it makes, `times` the time at which a path is refused; `wrongs` are the paths that aren't any,
-//! `differences` where the text differs from the problem, `judging` is the verdict; `texts`, `findings`
-//! and `quiet` write it; `faults` has what a verdict or a picture fails by.
+//! `differences` and `counts` where the text differs from the problem, `judging` is the verdict; `texts`,
+//! `findings` and `quiet` write it; `faults` has what a verdict or a picture fails by.
 #![tactic(auto)]
 
 mod bounds;

@@ -1,9 +1,10 @@
-//! Where a text of paths differs from the problem.
+//! Where a text of paths differs from the problem, or from itself.
 ghost use Rattle.std.specs.Prelude.{◌≡◌, ◌++◌, ◌≤◌, IfOk, OnOk, length};
 ghost use Rattle.std.specs.Option.{option_to_list};
 ghost use Rattle.scene_edits.specs.declared.scenes.TheConstants.{MOST_AGENTS};
-ghost use Rattle.solver_check.specs.Differences.{differences_of, ends_apart, goal_apart, goal_of, lacking, listed_for, start_apart};
+ghost use Rattle.solver_check.specs.Differences.{differences_of, ends_apart, goal_apart, goal_of, listed_for, start_apart};
 
+use crate::checks::counts::add_counts;
 use crate::checks::edits::agent_of;
 use crate::checks::wrongs::{is_same, start_of};
 use grid_cells::{Agent, Cell, List, OutOfMemory};
@@ -11,13 +12,28 @@ use path_files::SolverPaths;
 use scene_edits::Scene;
 use std::alloc::Global;
 
-/// Where a text of paths differs from the problem.
+/// Where a text of paths differs from the problem, or from itself.
 #[derive(Clone, Copy)]
 pub(crate) enum Difference {
     /// There are fewer paths than agents.
     Paths {
         paths: usize,
         agents: usize,
+    },
+    /// The text tells another number of agents than there are.
+    Agents {
+        listed: u32,
+        agents: usize,
+    },
+    /// It lists more or fewer starts than paths.
+    Starts {
+        listed: usize,
+        paths: usize,
+    },
+    /// It lists more or fewer goals than paths.
+    Goals {
+        listed: usize,
+        paths: usize,
     },
     /// The agent's start by the list of starts, and by the scenario.
     Start {
@@ -74,21 +90,14 @@ fn goal_apart(agent: Agent, listed: Option<Cell>, due: Option<Cell>) -> Option<D
     }
 }
 
-// How many paths and agents there are, where the paths are fewer.
-fn lacking(scene: &Scene, spelled: &SolverPaths) -> Option<Difference>
-    ensures { result ≡ lacking scene.now spelled.now }
-{
-    let paths = spelled.paths.items().len();
-    let agents = scene.plans().count() as usize;
-    if paths < agents {
-        Some(Difference::Paths { paths, agents })
-    } else {
-        None
-    }
-}
-
-// Adds what there is.
-fn add(found: &mut Vec<Difference>, difference: Option<Difference>) -> Result<(), OutOfMemory>
+/// Adds what there is.
+///
+/// # Errors
+/// Want of memory.
+pub(crate) fn add(
+    found: &mut Vec<Difference>,
+    difference: Option<Difference>,
+) -> Result<(), OutOfMemory>
     ensures { OnOk result (found.new.items ≡ found.old.items ++ option_to_list difference) }
 {
     match difference {
@@ -115,7 +124,8 @@ fn add_ends(
 }
 
 /// Where the text of paths differs from the scene of the map and the tasks: whether it has fewer
-/// paths, and by agent each start and goal that it lists otherwise. With a bare map it differs nowhere.
+/// paths, tells another number of agents, or lists more or fewer starts or goals than paths; and by
+/// agent each start and goal that it lists otherwise, which on a bare map it doesn't.
 ///
 /// # Errors
 /// Want of memory.
@@ -128,7 +138,7 @@ pub(crate) fn differences_of(
     ensures { IfOk result (λ found. found.items ≡ differences_of scene.now spelled.now) }
 {
     let mut found = Vec::new(alloc);
-    add(&mut found, lacking(scene, spelled))?;
+    add_counts(&mut found, scene, spelled)?;
     for (number, _) in spelled.paths.items().iter().enumerate() {
         add_ends(&mut found, scene, spelled, agent_of(number))?;
     }

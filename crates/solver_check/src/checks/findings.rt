@@ -3,7 +3,7 @@ ghost use Rattle.std.specs.Prelude.{◌≡◌, ◌||◌, is_err, OnErr, OnOk};
 ghost use Rattle.std.specs.List.{flat_map};
 ghost use Rattle.std.specs.Io.KnownBytes.{Appends};
 ghost use Rattle.desk_report.specs.Bytes.{AppendsFront, Puts};
-ghost use Rattle.solver_check.specs.FindingTexts.{cell_line, cells_line, difference_line, lacking_line, listed_line, wrong_line};
+ghost use Rattle.solver_check.specs.FindingTexts.{cell_line, cells_line, counted_line, difference_line, listed_line, wrong_line};
 
 use crate::checks::differences::Difference;
 use crate::checks::wrongs::Wrong;
@@ -54,6 +54,7 @@ fn put_wrong<W: Sink>(sink: &mut W, wrong: Wrong) -> Result<(), WriteFailed>
     ensures { Puts W.held W.broken sink.old sink.new result (wrong_line wrong) }
 {
     match wrong {
+        Wrong::TooLong { agent, time, cell } => put_cell(sink, agent, time, b"too-long", cell),
         Wrong::OutOfMap { agent, time, cell } => put_cell(sink, agent, time, b"out-of-map", cell),
         Wrong::NotFromStart { agent, start, cell } => {
             put_cells(sink, agent, 0, b"not-from-start", (start, cell))
@@ -101,14 +102,19 @@ fn put_listed<W: Sink>(
     put_line(sink, b"differs", &words)
 }
 
-// The line of how many paths there are, and agents.
-fn put_lacking<W: Sink>(sink: &mut W, paths: usize, agents: usize) -> Result<(), WriteFailed>
-    ensures { Puts W.held W.broken sink.old sink.new result (lacking_line paths agents) }
+// The line of how many of something there are, and should be.
+fn put_counted<W: Sink>(
+    sink: &mut W,
+    what: &[u8],
+    found: usize,
+    due: usize,
+) -> Result<(), WriteFailed>
+    ensures { Puts W.held W.broken sink.old sink.new result (counted_line what.now found due) }
 {
     let words = [
-        Word::Text(b"paths"),
-        Word::Number(paths as u64),
-        Word::Number(agents as u64),
+        Word::Text(what),
+        Word::Number(found as u64),
+        Word::Number(due as u64),
     ];
     put_line(sink, b"differs", &words)
 }
@@ -118,7 +124,12 @@ fn put_difference<W: Sink>(sink: &mut W, difference: Difference) -> Result<(), W
     ensures { Puts W.held W.broken sink.old sink.new result (difference_line difference) }
 {
     match difference {
-        Difference::Paths { paths, agents } => put_lacking(sink, paths, agents),
+        Difference::Paths { paths, agents } => put_counted(sink, b"paths", paths, agents),
+        Difference::Agents { listed, agents } => {
+            put_counted(sink, b"agents", listed as usize, agents)
+        }
+        Difference::Starts { listed, paths } => put_counted(sink, b"starts", listed, paths),
+        Difference::Goals { listed, paths } => put_counted(sink, b"goals", listed, paths),
         Difference::Start { agent, listed, due } => {
             put_listed(sink, b"starts", agent, (listed, due))
         }

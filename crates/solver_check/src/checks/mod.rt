@@ -1,4 +1,5 @@
 //! A verdict on the paths that a solver wrote, over texts.
+mod counts;
 mod differences;
 mod edits;
 mod faults;

@@ -8,12 +8,19 @@ use crate::checks::edits::{agent_of, goal_in, start_in};
 use crate::checks::times::is_off;
 use grid_cells::{Agent, Cell, OutOfMemory, Size};
 use path_files::SolverPaths;
+use plan_table::MOST_LAST_INDEX;
 use scene_edits::Scene;
 use std::alloc::Global;
 
 /// An agent whose path isn't one, by the first cell at fault and its time in steps.
 #[derive(Clone, Copy)]
 pub(crate) enum Wrong {
+    /// The cell stands behind the last one that a path may have.
+    TooLong {
+        agent: Agent,
+        time: usize,
+        cell: Cell,
+    },
     /// The cell isn't on the map.
     OutOfMap {
         agent: Agent,
@@ -53,7 +60,9 @@ fn is_step(before: Cell, cell: Cell) -> bool
 fn wrong_at(size: Size, agent: Agent, time: usize, before: Cell, cell: Cell) -> Option<Wrong>
     ensures { result ≡ wrong_at size agent time before cell }
 {
-    if is_off(size, cell) {
+    if time > MOST_LAST_INDEX as usize {
+        Some(Wrong::TooLong { agent, time, cell })
+    } else if is_off(size, cell) {
         Some(Wrong::OutOfMap { agent, time, cell })
     } else if time == 0 {
         if is_same(before, cell) {

@@ -4,10 +4,15 @@ use Rattle.solver_check.specs.FindingTexts.{wrong_line}
 use Rattle.solver_check.specs.declared.checks.wrongs.Wrong.{Wrong}
 use Rattle.solver_check.proofs.checks.findings.put_wrong.Goals as goal
 
+pub returns-in-TooLong : goal.returns-in-TooLong
+unfolding wrong_line
+returns-in-TooLong g c =
+    subst (λ (w : Wrong). Puts g.W.Sink.held g.W.Sink.broken c.args.sink.now c.put_cell.new.sink c.put_cell.result (wrong_line w)) (sym c.in-TooLong.is) c.put_cell.ensures
+
 pub returns-in-OutOfMap : goal.returns-in-OutOfMap
 unfolding wrong_line
 returns-in-OutOfMap g c =
-    subst (λ (w : Wrong). Puts g.W.Sink.held g.W.Sink.broken c.args.sink.now c.put_cell.new.sink c.put_cell.result (wrong_line w)) (sym c.in-OutOfMap.is) c.put_cell.ensures
+    subst (λ (w : Wrong). Puts g.W.Sink.held g.W.Sink.broken c.args.sink.now c.put_cell-in-OutOfMap.new.sink c.put_cell-in-OutOfMap.result (wrong_line w)) (sym c.in-OutOfMap.is) c.put_cell-in-OutOfMap.ensures
 
 pub returns-in-NotFromStart : goal.returns-in-NotFromStart
 unfolding wrong_line
