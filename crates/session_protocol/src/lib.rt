@@ -1,6 +1,7 @@
 //! Sessions of planners over bytes: lines in, answers out.
 //!
-//! `serving` is the loop over bytes, `hearing` hears the text of a map before it. `answers` finds the
+//! `serving` is the loop over bytes, `dialogues` a session that is called line by line, `hearing` hears
+//! the text of a map before it. `answers` finds the
 //! reply to a request by way of a `Counter`, and where the session then is (`drafts`); `gathering`
 //! keeps edits and watches, and makes commits of them; `keeping` is what keeps what a line did before
 //! it is answered. `trials` asks what a commit would change: what
@@ -11,6 +12,7 @@
 mod answers;
 mod bounds;
 mod changing;
+mod dialogues;
 mod differing;
 mod drafts;
 mod gathering;
@@ -28,6 +30,7 @@ mod waiting;
 mod writers;
 
 pub use bounds::{Bounds, ServeFault, StartFault};
+pub use dialogues::Dialogue;
 pub use hearing::hear_map;
 pub use keeping::{KeepFailed, Keeper};
 pub use refusals::{fault_word, put_refusal};

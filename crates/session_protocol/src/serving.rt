@@ -16,8 +16,8 @@ use session_lines::LinesVersion;
 use std::alloc::Global;
 use std::mem;
 
-// Answers the line, keeps what it did, and puts the reply.
-fn answer_line<C: Counter, P: Waiting<C>, K: Keeper<C>, W: Sink>(
+/// Answers the line, keeps what it did, and puts the reply.
+pub(crate) fn answer_line<C: Counter, P: Waiting<C>, K: Keeper<C>, W: Sink>(
     alloc: Global,
     version: LinesVersion,
     waiting: &P,
