@@ -70,7 +70,7 @@ LENIENT = [
     b"goals=(7,2047)\n=\nstarts=(0,2047),\nsolution=\n0:(0,2047)\n1:(7,2047)\n",
     b"starts=(0,2047),\nstart=(1,1\n=starts=\nsolution=\n0:(0,2047)\n1:(7,2047)\n",
     b"Goals=\ngoals=(7,2047)\nsolution=1\nsolution=\n0:(0,2047)\n1:(7,2047)\n",
-    b"agents=2\nsolved=0\nsolution=\n0:(0,2047)\n1:(7,2047)\n",
+    b"agents=\t01 \nsolved=0\nsolution=\n0:(0,2047)\n1:(7,2047)\n",
 ]
 
 def words_of(name, form):

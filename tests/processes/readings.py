@@ -17,7 +17,7 @@ from .running import PATIENCE, TOP, Program, Wrong, put, remove, want
 
 LACAM_LISTS = "time starts 0,0 2,1 goals 2,0 0,1 agents 2 path 0,0 1,0 2,0 2,0 path 2,1 2,1 1,1 0,1"
 # What each text of LENIENT tells before its path.
-LENIENT_LISTS = ["", "", "", " starts 0,2047 goals 7,2047", " starts 0,2047", " goals 7,2047", ""]
+LENIENT_LISTS = ["", "", "", " starts 0,2047 goals 7,2047", " starts 0,2047", " goals 7,2047", " agents 1"]
 
 
 def are_read(rows):
