@@ -1,2 +1,3 @@
 pub mod Values
 pub mod Asked
+pub mod Grammar

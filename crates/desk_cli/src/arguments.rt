@@ -1,8 +1,10 @@
 //! The options and files of a word, as data, and as its parser takes them.
-ghost use Rattle.std.specs.Prelude.{◌≡◌, IfOk};
+ghost use Rattle.std.specs.Prelude.{◌≡◌, ◌≤◌, IfOk, false, pos};
+ghost use Rattle.clap.specs.Walk.{rule_of};
+ghost use Rattle.desk_cli.specs.Grammar.{flag_rule, listed_rule, option_rule, rule_for};
 
 use clap::builder::ValueParser;
-use clap::{Arg, ArgAction, value_parser};
+use clap::{Arg, ArgAction};
 use std::alloc::{AllocError, Global};
 
 /// What stands behind an option.
@@ -39,12 +41,15 @@ pub(crate) struct Argument {
 }
 
 // The numbers from one to the other.
-fn numbers<'a>(least: u32, greatest: u32) -> ValueParser<'a> {
-    value_parser!(u32).range(i64::from(least)..=i64::from(greatest))
+fn numbers<'a>(least: u32, greatest: u32) -> ValueParser<'a>
+    ensures { result ≡ ValueParser.Signed (pos least) (pos greatest) }
+{
+    ValueParser::signed(i64::from(least), i64::from(greatest))
 }
 
 fn flag<'a>(alloc: Global, argument: Argument) -> Arg<'a>
-    ensures { result.id.now ≡ argument.name.now }
+    ensures rule { rule_of result ≡ flag_rule argument }
+    ensures local { result.global ≡ false }
 {
     let flag = Arg::new(alloc, argument.name)
         .long(argument.name)
@@ -64,7 +69,9 @@ fn valued<'a>(
     parser: ValueParser<'a>,
     most: usize,
 ) -> Result<Arg<'a>, AllocError>
-    ensures { IfOk result (λ arg. arg.id.now ≡ argument.name.now) }
+    requires { 1 ≤ most }
+    ensures rule { IfOk result (λ arg. rule_of arg ≡ option_rule argument parser.entry most) }
+    ensures local { IfOk result (λ arg. arg.global ≡ false) }
 {
     Arg::new(alloc, argument.name)
         .long(argument.name)
@@ -79,7 +86,8 @@ fn valued<'a>(
 
 // One text or more, which no option names.
 fn listed<'a>(alloc: Global, argument: Argument, name: &'static str) -> Arg<'a>
-    ensures { result.id.now ≡ argument.name.now }
+    ensures rule { rule_of result ≡ listed_rule argument }
+    ensures local { result.global ≡ false }
 {
     Arg::new(alloc, argument.name)
         .help(argument.help)
@@ -90,7 +98,8 @@ fn listed<'a>(alloc: Global, argument: Argument, name: &'static str) -> Arg<'a>
 
 /// An argument as the parser takes it.
 pub(crate) fn parsed<'a>(alloc: Global, argument: Argument) -> Result<Arg<'a>, AllocError>
-    ensures { IfOk result (λ arg. arg.id.now ≡ argument.name.now) }
+    ensures rule { IfOk result (λ arg. rule_of arg ≡ rule_for argument) }
+    ensures local { IfOk result (λ arg. arg.global ≡ false) }
 {
     match argument.value {
         Value::Nothing => Ok(flag(alloc, argument)),

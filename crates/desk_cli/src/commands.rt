@@ -1,4 +1,9 @@
 //! The program's words, as data, and as their parser takes them.
+ghost use Rattle.std.specs.Prelude.{◌≡◌, IfOk, false};
+ghost use Rattle.clap.specs.Simple.{app_of};
+ghost use Rattle.clap.specs.declared.builder.command.Command.TheViews.{out-Command as fields_of};
+ghost use Rattle.desk_cli.specs.Grammar.{app_for};
+
 use crate::arguments::{Argument, parsed};
 use crate::helping::{
     ABOUT, AUDIT_HELP, CHECK_HELP, DRAW_HELP, DRILL_HELP, HOST_HELP, PAGE_HELP, PROGRAM_HELP,
@@ -158,7 +163,10 @@ pub(crate) fn arguments_of(name: &str) -> &'static [Argument] {
 }
 
 // The command of a word.
-fn command_of<'a>(alloc: Global, word: &Word) -> Result<Command<'a>, AllocError> {
+fn command_of<'a>(alloc: Global, word: &Word) -> Result<Command<'a>, AllocError>
+    ensures app { IfOk result (λ command. app_of command ≡ app_for word.now) }
+    ensures local { IfOk result (λ command. (fields_of command).has_globals ≡ false) }
+{
     let mut arguments = Vec::new(alloc);
     for argument in word.arguments {
         arguments.push(parsed(alloc, *argument)?)?;
