@@ -1,0 +1,96 @@
+/* A plan desk for multi-agent path finding inside another program. docs/LIBRARY.md has an example; docs/PROTOCOL.md has the lines of a
+   session, docs/FILES.md the texts.
+
+   A program sets a desk to {0} before the first call, doesn't copy it, and gives it to one call at a time, always in one thread; several desks
+   may be used side by side. A text is bytes and a length, and needs no zero at its end. These are tested: a desk that is null or closed, for
+   which each call answers false and does nothing, and texts without bytes, which are taken as empty, or where the header says so as not given.
+   A library call opens no file, prints nothing, starts no thread and takes no lock. */
+#ifndef MAPF_DESK_H
+#define MAPF_DESK_H
+
+#include <stdbool.h>
+#include <stddef.h>
+#include <stdint.h>
+#include <string.h>
+
+#ifdef __cplusplus
+extern "C" {
+#endif
+
+/* Null at a desk that is closed. */
+typedef struct {
+    void *at;
+} desk;
+
+typedef struct {
+    const void *bytes;
+    size_t length;
+} desk_text;
+
+/* Whether agents stay at their goals, or leave a step later. */
+typedef enum { DESK_STAY, DESK_DISAPPEAR } desk_mode;
+
+/* What the library exports. The calls below test what can be null first. */
+bool mapf_desk_open(desk *it, const uint8_t *map, size_t map_length, const uint8_t *scen, size_t scen_length, bool has_scen, uint32_t agents,
+                    bool disappears, uint32_t limit, const uint8_t *journal, size_t journal_length, bool has_journal);
+bool mapf_desk_line(desk *it, const uint8_t *line, size_t length);
+bool mapf_desk_journal(desk *it);
+bool mapf_desk_answer(desk *it, uint8_t *room, size_t most, size_t *length);
+bool mapf_desk_close(desk *it);
+
+#ifdef __cplusplus
+}
+#endif
+
+/* A text of a string that ends with a zero, and one that isn't given. */
+static inline desk_text desk_string(const char *it) {
+    desk_text text = {it, it ? strlen(it) : 0};
+    return text;
+}
+
+static inline desk_text desk_nothing(void) {
+    desk_text text = {0, 0};
+    return text;
+}
+
+static inline const uint8_t *desk_bytes(desk_text text) {
+    return (const uint8_t *)(text.bytes ? text.bytes : "");
+}
+
+static inline size_t desk_length(desk_text text) {
+    return text.bytes ? text.length : 0;
+}
+
+/* Opens a desk of a map's text, with agents 0 to `agents` - 1 of the first tasks of a scenario, and commits the entries of a journal; a scenario and
+   a journal without bytes are not given. `limit` is the most entries of its journal, 1 to 1,000,000. What was open is closed first. Where
+   it answers false the fault's text is the answer, as `map: not octile`, `limit` or `out of memory`; or there was no memory even for that, and the
+   desk is closed. */
+static inline bool desk_open(desk *it, desk_text map, desk_text scen, uint32_t agents, desk_mode mode, uint32_t limit, desk_text journal) {
+    return it && mapf_desk_open(it, desk_bytes(map), desk_length(map), desk_bytes(scen), desk_length(scen), scen.bytes, agents,
+                                mode == DESK_DISAPPEAR, limit, desk_bytes(journal), desk_length(journal), journal.bytes);
+}
+
+/* The session's next line, of version 2, without its line feed; what lines gather is kept from call to call. False where no desk is open, or where
+   memory ran out for the answer, of which there is a part then; the line had its effect. */
+static inline bool desk_line(desk *it, desk_text line) {
+    return it && mapf_desk_line(it, desk_bytes(line), desk_length(line));
+}
+
+/* Makes the text of the desk's journal the answer, for a file or for desk_open. False as of desk_line. */
+static inline bool desk_journal(desk *it) {
+    return it && mapf_desk_journal(it);
+}
+
+/* Copies the last answer to `room`, as much of it as `most` bytes hold, and gives the length of the whole; `room` may be null where `most` is
+   0. False where the desk is closed, or a pointer null that may not be. */
+static inline bool desk_answer(desk *it, void *room, size_t most, size_t *length) {
+    uint8_t none;
+    return it && length && (room || !most) && mapf_desk_answer(it, room ? (uint8_t *)room : &none, most, length);
+}
+
+/* Gives back all memory. False where the desk is closed already. */
+static inline bool desk_close(desk *it) {
+    return it && mapf_desk_close(it);
+}
+
+#endif
