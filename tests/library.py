@@ -104,6 +104,39 @@ def a_journal_comes_back():
             want("the report after the journal", desk.ask("report"), report)
 
 
+def changed(chance, text):
+    """The text, with up to three bytes put in, changed or taken away."""
+    bytes_ = bytearray(text)
+    for _ in range(chance.randrange(4)):
+        at = chance.randrange(len(bytes_))
+        bytes_[at : at + chance.randrange(2)] = bytes(chance.choice(b"0129. \t\n@x") for _ in range(chance.randrange(2)))
+    return bytes(bytes_)
+
+
+def opens_as_the_program():
+    """Of texts that are right or nearly so a desk is opened as by the program, or refused by the same fault."""
+    import mapf_desk
+
+    scen = b"version 1\n0\tm\t5\t4\t0\t0\t4\t0\t4\n0\tm\t5\t4\t0\t1\t4\t1\t4\n"
+    journal = b"journal 2\nmode stay\nentry 0 0 0 1\npath 0 0,0 1,0\nend 1\n"
+    for seed in range(SESSIONS):
+        chance = random.Random(seed)
+        names = [it for it in ("scen", "journal") if chance.randrange(3)]
+        texts = {it: changed(chance, text) for it, text in (("map", MAP.encode()), ("scen", scen), ("journal", journal)) if it in (*names, "map")}
+        agents, mode = (chance.randrange(4) if "scen" in names else 0), chance.choice(("stay", "stay", "disappear"))
+        words = ["--mode", mode, *(["--agents", str(agents)] if "scen" in names else [])]
+        for it, text in texts.items():
+            Path(f"{it}.text").write_bytes(text)
+            words += [f"--{it}", f"{it}.text"]
+        status, answers, complaint = run(["serve", "--lines", "2", *words], b"report\n")
+        try:
+            with mapf_desk.Desk(agents=agents, mode=mode, **texts) as desk:
+                found = (0, desk.ask("report").decode(), "")
+        except mapf_desk.Fault as fault:
+            found = (2, "", f"mapf_desk: {fault}\n")
+        want(f"what comes of {texts}", found, (status, answers, complaint))
+
+
 def python_refuses_what_is_wrong():
     import mapf_desk
 
@@ -175,7 +208,7 @@ def a_wheel_is_installed():
     want("what it answers", said([sys.executable, "-I", "-c", f"import sys; sys.path.insert(0, 'there'); {code}"]).split()[1:], [b"version", b"0"])
 
 
-TESTS = (c_answers_as_the_program, python_answers_as_the_program, a_journal_comes_back, python_refuses_what_is_wrong, a_report_is_read, wrong_calls_of_c, desks_of_cpp, a_wheel_is_installed)
+TESTS = (c_answers_as_the_program, python_answers_as_the_program, a_journal_comes_back, opens_as_the_program, python_refuses_what_is_wrong, a_report_is_read, wrong_calls_of_c, desks_of_cpp, a_wheel_is_installed)
 
 
 def passes(test):
