@@ -1,7 +1,7 @@
 #!/usr/bin/env python3
 """Tries the desk inside other programs, in C, C++ and Python: tools/library builds it of the crate desk_c.
 
-library.py [PROGRAM]     what `rt ci` or `./desk --prove` built where none is named; its sessions have to be those of the library
+library.py [ROOM [PROGRAM]]     what tools/library takes, and the program whose sessions have to be those of the library
 It takes Debian's packages gcc and g++; where they aren't there its tests count as failed. The last line is 'N passed, M failed'; status 1
 where one failed.
 """
@@ -221,10 +221,11 @@ def passes(test):
 
 
 def main():
-    Program.path = os.path.abspath(sys.argv[1] if len(sys.argv) > 1 else Program.path)
+    room, program = sys.argv[1:2], sys.argv[2:3]
+    Program.path = os.path.abspath(program[0] if program else Program.path)
     missing = [it for it in ("gcc", "g++", "ar") if not shutil.which(it)]
     why = f"there is no {' and no '.join(missing)}" if missing else None
-    if not missing and subprocess.run([f"{TOP}/tools/library"]).returncode:
+    if not missing and subprocess.run([f"{TOP}/tools/library", *room]).returncode:
         why = "tools/library built none"
     if why:
         print(f"no test of the library: {why}\n0 passed, {len(TESTS)} failed")
