@@ -1,5 +1,5 @@
 -- What a log reads as (this project's choice).
-use Rattle.std.specs.Prelude.{◌≡◌, ◌≤◌, ℕ, ◌+◌, true, List, ◌++◌, length, codes, All}
+use Rattle.std.specs.Prelude.{◌≡◌, ◌<◌, ◌≤◌, ℕ, ◌+◌, true, List, ◌++◌, length, codes, All}
 use Rattle.plan_table.specs.declared.tracks.Mode.{Mode}
 use Rattle.desk_report.specs.LineText.{line_text}
 use Rattle.desk_commits.specs.Entries.{Entry}
@@ -15,6 +15,12 @@ use Rattle.desk_log.specs.declared.reading.LogRead.{LogRead}
 -- the first lines of a journal in that mode
 abbrev pub heading_text : Mode → List ℕ
 heading_text mode = line_text (version_words (codes "2")) ++ line_text (mode_words mode)
+
+-- the text is a front of that head, and not the whole of it
+pub record IsTornHead (text head : List ℕ) : Type 0 where
+  pub lost : List ℕ
+  pub shorter : length text < length head
+  pub is : head ≡ text ++ lost
 
 -- the entries whose commit lines stand in the text, and behind the last of them a piece of one more; what they make is that journal
 pub record IsRead (text : List ℕ) (log : LogRead) : Type 0 where

@@ -28,6 +28,13 @@ impl LogFile {
         }
     }
 
+    /// Whether it is synced.
+    pub fn is_synced(&self) -> bool
+        ensures { result ≡ self.now.is_synced }
+    {
+        self.is_synced
+    }
+
     /// Leaves so many bytes of the file.
     ///
     /// # Errors
