@@ -85,12 +85,15 @@ class Copy:
     @cached_property
     def witness(self):
         """A right twin of a function that isn't changed, of that with the least answers of its own; or that one, if it can have none.
-        Where each function is changed, it is a right twin of one of them."""
+        Where each function is changed, it is a right twin of one of them. (A proof by hand is of no other function's body.)"""
         changed = {path for it in self.edits for path in it.paths}
-        unchanged = [it for it in self.functions if it.path not in changed]
+        unchanged = [it for it in self.functions if it.path not in changed and not self.is_by_hand(it)]
         sizes = [(self.answers(it), it.path, it) for it in unchanged or self.functions]
         least = min([it for it in sizes if it[0]] or sizes)[2]
         return twin_of(self.folder, least, "right", self.right[least.file]) or least
+
+    def is_by_hand(self, function):
+        return (self.folder / "proofs" / "/".join(function.path) / "Proof.antt").exists()
 
     def answers(self, function):
         file = self.folder / "proofs" / "/".join(function.path) / "Answers.antt"
