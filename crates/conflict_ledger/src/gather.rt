@@ -3,7 +3,8 @@ ghost use Rattle.plan_table.specs.Route.{Fleet, last_of};
 ghost use Rattle.where_index.specs.Spots.{AreRising};
 ghost use Rattle.mapf_rules.specs.declared.entries.Conflict.{Conflict};
 ghost use Rattle.conflict_ledger.specs.declared.places.Place.{Place};
-ghost use Rattle.conflict_ledger.specs.Gathering.{AreOwn, Gathers, GathersAbout, GathersUpTo, HasAhead, HasHere, HasRising, HasStop, HasUpTo, IsStepOf, WhereAllShown, WhereStops};
+ghost use Rattle.conflict_ledger.specs.Gathering.{AreOwn, Gathers, GathersAbout, GathersUpTo, HasAhead, HasHere};
+ghost use Rattle.conflict_ledger.specs.Gathering.{HasRising, HasStop, HasUpTo, IsStepOf, WhereAllShown, WhereStops};
 ghost use Rattle.conflict_ledger.specs.Sight.{InView};
 
 use crate::offers::{offer_ahead, offer_here};

@@ -111,8 +111,10 @@ pub(crate) fn offer_here(
 ) -> Result<(), OutOfMemory>
     requires { (stop.now.past ≤ stop.now.time) × (stop.now.time < u32.MAX) }
     ensures gathers { OnOk result (WhereShown sight.now stop.now lasting spot.now (GathersAbout sight.now stop.now entries.old.items entries.new.items)) }
-    ensures beside { OnOk result (WhereShown sight.now stop.now lasting spot.now (HasSeenIn sight.now.agent stop.now lasting spot.now Beside entries.new.items)) }
-    ensures behind { OnOk result (WhereShown sight.now stop.now lasting spot.now (HasSeenIn sight.now.agent stop.now lasting spot.now Behind entries.new.items)) }
+    ensures beside { OnOk result (WhereShown sight.now stop.now lasting spot.now
+        (HasSeenIn sight.now.agent stop.now lasting spot.now Beside entries.new.items)) }
+    ensures behind { OnOk result (WhereShown sight.now stop.now lasting spot.now
+        (HasSeenIn sight.now.agent stop.now lasting spot.now Behind entries.new.items)) }
 {
     if !stop.goes {
         return Ok(());

@@ -57,7 +57,8 @@ pub(crate) fn meeting_of(
     ensures stands { IfPasses sight.now passing time first second (λ fleet. AreTogether fleet time first second cell → IfSome result (Stands fleet)) }
     ensures pair { IfSome result (λ entry. IsOfPair entry time first second) }
     ensures vertex { (fleet : Fleet) → Sees sight.now fleet → IsVertex fleet time first second cell → result ≡ Some (Conflict.Vertex time first second cell) }
-    ensures parked { IfPasses sight.now passing time first second (λ fleet. IsParked fleet time first second cell → result ≡ Some (Parked time first second cell)) }
+    ensures parked { IfPasses sight.now passing time first second (λ fleet.
+        IsParked fleet time first second cell → result ≡ Some (Parked time first second cell)) }
 {
     if passing || sight.passes(time, first, second) {
         return Some(Conflict::Vertex {

@@ -126,7 +126,8 @@ impl Sight<'_> {
 
     // Whether one of the two agents still moves at the time, or is to leave.
     pub(crate) fn passes(&self, time: u32, first: Agent, second: Agent) -> bool
-        ensures { (fleet : Fleet) → Sees self.now fleet → IsTrue result ↔ ((time < both_end_by fleet first second) ⊎ (Leaves fleet first ⊎ Leaves fleet second)) }
+        ensures { (fleet : Fleet) → Sees self.now fleet
+            → IsTrue result ↔ ((time < both_end_by fleet first second) ⊎ (Leaves fleet first ⊎ Leaves fleet second)) }
     {
         time < self.both_end(first, second) || self.leaves(first) || self.leaves(second)
     }

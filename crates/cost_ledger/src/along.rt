@@ -70,7 +70,8 @@ pub(crate) fn add_through(
     plan: &Plan,
     cell: Cell,
 ) -> Result<(), OutOfMemory>
-    ensures { OnOk result (GainsEach found.old.items found.new.items (λ visit. (visit.cell ≡ cell) × IsThrough agent plan.now 0 (last_index plan.now + 1) visit)) }
+    ensures { OnOk result
+        (GainsEach found.old.items found.new.items (λ visit. (visit.cell ≡ cell) × IsThrough agent plan.now 0 (last_index plan.now + 1) visit)) }
 {
     for time in 0..plan.last() + 1 {
         add_if_there(found, agent, plan, cell, time)?;

@@ -97,7 +97,8 @@ fn put_each_mark<W: Sink>(
     scene: &Scene,
     entries: &[Conflict],
 ) -> Written
-    ensures ok { OnOk result (Appends (W.held sink.old) (W.held sink.new) (marks_behind frame.now.at (tracks_of scene.now.mode scene.now.rows) None entries.now)) }
+    ensures ok { OnOk result (Appends (W.held sink.old) (W.held sink.new)
+        (marks_behind frame.now.at (tracks_of scene.now.mode scene.now.rows) None entries.now)) }
     ensures broken { W.broken sink.new ≡ (W.broken sink.old || is_err result) }
 {
     let mut before = None;

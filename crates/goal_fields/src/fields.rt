@@ -186,7 +186,7 @@ fn repair_each(fields: &mut [Distances], room: &mut Lifelong, changed: &[Cell]) 
     requires few { length fields.old ≤ 4194304 }
     requires room { IsRoomOn room.old.grid room.old }
     requires at_rest { (old : Chart) × (old.size ≡ room.old.grid.size) × Covers changed.now old room.old.grid × All (AreAtRest old) fields.old }
-    ensures each { (old : Chart) → old.size ≡ room.old.grid.size → All (AreAtRest old) fields.old → AllZip (AreRepaired old room.old.grid) fields.old fields.new }
+    ensures each { (on : Chart) → on.size ≡ room.old.grid.size → All (AreAtRest on) fields.old → AllZip (AreRepaired on room.old.grid) fields.old fields.new }
     ensures at_rest { All (AreAtRest room.old.grid) fields.new }
     ensures sum { result ≡ sum_by (λ field. field.taken) fields.new }
     ensures told { HaveCounted result room.old.queue.total room.new.queue.total }

@@ -3,7 +3,8 @@ ghost use Rattle.grid_cells.specs.Cell.{Point, IsAdjacent};
 ghost use Rattle.grid_cells.specs.Size.{Holds};
 ghost use Rattle.grid_cells.specs.Walks.{IsDistance};
 ghost use Rattle.goal_fields.specs.Marks.{mark_at};
-ghost use Rattle.goal_fields.specs.AStar.{HasWalk, IsStamped, IsAtEase, IsSeeking, IsSeekingFrom, GathersCells, KeepsLevel, IsMetFrom, most_work, waiting, work_left};
+ghost use Rattle.goal_fields.specs.AStar.{HasWalk, IsStamped, IsAtEase, IsSeeking, IsSeekingFrom, GathersCells};
+ghost use Rattle.goal_fields.specs.AStar.{KeepsLevel, IsMetFrom, most_work, waiting, work_left};
 ghost use Rattle.goal_fields.specs.declared.frontier.Ends.{Ends};
 
 use crate::places::{around, place_of, steps_between, wipe};

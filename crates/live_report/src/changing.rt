@@ -25,8 +25,10 @@ impl Books {
     pub(crate) fn change(self, former: &Former<'_>, scene: &Scene) -> Result<Books, OutOfMemory>
         requires know { Know scene.now.mode scene.now.grid former.now.agent (former_row former.now) self }
         requires alike { AreAlike (former_past former.now) (row_of scene.now.rows former.now.agent) }
-        ensures kept { IfOk result (Renews scene.now.mode scene.now.grid former.now.agent (former_row former.now) (row_of scene.now.rows former.now.agent) self) }
-        ensures touched { IfOk result (λ books. books.fleet.index.touched ≡ min (self.fleet.index.touched + former_apart scene.now.mode scene.now.rows former.now) u64.MAX) }
+        ensures kept { IfOk result (Renews scene.now.mode scene.now.grid former.now.agent
+            (former_row former.now) (row_of scene.now.rows former.now.agent) self) }
+        ensures touched { IfOk result (λ books. books.fleet.index.touched
+            ≡ min (self.fleet.index.touched + former_apart scene.now.mode scene.now.rows former.now) u64.MAX) }
     {
         let agent = former.agent;
         let _touched = self.fleet.touched();
@@ -43,7 +45,8 @@ impl Books {
         requires know { Know scene.now.mode scene.now.grid agent None self }
         requires inside { Holds scene.now.grid.size row.now.goal }
         ensures kept { IfOk result (Renews scene.now.mode scene.now.grid agent None (Some row.now) self) }
-        ensures touched { IfOk result (λ books. books.fleet.index.touched ≡ min (self.fleet.index.touched + records_apart nothing (route_in scene.now.mode row.now)) u64.MAX) }
+        ensures touched { IfOk result (λ books. books.fleet.index.touched
+            ≡ min (self.fleet.index.touched + records_apart nothing (route_in scene.now.mode row.now)) u64.MAX) }
     {
         let (alloc, fleet, prices, lines) = self.into_parts();
         let Ok(fleet) = fleet.admit(agent, row.track(scene.mode())) else {
@@ -74,7 +77,8 @@ impl Books {
         scene: &Scene,
     ) -> Result<Books, OutOfMemory>
         ensures kept { IfOk result (Renews scene.now.mode scene.now.grid agent (Some (record { goal = goal; plan = plan.now })) None self) }
-        ensures touched { IfOk result (λ books. books.fleet.index.touched ≡ min (self.fleet.index.touched + records_apart (route_in scene.now.mode (record { goal = goal; plan = plan.now })) nothing) u64.MAX) }
+        ensures touched { IfOk result (λ books. books.fleet.index.touched
+            ≡ min (self.fleet.index.touched + records_apart (route_in scene.now.mode (record { goal = goal; plan = plan.now })) nothing) u64.MAX) }
     {
         let (alloc, fleet, mut prices, lines) = self.into_parts();
         let Ok(fleet) = fleet.retract(agent, track_of(goal, plan, scene.mode())) else {
@@ -104,7 +108,8 @@ impl Books {
         requires alike { SamePlaces old.now.plan.now row.now.plan old.now.alike }
         requires inside { Holds scene.now.grid.size row.now.goal }
         ensures kept { IfOk result (Renews scene.now.mode scene.now.grid agent (Some (as_row old.now)) (Some row.now) self) }
-        ensures touched { IfOk result (λ books. books.fleet.index.touched ≡ min (self.fleet.index.touched + records_apart (route_in scene.now.mode (as_row old.now)) (route_in scene.now.mode row.now)) u64.MAX) }
+        ensures touched { IfOk result (λ books. books.fleet.index.touched
+            ≡ min (self.fleet.index.touched + records_apart (route_in scene.now.mode (as_row old.now)) (route_in scene.now.mode row.now)) u64.MAX) }
     {
         let mode = scene.mode();
         let was = track_of(old.goal, old.plan, mode);

@@ -1,4 +1,5 @@
-ghost use Rattle.mapf_rules.specs.Laws.{EntriesCompareAsListed, KindsAreToldApart, OneConflictList, MeetingsAreTold, SwapIsTwoFollowings, NamedAgentsAreThere, SettlesAtLast, OneVisitList, OneSumAndMakespan};
+ghost use Rattle.mapf_rules.specs.Laws.{EntriesCompareAsListed, KindsAreToldApart, OneConflictList, MeetingsAreTold, SwapIsTwoFollowings};
+ghost use Rattle.mapf_rules.specs.Laws.{NamedAgentsAreThere, SettlesAtLast, OneVisitList, OneSumAndMakespan};
 
 /// A law: entries compare by the order of their declaration as they are listed.
 pub fn entries_compare_as_listed()

@@ -1,5 +1,6 @@
 ghost use Rattle.std.specs.Prelude.{◌≡◌};
-ghost use Rattle.scene_edits.specs.Laws.{OnePath, OneFaultOrNone, OneChange, EditsKeepScenes, AllEditsKeepScenes, EditsKeepSize, ChangesGoBack, OneAnswer, OneAnswerToAll};
+ghost use Rattle.scene_edits.specs.Laws.{OnePath, OneFaultOrNone, OneChange, EditsKeepScenes, AllEditsKeepScenes};
+ghost use Rattle.scene_edits.specs.Laws.{EditsKeepSize, ChangesGoBack, OneAnswer, OneAnswerToAll};
 
 use crate::scenes::MOST_AGENTS;
 

@@ -28,7 +28,8 @@ pub trait Keeper<C: Counter> {
     /// It could not be kept, or not all of it.
     fn keep(&mut self, counter: &C) -> Result<(), KeepFailed>
         ensures kept { (before : C) → keeps self.old before → HasAnswered C.counting before counter.now → OnOk result (keeps self.new counter.now) }
-        ensures left { (before : C) → keeps self.old before → HasAnswered C.counting before counter.now → OnErr result (keeps_some self.new before counter.now) }
+        ensures left { (before : C) → keeps self.old before → HasAnswered C.counting before counter.now
+            → OnErr result (keeps_some self.new before counter.now) }
         ensures failed { has_failed self.new ≡ (has_failed self.old || is_err result) };
 }
 

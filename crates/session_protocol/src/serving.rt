@@ -34,7 +34,8 @@ pub(crate) fn answer_line<C: Counter, P: Waiting<C>, K: Keeper<C>, W: Sink>(
     ensures unwritten { IfErr result (λ fault. fault ≡ ServeFault.WriteFailed) }
     ensures broken { K.has_failed keeper.new ≡ false → W.broken writer.new ≡ (W.broken writer.old || is_write_failed result) }
     ensures kept { K.has_failed keeper.new ≡ false → K.keeps keeper.old counter.old → K.keeps keeper.new counter.new }
-    ensures silent { K.has_failed keeper.new ≡ true → (result ≡ Err ServeFault.WriteFailed) × (W.held writer.new ≡ W.held writer.old) × (W.broken writer.new ≡ W.broken writer.old) }
+    ensures silent { K.has_failed keeper.new ≡ true
+        → (result ≡ Err ServeFault.WriteFailed) × (W.held writer.new ≡ W.held writer.old) × (W.broken writer.new ≡ W.broken writer.old) }
     ensures left { K.has_failed keeper.new ≡ true → K.keeps keeper.old counter.old → K.keeps_some keeper.new counter.old counter.new }
 {
     let before = mem::replace(session, Session::Idle);

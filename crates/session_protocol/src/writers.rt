@@ -2,7 +2,8 @@
 ghost use Rattle.std.specs.Prelude.{◌≡◌, IsTrue, OnOk, OnErr, is_err, ◌||◌};
 ghost use Rattle.std.specs.Io.KnownBytes.{Appends};
 ghost use Rattle.desk_report.specs.Bytes.{AppendsFront, Puts};
-ghost use Rattle.session_protocol.specs.Replies.{bad_word, begins_as_listed, cell_word, is_acceptance, plan_line, standing_line, version_line, reported_text, reply_text, would_text};
+ghost use Rattle.session_protocol.specs.Replies.{bad_word, begins_as_listed, cell_word, is_acceptance, plan_line};
+ghost use Rattle.session_protocol.specs.Replies.{standing_line, version_line, reported_text, reply_text, would_text};
 
 use crate::listing::put_listing;
 use crate::refusals::{put_not_asked, put_refused};

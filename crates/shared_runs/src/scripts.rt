@@ -170,7 +170,8 @@ pub(crate) fn serve_scripts<R: Threads + Wait + Sync, H: Hearing + Sync, P: Serv
             requires first { MaySplit desk.now first 0 (length scripts.now) }
             ensures owned { Owns desk.entry.now result.0 }
             ensures gathered { HasGathered first.known result.0.known }
-            ensures served { OnOk result.1 (HasServed desk.entry.now first.known.start result.0.known 1 (inputs_of (P.version serving.entry.now) scripts.entry.now)) }
+            ensures served { OnOk result.1
+                (HasServed desk.entry.now first.known.start result.0.known 1 (inputs_of (P.version serving.entry.now) scripts.entry.now)) }
             ensures refused { IfErr result.1 (IsScriptsFault desk.entry.now first.known.start 1 (inputs_of (P.version serving.entry.now) scripts.entry.now)) }
         {
             let mut first = first;

@@ -18,7 +18,8 @@ impl CostLedger {
     /// Want of memory. The ledger is gone then.
     pub fn flip(self, cell: Cell, grid: &Grid) -> Result<CostLedger, OutOfMemory>
         ensures rows { IfOk result (λ ledger. ledger.rows ≡ self.rows) }
-        ensures stands { IfOk result (λ ledger. (old new : Chart) → StandsForMap self old → SameClosedBut old new cell → SameAt grid.now new cell → StandsForMap ledger new) }
+        ensures stands { IfOk result (λ ledger. (old new : Chart) → StandsForMap self old
+            → SameClosedBut old new cell → SameAt grid.now new cell → StandsForMap ledger new) }
     {
         let Ok(visits) = self.rows.through(self.alloc, cell) else {
             drop(self);

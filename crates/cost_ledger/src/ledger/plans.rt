@@ -64,7 +64,8 @@ impl CostLedger {
     ///
     /// Want of memory. The ledger is gone then.
     pub fn set_plan(self, agent: Agent, plan: &Plan, grid: &Grid) -> Result<Self, OutOfMemory>
-        ensures row { IfOk result (λ ledger. IfSome (row_of self.rows agent) (λ row. ChangesRow self.rows ledger.rows agent (Some (record row { plan = plan.now })))) }
+        ensures row { IfOk result (λ ledger.
+            IfSome (row_of self.rows agent) (λ row. ChangesRow self.rows ledger.rows agent (Some (record row { plan = plan.now })))) }
         ensures by_agent { IfOk result (λ ledger. IsByAgent ledger.rows) }
         ensures stands { IfOk result (λ ledger. StandsForMap self grid.now → StandsForMap ledger grid.now) }
         ensures none { IfNone (row_of self.rows agent) (IfOk result (λ ledger. ledger ≡ self)) }
@@ -86,7 +87,8 @@ impl CostLedger {
         grid: &Grid,
     ) -> Result<Self, OutOfMemory>
         requires { IfSome (row_of self.rows agent) (λ row. SamePlaces row.plan plan.now known) }
-        ensures row { IfOk result (λ ledger. IfSome (row_of self.rows agent) (λ row. ChangesRow self.rows ledger.rows agent (Some (record row { plan = plan.now })))) }
+        ensures row { IfOk result (λ ledger.
+            IfSome (row_of self.rows agent) (λ row. ChangesRow self.rows ledger.rows agent (Some (record row { plan = plan.now })))) }
         ensures by_agent { IfOk result (λ ledger. IsByAgent ledger.rows) }
         ensures stands { IfOk result (λ ledger. StandsForMap self grid.now → StandsForMap ledger grid.now) }
         ensures none { IfNone (row_of self.rows agent) (IfOk result (λ ledger. ledger ≡ self)) }

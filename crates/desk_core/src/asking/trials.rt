@@ -74,7 +74,8 @@ impl Desk {
     fn take_back(&mut self, scene: Scene, books: Option<Books>, stamps: Option<Stamps>)
         requires { (journal : List Entry) × (entry : Entry) × (self.old.journal ≡ journal ++ entry ∷ [])
             × IsKeptDesk scene journal self.old.limit stamps books }
-        ensures { (journal : List Entry) (entry : Entry) → self.old.journal ≡ journal ++ entry ∷ [] → self.new ≡ record { scene = scene; journal = journal; limit = self.old.limit } }
+        ensures { (journal : List Entry) (entry : Entry) → self.old.journal ≡ journal ++ entry ∷ []
+            → self.new ≡ record { scene = scene; journal = journal; limit = self.old.limit } }
     {
         drop(self.journal.pop());
         drop(replace(&mut self.scene, scene));
