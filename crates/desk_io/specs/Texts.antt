@@ -1,11 +1,14 @@
 -- Which file's bytes a text is (this project's choice).
-use Rattle.std.specs.Prelude.{◌≡◌, ◌⊎◌, ℕ, List, Any, Option, Some, None, Vec, option_map}
+use Rattle.std.specs.Prelude.{◌≡◌, ◌⊎◌, ℕ, List, Any, Option, Some, None, Vec, Bool, true, false, codes, nat_eq, option_map}
 use Rattle.std.specs.Borrow.{Bor}
-use Rattle.std.specs.List.{AllZip}
+use Rattle.std.specs.List.{AllZip, starts_with}
+use Rattle.desk_log.specs.Reading.{IsRead}
+use Rattle.desk_log.specs.declared.reading.LogRead.{LogRead}
 use Rattle.std.specs.Global.{Global}
 use Rattle.solver_check.specs.declared.faults.Fault.{Fault}
 use Rattle.solver_check.specs.declared.faults.Fault.TheVariants.{CannotRead, CannotWrite, InUse, Run}
-use Rattle.solver_check.specs.declared.faults.RunFault.TheVariants.{OutOfMemory}
+use Rattle.solver_check.specs.declared.faults.RunFault.TheVariants.{Journal, OutOfMemory}
+use Rattle.journal_text.specs.declared.faults.JournalFault.TheVariants.{BadLine}
 use Rattle.desk_io.specs.declared.named.Named.{Named}
 
 -- the bytes are those that are told of the file
@@ -43,6 +46,26 @@ IsUnread file other = ⊥
 -- why one of the files that are named isn't read
 abbrev pub IsUnreadOf : (map scen journal : Option (List ℕ)) → Fault → Type 0
 IsUnreadOf map scen journal fault = (file : List ℕ) × ((map ≡ Some file) ⊎ ((scen ≡ Some file) ⊎ (journal ≡ Some file))) × IsUnread file fault
+
+-- a log is damaged, or memory was wanting
+abbrev pub IsUnreadLog : Fault → Type 0
+IsUnreadLog fault = (fault ≡ Run OutOfMemory) ⊎ ((line : ℕ) × (fault ≡ Run (Journal (BadLine line))))
+
+-- a journal's file, where one is named, is a log that isn't read
+abbrev pub IsUnreadJournal : Option (List ℕ) → Fault → Type 0
+IsUnreadJournal journal fault = (file : List ℕ) × (journal ≡ Some file) × IsUnreadLog fault
+
+-- why one of the files that are named isn't read, of which the last has a journal
+abbrev pub IsUnreadWith : (map scen journal : Option (List ℕ)) → Fault → Type 0
+IsUnreadWith map scen journal fault = IsUnreadOf map scen journal fault ⊎ IsUnreadJournal journal fault
+
+-- a text that begins as a log reads as the journal that its entries make, and any other stays
+abbrev pub ReadsBy : (is_log : Bool) → (bytes text : List ℕ) → Type 0
+ReadsBy true bytes text = (log : LogRead) × IsRead bytes log × (text ≡ log.journal.items)
+ReadsBy false bytes text = text ≡ bytes
+
+abbrev pub ReadsAsJournal : (bytes text : List ℕ) → Type 0
+ReadsAsJournal bytes text = ReadsBy (starts_with nat_eq bytes (codes "log ")) bytes text
 
 -- why a file of that name isn't held: it is told, or memory was wanting
 abbrev pub IsUnheld : List ℕ → Fault → Type 0

@@ -1,8 +1,9 @@
 //! The bytes of files.
 ghost use Rattle.std.specs.Prelude.{◌≡◌, ◌⊎◌, ℕ, List, Option, Some, None, IfErr, IfOk, Any, option_map};
 ghost use Rattle.std.specs.Option.{option_copied};
-ghost use Rattle.desk_io.specs.Texts.{AreTold, IsTold, IsText, IsUnread};
+ghost use Rattle.desk_io.specs.Texts.{AreTold, IsTold, IsText, IsUnread, IsUnreadLog};
 
+use crate::logs::as_journal;
 use crate::telling::More;
 use solver_check::{Fault, MOST_BYTES, RunFault};
 use std::alloc::Global;
@@ -12,7 +13,7 @@ use std::rt::Files;
 
 /// What has files, by their names.
 pub trait Folder {
-    /// The bytes of the file of that name, where they are told.
+    /// The bytes of the file of that name, or the text that a journal in it reads as, where they are told.
     ghost holds: { Self → List ℕ → Option (List ℕ) };
 
     /// The bytes of a file; more is known of why it can't be read.
@@ -23,6 +24,16 @@ pub trait Folder {
     fn bytes(&self, file: &'static str, more: &mut More) -> Result<Vec<u8>, Fault>
         ensures read { IfOk result (λ bytes. IsTold (holds self.now file.now) bytes.items) }
         ensures unread { IfErr result (IsUnread file.now) };
+
+    /// The text of a journal: the bytes of its file, or where that is a log the journal that its entries
+    /// make. An entry of it that was not finished is noted.
+    ///
+    /// # Errors
+    ///
+    /// As `bytes`, or the log's first line that doesn't fit.
+    fn journal(&self, file: &'static str, more: &mut More) -> Result<Vec<u8>, Fault>
+        ensures read { IfOk result (λ text. IsTold (holds self.now file.now) text.items) }
+        ensures unread { IfErr result (λ fault. IsUnread file.now fault ⊎ IsUnreadLog fault) };
 }
 
 /// The system's files.
@@ -60,6 +71,13 @@ impl<R: Files + AllocGlobal> Folder for System<'_, R> {
                 Err(Fault::CannotRead { file })
             }
             Ok(_) => Ok(bytes),
+        }
+    }
+
+    fn journal(&self, file: &'static str, more: &mut More) -> Result<Vec<u8>, Fault> {
+        match self.bytes(file, more) {
+            Ok(bytes) => as_journal(self.0.alloc(), bytes, more),
+            Err(fault) => Err(fault),
         }
     }
 }

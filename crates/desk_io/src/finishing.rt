@@ -1,5 +1,5 @@
 //! The end of a run whose report is in a buffer.
-ghost use Rattle.std.specs.Prelude.{◌≡◌, IfErr, IfOk};
+ghost use Rattle.std.specs.Prelude.{◌≡◌, IfErr, IfOk, OnOk};
 
 use crate::details::{Detailed, Texts};
 use crate::noting::Noting;
@@ -23,6 +23,7 @@ pub fn finish<T: Drop, F: Detailed + From<RunFault> + Drop, O: Write + Drop>(
 ) -> Result<T, F>
     ensures ok { IfOk result (λ value. ended ≡ Ok value) }
     ensures err { IfErr ended (λ fault. result ≡ Err fault) }
+    ensures unsent { OnOk ended (IfErr result (F.from_gives RunFault.WriteFailed)) }
 {
     let (mut buffered, why) = writer.into_inner().into_parts();
     match ended {

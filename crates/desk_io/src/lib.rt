@@ -8,9 +8,9 @@
 //!
 //! `standard` fills descriptors that are closed, and `patience` and `steady` wait for streams that
 //! would block; `noting` keeps why a writer failed. `named` and `files` read what the words name,
-//! `looking` looks at what is to be written, and holds it. `details` is what more is known of a fault,
-//! with `faulty_paths` of a path that isn't taken; `telling`, `stages` and `tallies` are what is told
-//! of faults, stages and a drill.
+//! `logs` reads a log as a journal, `looking` looks at what is to be written, and holds it. `details` is
+//! what more is known of a fault, with `faulty_paths` of a path that isn't taken; `telling`, `stages` and
+//! `tallies` are what is told of faults, stages and a drill.
 #![tactic(auto)]
 
 mod details;
@@ -20,6 +20,7 @@ mod files;
 mod finishing;
 mod handing_on;
 mod letting_go;
+mod logs;
 mod looking;
 mod meeting;
 mod named;
@@ -44,8 +45,9 @@ mod whole_lines;
 pub use details::{Detailed, Texts, bytes_in, problem_of};
 pub use files::{Folder, System, all_bytes, named_bytes};
 pub use finishing::finish;
+pub use logs::{as_journal, tear_note};
 pub use looking::{HeldFile, hold_named};
-pub use named::{Named, read_from};
+pub use named::{Named, read_courses, read_from, read_with_paths};
 pub use noting::Noting;
 pub use patience::Patient;
 pub use prompting::Prompting;

@@ -9,21 +9,24 @@ use std::process::ExitCode;
 /// The status of a fault.
 pub const FAULT: u8 = 2;
 
-/// What more is known of a run: of its fault, where anything is, and of the scripts that it served.
+/// What more is known of a run: of its fault, where anything is, of the scripts that it served, and of a
+/// file that it read.
 #[derive(Drop)]
 pub struct More {
     text: Option<String>,
     served: Option<String>,
+    note: Option<String>,
 }
 
 impl More {
     /// No more is known.
     pub fn none() -> More
-        ensures { result ≡ record { text = None; served = None } }
+        ensures { result ≡ record { text = None; served = None; note = None } }
     {
         More {
             text: None,
             served: None,
+            note: None,
         }
     }
 
@@ -36,12 +39,20 @@ impl More {
 
     /// That is the reason; where there is no memory for its text, no more is known.
     pub fn reason<D: Display>(&mut self, alloc: Global, why: &D)
-        ensures { self.new.served ≡ self.old.served }
+        ensures served { self.new.served ≡ self.old.served }
+        ensures note { self.new.note ≡ self.old.note }
     {
         self.text = match format!(in alloc; "{why}") {
             Ok(text) => Some(text),
             Err(_) => None,
         };
+    }
+
+    /// That is noted of a file that was read, if anything.
+    pub fn note(&mut self, line: Option<String>)
+        ensures { self.new ≡ record self.old { note = line } }
+    {
+        self.note = line;
     }
 
     /// These lines are known of the scripts that were served, if any.
@@ -73,8 +84,11 @@ pub fn tell_more<R: Eprint, D: Display>(rt: &R, fault: &D, more: &More, verbose:
     ExitCode::from(FAULT)
 }
 
-/// Tells what is known of the scripts that were served.
+/// Tells what is known of the scripts that were served, and what is noted of a file.
 pub fn tell_served<R: Eprint>(rt: &R, more: &More) {
+    if let Some(line) = &more.note {
+        let _told = eprintln!(rt; "{line}");
+    }
     if let Some(lines) = &more.served {
         let _told = eprint!(rt; "{lines}");
     }

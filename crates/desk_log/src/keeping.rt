@@ -39,7 +39,8 @@ fn put_entries<L: Log>(
     ensures counted { (head : List ℕ) (before : List Entry) → Counts head (texts_of before) writer.old.count writer.old.check
         → OnOk result (Counts head (texts_of (before ++ entries.now)) writer.new.count writer.new.check) }
     ensures logged { (head : List ℕ) (before : List Entry) → Counts head (texts_of before) writer.old.count writer.old.check
-        → L.text writer.old.log ≡ Some (log_text head (texts_of before)) → OnOk result (L.text writer.new.log ≡ Some (log_text head (texts_of (before ++ entries.now)))) }
+        → L.text writer.old.log ≡ Some (log_text head (texts_of before))
+        → OnOk result (L.text writer.new.log ≡ Some (log_text head (texts_of (before ++ entries.now)))) }
     ensures left { (head : List ℕ) (before : List Entry) (left : List ℕ) → Counts head (texts_of before) writer.old.count writer.old.check
         → L.text writer.old.log ≡ Some (log_text head (texts_of before)) → L.kept writer.old.log ≡ L.text writer.old.log
         → MayLeave (L.kept writer.new.log) (L.text writer.new.log) left → LeavesEntries head left before (before ++ entries.now) }
@@ -74,6 +75,23 @@ impl<L: Log> LogKeeper<L> {
         self.has_failed
     }
 
+    /// The log, which is handed back.
+    pub fn into_log(self) -> L
+        ensures { result ≡ self.writer.log }
+    {
+        let LogKeeper {
+            alloc: _,
+            writer,
+            has_failed: _,
+        } = self;
+        let LogWriter {
+            log,
+            count: _,
+            check: _,
+        } = writer;
+        log
+    }
+
     /// The log.
     pub fn log(&self) -> &L
         ensures { result.now ≡ self.now.writer.log }
@@ -84,9 +102,12 @@ impl<L: Log> LogKeeper<L> {
     // Puts the entries that the log lacks, and makes a crash leave them.
     fn put_rest(&mut self, journal: &[Commit]) -> Result<(), LogFailed>
         ensures same { self.new.has_failed ≡ self.old.has_failed }
-        ensures kept { (before later : List Entry) → IsLogged (L.text self.old.writer.log) (L.kept self.old.writer.log) self.old.writer.count self.old.writer.check before
-            → journal.now ≡ before ++ later → OnOk result (IsLogged (L.text self.new.writer.log) (L.kept self.new.writer.log) self.new.writer.count self.new.writer.check journal.now) }
-        ensures left { (before later : List Entry) → IsLogged (L.text self.old.writer.log) (L.kept self.old.writer.log) self.old.writer.count self.old.writer.check before
+        ensures kept { (before later : List Entry)
+            → IsLogged (L.text self.old.writer.log) (L.kept self.old.writer.log) self.old.writer.count self.old.writer.check before
+            → journal.now ≡ before ++ later
+            → OnOk result (IsLogged (L.text self.new.writer.log) (L.kept self.new.writer.log) self.new.writer.count self.new.writer.check journal.now) }
+        ensures left { (before later : List Entry)
+            → IsLogged (L.text self.old.writer.log) (L.kept self.old.writer.log) self.old.writer.count self.old.writer.check before
             → journal.now ≡ before ++ later → OnErr result (IsLoggedInPart (L.text self.new.writer.log) (L.kept self.new.writer.log) before journal.now) }
     {
         let kept = self.writer.count as usize;

@@ -40,13 +40,13 @@ impl LogFile {
     /// # Errors
     ///
     /// The system's reason.
-    pub fn cut(&mut self, length: u64) -> Done<()> {
+    pub fn shorten(&mut self, length: u64) -> Done<()> {
         self.file.set_len(length)?;
         self.put_on_disk()
     }
 
     /// The system's reason for the last call that failed.
-    pub fn reason(&self) -> Option<Error>
+    pub fn why(&self) -> Option<Error>
         ensures { result ≡ self.now.why }
     {
         self.why

@@ -6,6 +6,7 @@ use Rattle.desk_cli.specs.declared.words.Words.TheVariants.{Version, Serve, Audi
 use Rattle.desk_io.specs.Texts.{untold}
 use Rattle.mapf_desk.specs.Ends.{HasNoFault, unsaid}
 use Rattle.mapf_desk.specs.Files.{OfFiles}
+use Rattle.mapf_desk.specs.Hosted.{HasHosted}
 use Rattle.mapf_desk.specs.Runs.{HasAudited, HasChecked, HasDrawn, HasPaged}
 use Rattle.mapf_desk.specs.Drilled.{HasDrilled, OfScripts}
 use Rattle.mapf_desk.specs.Statuses.{answered}
@@ -13,7 +14,7 @@ use Rattle.mapf_desk.specs.declared.statuses.RunEnd.{RunEnd}
 use Rattle.mapf_desk.specs.declared.statuses.RunEnd.TheVariants.{Yes}
 
 -- the run of the words was done over the texts of their files, each in its place. A check ends with its verdict, a drill with whether the reports are
--- the same, and what asks no question well
+-- the same, hosting with that or a session's fault, and what asks no question well
 abbrev pub Ends : Words → RunEnd → Type 0
 Ends Version end = end ≡ Yes
 Ends (Serve words) end =
@@ -23,7 +24,7 @@ Ends (Audit words) end =
     (end ≡ Yes) × OfFiles untold (Some words.map.now) (option_copied words.scen) (option_copied words.journal) (HasAudited words)
 Ends (Drill words) end =
     (same : Bool) × (end ≡ answered same) × OfScripts untold words (λ map scen scripts. HasDrilled words map scen scripts same)
-Ends (Host words) end = Unit {0}
+Ends (Host words) end = HasHosted untold unsaid words end
 Ends (Check words) end =
     (solved : Bool) × (end ≡ answered solved)
     × OfFiles untold (Some words.map.now) (option_copied words.scen) (Some words.paths.now) (λ map scen paths. HasChecked words words.form map scen paths solved)

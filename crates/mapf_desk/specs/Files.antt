@@ -4,7 +4,7 @@ use Rattle.std.specs.Option.{option_copied}
 use Rattle.solver_check.specs.declared.faults.Fault.{Fault}
 use Rattle.solver_check.specs.declared.faults.Fault.TheVariants.{AgentsWithoutScen}
 use Rattle.desk_cli.specs.declared.words.ServeWords.{ServeWords}
-use Rattle.desk_io.specs.Texts.{AreTexts, IsUnheld, IsUnreadOf}
+use Rattle.desk_io.specs.Texts.{AreTexts, IsUnheld, IsUnreadWith}
 use Rattle.desk_io.specs.declared.named.Named.{Named}
 
 -- the texts of the files of these names, each in its place, are so
@@ -21,5 +21,5 @@ LacksScen words = (0 < words.agents) × (words.scen ≡ None)
 abbrev pub IsUnready : ServeWords → Fault → Type 0
 IsUnready words AgentsWithoutScen = LacksScen words
 IsUnready words fault =
-    IsUnreadOf (option_copied words.map) (option_copied words.scen) (option_copied words.journal) fault
+    IsUnreadWith (option_copied words.map) (option_copied words.scen) (option_copied words.journal) fault
     ⊎ ((file : List ℕ) × (option_copied words.save ≡ Some file) × IsUnheld file fault)

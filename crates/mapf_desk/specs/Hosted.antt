@@ -1,12 +1,14 @@
 -- A desk that is hosted for the planners of the words (this project's choice).
-use Rattle.std.specs.Prelude.{◌≡◌, ◌||◌, ℕ, List, Option, Bool, Ok, is_err}
+use Rattle.std.specs.Prelude.{◌≡◌, ◌||◌, ℕ, List, Option, Bool, Ok, is_err, length}
 use Rattle.std.specs.List.{list_any}
 use Rattle.std.specs.Option.{option_copied}
 use Rattle.desk_commits.specs.State.{DeskState}
 use Rattle.desk_cli.specs.declared.words.HostWords.{HostWords}
 use Rattle.mapf_desk.specs.Ends.{IsOpened, IsSavedIn, Savings}
 use Rattle.mapf_desk.specs.Files.{OfFiles}
+use Rattle.shared_runs.specs.Hosts.{Hosts}
 use Rattle.shared_runs.specs.declared.hosts.hosting.HostEnd.{HostEnd}
+use Rattle.solver_check.specs.Inputs.{untold_input}
 use Rattle.solver_check.specs.declared.faults.Fault.TheVariants as desk
 use Rattle.solver_check.specs.declared.faults.RunFault.TheVariants.{OutOfMemory}
 use Rattle.desk_io.specs.declared.seats.PipesFault.{PipesFault}
@@ -29,10 +31,11 @@ abbrev pub unseated : PipesFault → ProgramFault
 unseated pipes.OutOfMemory = program.Desk (desk.Run OutOfMemory)
 unseated (pipes.InUse name) = program.InUse name
 
--- a desk of the texts was opened for the planners of the words, whose end is that; the journal of the desk that was closed was saved where the words say
+-- a desk of the texts was opened and shared by the planners of the words, whose end is that; the journal of the desk that was closed was saved where the words say
 abbrev pub HostsBy : Savings → HostWords → (map scen journal : Option (List ℕ)) → RunEnd → Type 0
 HostsBy has_saved words map scen journal run =
     (start : DeskState) × (end : HostEnd) × IsOpened words.desk start map scen journal
+    × Hosts (λ _. untold_input words.desk.lines) start (length words.names.items) end
     × IsRunEndOf end run × IsSavedIn has_saved (option_copied words.desk.save) end.desk
 
 -- and the texts are those of the files of the words, each in its place

@@ -8,7 +8,7 @@ use Rattle.solver_check.specs.declared.faults.Fault.{Fault}
 use Rattle.solver_check.specs.declared.faults.Fault.TheVariants.{AgentsWithoutScen}
 use Rattle.solver_check.specs.declared.faults.Fault.TheVariants as desk
 use Rattle.solver_check.specs.declared.faults.RunFault.{RunFault}
-use Rattle.solver_check.specs.declared.faults.RunFault.TheVariants.{OutOfMemory}
+use Rattle.solver_check.specs.declared.faults.RunFault.TheVariants.{OutOfMemory, WriteFailed}
 use Rattle.solver_check.specs.declared.checks.faults.CheckFault.{CheckFault}
 use Rattle.solver_check.specs.declared.checks.faults.CheckFault.TheVariants as check
 use Rattle.path_files.specs.declared.forms.Form.{Form}
@@ -20,7 +20,7 @@ use Rattle.desk_cli.specs.declared.words.AuditWords.{AuditWords}
 use Rattle.desk_cli.specs.declared.words.CheckWords.{CheckWords}
 use Rattle.desk_cli.specs.declared.words.DrawWords.{DrawWords}
 use Rattle.desk_cli.specs.declared.words.PageWords.{PageWords}
-use Rattle.desk_io.specs.Texts.{IsUnreadOf}
+use Rattle.desk_io.specs.Texts.{IsUnreadJournal, IsUnreadOf}
 use Rattle.mapf_desk.specs.Files.{OfFiles}
 use Rattle.mapf_desk.specs.Words.{courses_in, courses_of}
 use Rattle.mapf_desk.specs.declared.faults.ProgramFault.{ProgramFault}
@@ -32,11 +32,11 @@ pub record HasAudited (words : AuditWords) (map scen journal : Option (List ℕ)
   pub held1 : Option (List ℕ)
   pub audits : Audits (unwrap_or map []) scen words.agents words.mode journal held0 held1
 
--- the texts, memory or the writer failed the audit; or it came to its end, and the buffer did not go out
+-- the texts, memory or the writer failed the audit; or it came to its end, and could not be sent
 pub record IsUnaudited (words : AuditWords) (map scen journal : Option (List ℕ)) (fault : RunFault) : Type 0 where
   pub held0 : Option (List ℕ)
   pub held1 : Option (List ℕ)
-  pub why : (fault ≡ OutOfMemory) ⊎ FailsAudit (unwrap_or map []) scen words.agents words.mode journal held0 held1 fault ⊎ HasAudited words map scen journal
+  pub why : (fault ≡ OutOfMemory) ⊎ FailsAudit (unwrap_or map []) scen words.agents words.mode journal held0 held1 fault ⊎ ((fault ≡ WriteFailed) × HasAudited words map scen journal)
 
 -- the paths of the texts were checked, with that answer
 pub record HasChecked (words : CheckWords) (form : Option Form) (map scen paths : Option (List ℕ)) (solved : Bool) : Type 0 where
@@ -44,9 +44,10 @@ pub record HasChecked (words : CheckWords) (form : Option Form) (map scen paths 
   pub held1 : Option (List ℕ)
   pub checks : Checks (unwrap_or map []) scen words.agents words.mode (unwrap_or paths []) form words.kinds words.quiet held0 held1 solved
 
--- the texts, memory or the writer failed the check; or it came to its end, and the buffer did not go out
+-- the texts, memory or the writer failed the check; or it came to its end, and could not be sent
 pub record IsUnchecked (words : CheckWords) (form : Option Form) (map scen paths : Option (List ℕ)) (fault : CheckFault) : Type 0 where
-  pub why : IsCheckFault (unwrap_or map []) scen words.agents words.mode (unwrap_or paths []) form fault ⊎ ((solved : Bool) × HasChecked words form map scen paths solved)
+  pub why : IsCheckFault (unwrap_or map []) scen words.agents words.mode (unwrap_or paths []) form fault
+      ⊎ ((fault ≡ check.Run WriteFailed) × (solved : Bool) × HasChecked words form map scen paths solved)
 
 -- the scene of the texts was drawn
 pub record HasDrawn (words : DrawWords) (map scen journal : Option (List ℕ)) : Type 0 where
@@ -56,11 +57,12 @@ pub record HasDrawn (words : DrawWords) (map scen journal : Option (List ℕ)) :
   pub held1 : Option (List ℕ)
   pub draws : Draws (unwrap_or map []) scen words.agents words.mode (courses_of words text) words.at held0 held1
 
--- the texts, memory or the writer failed the picture; or it came to its end, and the buffer did not go out
+-- the texts, memory or the writer failed the picture; or it came to its end, and could not be sent
 pub record IsUndrawn (words : DrawWords) (map scen journal : Option (List ℕ)) (fault : CheckFault) : Type 0 where
   pub text : Option (Bor (List ℕ))
   pub is : bytes_of text ≡ journal
-  pub why : FailsDraw (unwrap_or map []) scen words.agents words.mode (courses_of words text) fault ⊎ (fault ≡ check.OutOfMemory) ⊎ HasDrawn words map scen journal
+  pub why : FailsDraw (unwrap_or map []) scen words.agents words.mode (courses_of words text) fault ⊎ (fault ≡ check.OutOfMemory)
+      ⊎ ((fault ≡ check.Run WriteFailed) × HasDrawn words map scen journal)
 
 -- the page has the words' title, or else the map's name, and the words' kinds
 pub record IsPageFor (words : PageWords) (page : Page) : Type 0 where
@@ -77,11 +79,12 @@ pub record HasPaged (words : PageWords) (map scen journal : Option (List ℕ)) :
   pub held1 : Option (List ℕ)
   pub pages : Pages (unwrap_or map []) scen words.agents words.mode (courses_in words.paths text) page held0 held1
 
--- the texts, memory or the writer failed the page; or it came to its end, and the buffer did not go out
+-- the texts, memory or the writer failed the page; or it came to its end, and could not be sent
 pub record IsUnpaged (words : PageWords) (map scen journal : Option (List ℕ)) (fault : CheckFault) : Type 0 where
   pub text : Option (Bor (List ℕ))
   pub is : bytes_of text ≡ journal
-  pub why : FailsDraw (unwrap_or map []) scen words.agents words.mode (courses_in words.paths text) fault ⊎ (fault ≡ check.OutOfMemory) ⊎ HasPaged words map scen journal
+  pub why : FailsDraw (unwrap_or map []) scen words.agents words.mode (courses_in words.paths text) fault ⊎ (fault ≡ check.OutOfMemory)
+      ⊎ ((fault ≡ check.Run WriteFailed) × HasPaged words map scen journal)
 
 -- agents are asked for, and no scenario that has their tasks
 abbrev pub LacksTasks : Option ℕ → Option (Bor (List ℕ)) → Type 0
@@ -98,6 +101,11 @@ FailsOver Lacks holds map scen journal Fails (program.Check fault) = OfFiles hol
 FailsOver Lacks holds map scen journal Fails (program.Host fault) = ⊥
 FailsOver Lacks holds map scen journal Fails (program.NamedTwice name) = ⊥
 FailsOver Lacks holds map scen journal Fails (program.InUse name) = ⊥
+
+-- the journal's file is a log that isn't read
+abbrev pub IsWithoutJournal : Option (List ℕ) → ProgramFault → Type 0
+IsWithoutJournal journal (program.Desk fault) = IsUnreadJournal journal fault
+IsWithoutJournal journal other = ⊥
 
 -- and of an audit
 abbrev pub FailsAuditOver : Type 0 → (List ℕ → Option (List ℕ)) → (map scen journal : Option (List ℕ)) → ((map scen journal : Option (List ℕ)) → RunFault → Type 0) → Fault → Type 0

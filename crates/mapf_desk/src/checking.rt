@@ -8,7 +8,9 @@ ghost use Rattle.mapf_desk.specs.Runs.{FailsOver, HasChecked, IsUnchecked, Lacks
 
 use crate::faults::ProgramFault;
 use desk_cli::CheckWords;
-use desk_io::{Folder, More, Noting, Texts, bytes_in, finish, problem_of, read_from, tell_stage};
+use desk_io::{
+    Folder, More, Noting, Texts, bytes_in, finish, problem_of, read_with_paths, tell_stage,
+};
 use desk_report::{Sink, Spout};
 use solver_check::{CheckFault, Fault, run_check};
 use std::alloc::Global;
@@ -40,7 +42,8 @@ pub fn check_files<R: AllocGlobal + Print + Eprint + Threads + Wait, F: Folder>(
         return Err(ProgramFault::Desk(Fault::AgentsWithoutScen));
     }
     tell_stage(rt, stages, "reading the files");
-    let named = match read_from(folder, Some(words.map), words.scen, Some(words.paths), more) {
+    let (map, paths) = (Some(words.map), Some(words.paths));
+    let named = match read_with_paths(folder, map, words.scen, paths, more) {
         Ok(named) => named,
         Err(fault) => return Err(ProgramFault::Desk(fault)),
     };

@@ -3,7 +3,7 @@ ghost use Rattle.std.specs.Prelude.{◌≡◌, [], Err, IfErr, IfOk, unwrap_or};
 ghost use Rattle.shared_runs.specs.DrillFaults.{FailsDrill};
 ghost use Rattle.shared_runs.specs.Drills.{Drills, inputs_of};
 ghost use Rattle.solver_check.specs.Opens.{bytes_of};
-ghost use Rattle.mapf_desk.specs.Drilled.{HasDrilled, LacksDrillTasks, OfScripts};
+ghost use Rattle.mapf_desk.specs.Drilled.{FailsDrillOver, HasDrilled, IsUndrilled, LacksDrillTasks, OfScripts};
 
 use desk_cli::DrillWords;
 use desk_io::{
@@ -35,6 +35,7 @@ pub fn drill_files<R: AllocGlobal + Print + Eprint + Threads + Wait + Clock + Sy
 ) -> Result<bool, Fault>
     ensures asked { LacksDrillTasks words.now → result ≡ Err Fault.AgentsWithoutScen }
     ensures drilled { IfOk result (λ same. OfScripts (F.holds folder.now) words.now (λ map scen scripts. HasDrilled words.now map scen scripts same)) }
+    ensures refused { IfErr result (FailsDrillOver (F.holds folder.now) words.now) }
 {
     if words.agents > 0 && words.scen.is_none() {
         return Err(Fault::AgentsWithoutScen);
@@ -71,6 +72,7 @@ fn drill_counted<R: AllocGlobal + Print + Threads + Wait + Clock + Sync>(
     verbose: bool,
 ) -> Result<bool, RunFault>
     ensures drilled { IfOk result (HasDrilled words.now (bytes_of texts.entry.map) (bytes_of texts.entry.scen) scripts.items) }
+    ensures refused { IfErr result (IsUndrilled words.now (bytes_of texts.entry.map) (bytes_of texts.entry.scen) scripts.items) }
 {
     let alloc = rt.alloc();
     let Ok(buffered) = BufWriter::new(alloc, io::writer(rt)) else {

@@ -1,5 +1,7 @@
 //! The word `host`.
 ghost use Rattle.std.specs.Prelude.{◌≡◌, IfOk, length};
+ghost use Rattle.desk_io.specs.Texts.{untold};
+ghost use Rattle.mapf_desk.specs.Ends.{unsaid};
 ghost use Rattle.mapf_desk.specs.Hosted.{HasHosted};
 
 use crate::faults::ProgramFault;
@@ -7,17 +9,17 @@ use crate::hosted::{end_hosted, fault_of, out_of_memory};
 use crate::opening::open_named;
 use crate::reading::let_go;
 use crate::saving::Saver;
+use crate::seating::host_seated;
 use crate::statuses::RunEnd;
+use core::thread::Stack;
 use desk_cli::{HostWords, SESSION_PROMPT};
-use desk_core::Desk;
 use desk_io::{Folder, More, Pipes, Steady, System};
-use shared_runs::{HostEnd, HostFault, MOST_HOSTED, host_planners};
-use std::alloc::Global;
+use shared_runs::{HostFault, MOST_HOSTED};
 use std::fs::File;
 use std::rt::Files;
 use std::sync::Wait;
 use std::thread;
-use std::thread::{Builder, Threads};
+use std::thread::{Promise, Scope, Threads};
 use std::time::Clock;
 
 /// The bytes of stack of the thread that hosts, in which each planner takes some.
@@ -37,18 +39,50 @@ pub fn host_files<R: Threads + Wait + Clock + Sync>(
     words: &HostWords,
     stages: bool,
     more: &mut More,
-) -> Result<RunEnd, ProgramFault> {
-    thread::scope(thread::scope_env(), rt, move |scope| {
-        let hosting = Builder::new().stack_size(HOST_STACK);
-        let started = hosting.spawn_scoped(
-            scope,
-            move || host_named(rt, host, words, stages, more),
-        );
-        match started {
-            Ok(hosted) => hosted.join(rt),
-            Err(_) => Err(out_of_memory()),
-        }
-    })
+) -> Result<RunEnd, ProgramFault>
+    ensures { IfOk result (HasHosted untold unsaid words.now) }
+{
+    thread::scope(
+        thread::scope_env(),
+        rt,
+        move |scope| -> Result<RunEnd, ProgramFault>
+            ensures { IfOk result (HasHosted untold unsaid words.entry.now) }
+        { host_apart(rt, host, scope, words, stages, more) },
+    )
+}
+
+// The words whose planners a thread hosts.
+#[derive(Drop)]
+struct Hosting<'a> {
+    words: &'a HostWords,
+}
+
+impl<'a> Promise<Result<RunEnd, ProgramFault>> for Hosting<'a> {
+    ghost kept_by = { λ hosting ended. IfOk ended (HasHosted untold unsaid hosting.words.now) };
+}
+
+// Hosts the planners of the words, in a thread of its own.
+fn host_apart<'s, E: 's, R: Threads + Wait + Clock + Sync>(
+    rt: &'s R,
+    host: &'s HostRuntime,
+    scope: &'s Scope<'s, E>,
+    words: &'s HostWords,
+    stages: bool,
+    more: &'s mut More,
+) -> Result<RunEnd, ProgramFault>
+    ensures { IfOk result (HasHosted untold unsaid words.now) }
+{
+    let started = Stack::new().stack_size(HOST_STACK).spawn_scoped_with(
+        scope,
+        Hosting { words },
+        move || -> Result<RunEnd, ProgramFault>
+            ensures { IfOk result (HasHosted untold unsaid words.entry.now) }
+        { host_named(rt, host, words, stages, more) },
+    );
+    match started {
+        Ok(hosted) => hosted.join(rt),
+        Err(_) => Err(out_of_memory()),
+    }
 }
 
 // Hosts the planners of the words, in this thread.
@@ -58,7 +92,9 @@ fn host_named<R: Threads + Wait + Clock + Sync>(
     words: &HostWords,
     stages: bool,
     more: &mut More,
-) -> Result<RunEnd, ProgramFault> {
+) -> Result<RunEnd, ProgramFault>
+    ensures { IfOk result (HasHosted untold unsaid words.now) }
+{
     let steady = Steady::new(host, host.stderr());
     host_system(rt, host, &steady, words, stages, more)
 }
@@ -74,7 +110,9 @@ fn host_system<
     words: &HostWords,
     stages: bool,
     more: &mut More,
-) -> Result<RunEnd, ProgramFault> {
+) -> Result<RunEnd, ProgramFault>
+    ensures { IfOk result (HasHosted untold unsaid words.now) }
+{
     host_over(rt, host, out, &System(out), words, stages, more)
 }
 
@@ -112,7 +150,7 @@ fn host_over<R: Threads + Wait + Clock + Sync, P: AllocGlobal + Print, F: Folder
             return Err(fault_of(fault));
         }
     };
-    let end = match host_all(rt, alloc, desk, &pipes, planners, words) {
+    let end = match host_seated(rt, alloc, desk, &pipes, planners, words) {
         Ok(end) => end,
         Err(fault) => {
             let_go(files, held);
@@ -132,38 +170,4 @@ fn planners_of(words: &HostWords) -> Result<u32, ProgramFault>
         Ok(planners) if planners <= MOST_HOSTED => Ok(planners),
         _ => Err(ProgramFault::Host(HostFault::TooManyPlanners)),
     }
-}
-
-// Hosts the planners until all have ended, who may take as long to come as the words say: threads see
-// to those who haven't come yet.
-fn host_all<R: Threads + Wait + Clock + Sync>(
-    rt: &R,
-    alloc: Global,
-    desk: Desk,
-    pipes: &Pipes<'_>,
-    planners: u32,
-    words: &HostWords,
-) -> Result<HostEnd, ProgramFault> {
-    let (workers, seconds) = (words.workers, words.wait);
-    thread::scope(thread::scope_env(), rt, move |scope| {
-        let Some(keeper) = pipes.keep(rt, scope, seconds) else {
-            drop(desk);
-            return Err(out_of_memory());
-        };
-        pipes.watch(rt, scope);
-        let opened = pipes.open(rt, alloc);
-        if let Err(fault) = opened {
-            drop(desk);
-            pipes.close(rt);
-            keeper.join(rt);
-            return Err(fault_of(fault));
-        }
-        let ended = host_planners(rt, alloc, desk, pipes, planners, workers.clamp(1, 64));
-        pipes.close(rt);
-        keeper.join(rt);
-        match ended {
-            Ok(end) => Ok(end),
-            Err(fault) => Err(ProgramFault::Host(fault)),
-        }
-    })
 }

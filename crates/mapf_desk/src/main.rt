@@ -1,11 +1,10 @@
-//! The program: a desk that serves a planner's session over files and standard streams, audits,
-//! drills planners that share it, checks the paths that a solver wrote, draws pictures, and makes pages
-//! that play plans.
+//! The program: a desk that serves a planner's session over files and standard streams, audits, drills
+//! planners that share it, checks paths that a solver wrote, draws pictures, makes pages that play plans.
 //!
 //! Each word but `version` has a file: `serving`, `auditing`, `drilling`, `hosting`, `checking`,
-//! `drawing`, `paging`. `reading` reads and holds the files of a session, `saving` saves in the one that
-//! is held, `closing` is what is done at a session's end, `opening` opens the desk that planners are to
-//! share; `hosted` and `statuses` have what a run and the program end with, `faults` all faults.
+//! `drawing`, `paging`. `reading` reads and holds a session's files, `saving` saves in the one that is
+//! held, `closing` ends a session; `opening` opens the desk that planners share, `seating` hosts them;
+//! `hosted`, `statuses` and `faults` have what a run and the program end with.
 #![tactic(auto)]
 
 ghost use Rattle.std.specs.Prelude.{◌≡◌, ◌≢◌, ◌⊎◌, IfErr, IfOk};
@@ -26,6 +25,7 @@ mod opening;
 mod paging;
 mod reading;
 mod saving;
+mod seating;
 mod serving;
 mod statuses;
 

@@ -1,7 +1,7 @@
 //! The files of `serve` and `host`: the bytes that are read, and the file that is held.
 ghost use Rattle.std.specs.Prelude.{◌≡◌, ◌⊎◌, ℕ, List, Some, Err, IfErr, IfOk, option_map};
 ghost use Rattle.std.specs.Option.{option_copied};
-ghost use Rattle.desk_io.specs.Texts.{AreTexts, IsUnheld, IsUnreadOf};
+ghost use Rattle.desk_io.specs.Texts.{AreTexts, IsUnheld, IsUnreadWith};
 ghost use Rattle.mapf_desk.specs.Files.{IsUnready, LacksScen};
 
 use crate::saving::{Held, Saver};
@@ -71,7 +71,7 @@ fn read_held<F: Folder + Saver>(
     ensures read { IfOk result (λ ready. AreTexts (F.holds files.now) (option_copied words.now.map) (option_copied words.now.scen)
         (option_copied words.now.journal) ready.0) }
     ensures held { IfOk result (λ ready. ready.1 ≡ held) }
-    ensures unread { IfErr result (IsUnreadOf (option_copied words.now.map) (option_copied words.now.scen) (option_copied words.now.journal)) }
+    ensures unread { IfErr result (IsUnreadWith (option_copied words.now.map) (option_copied words.now.scen) (option_copied words.now.journal)) }
 {
     match read_from(files, words.map, words.scen, words.journal, more) {
         Ok(named) => Ok((named, held)),
@@ -90,7 +90,7 @@ fn first_fault<F: Folder>(
     unheld: More,
     more: &mut More,
 ) -> Fault
-    ensures { (result ≡ fault) ⊎ IsUnreadOf (option_copied words.now.map) (option_copied words.now.scen) (option_copied words.now.journal) result }
+    ensures { (result ≡ fault) ⊎ IsUnreadWith (option_copied words.now.map) (option_copied words.now.scen) (option_copied words.now.journal) result }
 {
     match read_from(files, words.map, words.scen, words.journal, more) {
         Ok(named) => {

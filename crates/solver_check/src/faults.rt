@@ -86,6 +86,9 @@ pub enum Fault {
     /// A file can't be opened or read, or has too many bytes.
     #[error("can't read {}", Shown(*.file))]
     CannotRead { file: &'static str },
+    /// A file that begins as a log is none: that is its first line that doesn't fit, counted from 1.
+    #[error("log: bad line {line}")]
+    BadLog { line: usize },
     /// The desk's journal can't be saved in a file, which is then as it was.
     #[error("can't write {}", Shown(*.file))]
     CannotWrite { file: &'static str },
