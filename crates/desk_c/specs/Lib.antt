@@ -1,3 +1,7 @@
 pub mod Calls
+pub mod Handles
+pub mod Numbers
 pub mod Opening
 pub mod Owned
+pub mod Planning
+pub mod Statuses

@@ -1,7 +1,8 @@
 //! A desk inside another program: sessions by calls from C, over a handle that the caller keeps.
 //!
 //! `handles` has the handle and what is behind it, whose box `loose` takes to a pointer and back;
-//! `states` answers lines there, and `opening` opens a desk of texts. What a caller owes and gets
+//! `states` answers lines there, and `opening` opens a desk of texts. `solving` has the calls on numbers, `planned` what they do
+//! behind a handle, `planning` what they ask of a desk, `numbers` and `statuses` how that is told. What a caller owes and gets
 //! is in `library/mapf_desk.h`, which tests what can be null before it calls these.
 #![tactic(auto)]
 
@@ -11,8 +12,13 @@ ghost use Rattle.desk_c.specs.Opening.{IsOpened, optional};
 
 mod handles;
 mod loose;
+mod numbers;
 mod opening;
+mod planned;
+mod planning;
+mod solving;
 mod states;
+mod statuses;
 
 use crate::handles::Handle;
 use crate::opening::{Texts, opened};
