@@ -5,11 +5,13 @@
 
 #include "mapf_desk.h"
 
+#include <initializer_list>
 #include <optional>
 #include <string>
 #include <string_view>
 #include <utility>
 #include <variant>
+#include <vector>
 
 namespace mapf {
 
@@ -35,6 +37,10 @@ template <class T> class Result {
   private:
     std::variant<T, Fault> held;
 };
+
+// A cell and a conflict, as mapf_desk.h describes them.
+using Cell = desk_cell;
+using Conflict = desk_conflict;
 
 enum class Mode { stay, disappear };
 
@@ -72,6 +78,51 @@ class Desk {
     // The answer to the session's next line, with its line feeds.
     Result<std::string> ask(std::string_view line) { return told(desk_line(&handle, text(line))); }
 
+    // How many commits the desk has accepted.
+    Result<std::uint64_t> version() {
+        std::uint64_t version = 0;
+        const desk_status status = desk_version(&handle, &version);
+        return given(status, version);
+    }
+
+    // Commits a path of an agent, from its start, and gives the version.
+    Result<std::uint64_t> commit_path(std::uint32_t agent, const std::vector<Cell> &path) {
+        std::uint64_t version = 0;
+        const desk_status status = desk_commit_path(&handle, agent, path.data(), path.size(), &version);
+        return given(status, version);
+    }
+
+    // The conflicts that the agent would have after that commit.
+    Result<std::vector<Conflict>> try_path(std::uint32_t agent, const std::vector<Cell> &path) {
+        return filled([&](Conflict *room, std::size_t most, std::size_t *count) {
+            return desk_try_path(&handle, agent, path.data(), path.size(), room, most, count);
+        });
+    }
+
+    // The agent's conflicts, in the order of the report.
+    Result<std::vector<Conflict>> conflicts(std::uint32_t agent) {
+        return filled([&](Conflict *room, std::size_t most, std::size_t *count) { return desk_conflicts(&handle, agent, room, most, count); });
+    }
+
+    // Whether the plans solve by these kinds of conflicts.
+    Result<bool> solves(std::initializer_list<desk_kind> kinds) {
+        std::uint32_t bits = 0;
+        for (desk_kind kind : kinds)
+            bits |= 1u << kind;
+        bool answer = false;
+        const desk_status status = desk_solves(&handle, bits, &answer);
+        return given(status, answer);
+    }
+
+    // The distance in steps of a cell to the agent's goal, if a way leads there.
+    Result<std::optional<std::uint32_t>> distance(std::uint32_t agent, Cell cell) {
+        std::uint32_t steps = 0;
+        const desk_status status = desk_distance(&handle, agent, cell, &steps);
+        if (status == DESK_NO_WAY)
+            return std::optional<std::uint32_t>();
+        return given(status, std::optional<std::uint32_t>(steps));
+    }
+
     // The text of the desk's journal.
     Result<std::string> journal() { return told(desk_journal(&handle)); }
 
@@ -80,6 +131,31 @@ class Desk {
 
     static desk_text text(std::string_view it) { return {it.data() ? it.data() : "", it.size()}; }
     static desk_text text(const std::optional<std::string_view> &it) { return it ? text(*it) : desk_nothing(); }
+
+    // The word of a status.
+    static const char *word(desk_status status) {
+        static const char *const words[] = {"done", "closed", "out of memory", "no such number", "unknown-agent", "out-of-map", "empty-path",
+                                            "not-from-start", "not-a-step", "too-long", "journal-full", "no way", "refused"};
+        return status < sizeof words / sizeof *words ? words[status] : "refused";
+    }
+
+    template <class T> static Result<T> given(desk_status status, T value) {
+        if (status == DESK_DONE)
+            return value;
+        return Fault{word(status)};
+    }
+
+    template <class Call> static Result<std::vector<Conflict>> filled(Call call) {
+        std::vector<Conflict> room(8);
+        std::size_t count = 0;
+        desk_status status = call(room.data(), room.size(), &count);
+        if (status == DESK_DONE && count > room.size()) {
+            room.resize(count);
+            status = call(room.data(), room.size(), &count);
+        }
+        room.resize(count);
+        return given(status, std::move(room));
+    }
 
     Result<std::string> told(bool is_whole) {
         if (is_whole)

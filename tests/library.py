@@ -2,9 +2,10 @@
 """Tries the desk inside other programs, in C, C++ and Python: tools/library builds it of the crate desk_c.
 
 library.py [ROOM [PROGRAM]]     what tools/library takes, and the program whose sessions have to be those of the library
-It takes Debian's packages gcc and g++; where they aren't there its tests count as failed. The last line is 'N passed, M failed'; status 1
+It takes Debian's packages gcc, g++ and valgrind; where they aren't there its tests count as failed. The last line is 'N passed, M failed'; status 1
 where one failed.
 """
+import functools
 import os
 import random
 import shutil
@@ -14,12 +15,17 @@ import tempfile
 from pathlib import Path
 
 sys.dont_write_bytecode = True
+sys.path.insert(1, os.path.join(os.path.dirname(os.path.abspath(__file__)), "library"))
 
+import memory
+import on_numbers
+from processes.documented import LIBRARY, blocks_of, commands_of, page_runs
 from processes.running import TOP, Program, Wrong, run, want
 
 PARTS, OUT = Path(TOP, "tests/library"), Path(TOP, "library/out")
 MAP = "type octile\nheight 4\nwidth 5\nmap\n.....\n..@..\n.....\n.....\n"
-SESSIONS, LINES = 300, 60
+SESSIONS, LINES, OPENINGS = 2000, 60, 300
+ENDINGS = {"c": "c", "cpp": "cpp", "python": "py"}
 # Pages that the memory of a process may seem to grow by while 10,000 desks are opened, of which it keeps 2,000 and more where two in three aren't closed.
 MOST_PAGES = 300
 
@@ -68,6 +74,7 @@ def built(compiler, source, to, *more):
     return os.path.abspath(to)
 
 
+@functools.lru_cache(maxsize=None)
 def served(session):
     """What the program answers to a session."""
     status, answers, complaint = run(["serve", "--lines", "2", "--map", "map"], session)
@@ -119,7 +126,7 @@ def opens_as_the_program():
 
     scen = b"version 1\n0\tm\t5\t4\t0\t0\t4\t0\t4\n0\tm\t5\t4\t0\t1\t4\t1\t4\n"
     journal = b"journal 2\nmode stay\nentry 0 0 0 1\npath 0 0,0 1,0\nend 1\n"
-    for seed in range(SESSIONS):
+    for seed in range(OPENINGS):
         chance = random.Random(seed)
         names = [it for it in ("scen", "journal") if chance.randrange(3)]
         texts = {it: changed(chance, text) for it, text in (("map", MAP.encode()), ("scen", scen), ("journal", journal)) if it in (*names, "map")}
@@ -183,7 +190,7 @@ def a_report_is_read():
         want("whether it solves", (desk.solves("vertex"), desk.solves("swap")), (False, True))
         desk.ask("close 6,0")
         want("the visit", desk.report().visits, (Visit(0, 6, (6, 0)), Visit(1, 0, (6, 0))))
-        for wrong, why in (([], "refused faulty 0 empty-path"), ([(0, 0), (2, 0)], "refused faulty 0 not-a-step 1")):
+        for wrong, why in (([], "empty-path"), ([(0, 0), (2, 0)], "not-a-step")):
             try:
                 raise Wrong(f"a path {wrong} was committed: {desk.commit_path(0, wrong)}")
             except Fault as fault:
@@ -208,7 +215,37 @@ def a_wheel_is_installed():
     want("what it answers", said([sys.executable, "-I", "-c", f"import sys; sys.path.insert(0, 'there'); {code}"]).split()[1:], [b"version", b"0"])
 
 
-TESTS = (c_answers_as_the_program, python_answers_as_the_program, a_journal_comes_back, opens_as_the_program, python_refuses_what_is_wrong, a_report_is_read, wrong_calls_of_c, desks_of_cpp, a_wheel_is_installed)
+def programs_of_the_page():
+    """The programs of docs/LIBRARY.md are compiled and run as the page says, and print what it says."""
+    programs = [(f"planner.{ENDINGS.get(language)}", text) for language, text in blocks_of(LIBRARY) if language != "console"]
+    want("the page's programs", [name for name, _ in programs], [f"planner.{it}" for it in ENDINGS.values()])
+    for name, _ in programs:
+        want(f"whether one command runs {name}", sum(name in command.split() for command, _ in commands_of(LIBRARY)), 1)
+    page_runs(LIBRARY, ("demo", "library", "python"), programs)
+
+
+def numbers_of_c():
+    on_numbers.c_answers_as_the_plain_program(built, said)
+
+
+def planners():
+    """A planner in each language finds paths for 20 agents."""
+    words = [f"{TOP}/demo/warehouse.map", f"{TOP}/demo/warehouse.scen", "20"]
+    runs = {"C": [built("gcc", "../../library/planner.c", "planner", "-std=c99")], "C++": [built("g++", "../../library/planner.cpp", "planners", "-std=c++17")]}
+    os.environ["PYTHONPATH"] = f"{TOP}/python"
+    for name, program in {**runs, "Python": [sys.executable, "-B", f"{TOP}/library/planner.py"]}.items():
+        want(f"what the planner in {name} prints", said([*program, *words]), b"solves yes\n")
+
+
+def memory_checked():
+    memory.nothing_is_said(built, said, MAP)
+
+
+TESTS = (
+    programs_of_the_page, c_answers_as_the_program, python_answers_as_the_program, a_journal_comes_back, opens_as_the_program,
+    python_refuses_what_is_wrong, a_report_is_read, wrong_calls_of_c, desks_of_cpp, a_wheel_is_installed, numbers_of_c,
+    on_numbers.python_answers_as_the_plain_program, planners, memory_checked,
+)
 
 
 def passes(test):
@@ -223,7 +260,7 @@ def passes(test):
 def main():
     room, program = sys.argv[1:2], sys.argv[2:3]
     Program.path = os.path.abspath(program[0] if program else Program.path)
-    missing = [it for it in ("gcc", "g++", "ar") if not shutil.which(it)]
+    missing = [it for it in ("gcc", "g++", "ar", "valgrind") if not shutil.which(it)]
     why = f"there is no {' and no '.join(missing)}" if missing else None
     if not missing and subprocess.run([f"{TOP}/tools/library", *room]).returncode:
         why = "tools/library built none"

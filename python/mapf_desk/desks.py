@@ -3,10 +3,10 @@ from __future__ import annotations
 
 import ctypes
 from types import TracebackType
-from typing import Iterable, Literal
+from typing import Callable, Iterable, Literal
 
 from . import exports
-from .reports import Cell, Conflict, Report, read_report
+from .reports import Cell, Conflict, Report, conflict_of, read_report
 
 
 class Fault(ValueError):
@@ -26,7 +26,7 @@ class Desk:
         journal: str | bytes | None = None,
     ) -> None:
         """Opens a desk of a map's text, with the first tasks of a scenario, after the entries of a journal of at most `limit`."""
-        self._handle, self._room = exports.Handle(), ctypes.create_string_buffer(4096)
+        self._handle, self._room, self._found = exports.Handle(), ctypes.create_string_buffer(4096), (exports.Conflict * 8)()
         if mode not in ("stay", "disappear"):
             raise Fault(f"mode {mode!r}")
         for name, number in (("agents", agents), ("limit", limit)):
@@ -47,23 +47,48 @@ class Desk:
 
     def version(self) -> int:
         """How many commits the desk has accepted."""
-        return int(self.ask("version").split()[1])
+        version = ctypes.c_uint64()
+        _done(exports.version(self._handle, version))
+        return version.value
 
     def commit_path(self, agent: int, cells: Iterable[Cell]) -> int:
-        """Commits a path of an agent, from its start, and gives the version; a Fault is the refusal."""
-        return int(self._accepted(_path(agent, cells), b"version").split()[1])
+        """Commits a path of an agent, from its start, and gives the version; a Fault is the refusal's word."""
+        version = ctypes.c_uint64()
+        _done(exports.commit_path(self._handle, _number(agent), *_path(cells), version))
+        return version.value
 
-    def solves(self, *kinds: str) -> bool:
+    def try_path(self, agent: int, cells: Iterable[Cell]) -> tuple[Conflict, ...]:
+        """The conflicts that the agent would have after that commit; of a cycle the first two agents are told."""
+        words = (_number(agent), *_path(cells))
+        return self._filled(lambda *room: exports.try_path(self._handle, *words, *room))
+
+    def conflicts(self, agent: int) -> tuple[Conflict, ...]:
+        """The conflicts of an agent, in the order of the report."""
+        number = _number(agent)
+        found = self._filled(lambda *room: exports.conflicts(self._handle, number, *room))
+        return self.report(agent).conflicts if any(it.kind == "cycle" for it in found) else found
+
+    def distance(self, agent: int, cell: Cell) -> int | None:
+        """The distance in steps of a cell to the agent's goal, if a way leads there."""
+        steps, (column, row) = ctypes.c_uint32(), cell
+        status = exports.distance(self._handle, _number(agent), _number(column), _number(row), steps)
+        if exports.STATUSES[status] == "no way":
+            return None
+        _done(status)
+        return steps.value
+
+    def solves(self, *kinds: Literal["vertex", "edge", "follow", "swap", "cycle"]) -> bool:
         """Whether the plans solve by these kinds of conflicts, as `solves("vertex", "swap")`."""
-        return self._accepted(f"solves {' '.join(kinds)}", b"solves") == b"solves yes\n"
+        names, answer = ("vertex", "edge", "follow", "swap", "cycle"), ctypes.c_bool()
+        for it in kinds:
+            if it not in names:
+                raise Fault(f"kind {it!r}")
+        _done(exports.solves(self._handle, *(it in kinds for it in names), answer))
+        return answer.value
 
     def report(self, *agents: int) -> Report:
         """The whole report, or what of it names one of these agents."""
         return read_report(self._accepted(" ".join(map(str, ("report", *agents))), b"version").decode())
-
-    def conflicts(self, agent: int) -> tuple[Conflict, ...]:
-        """The conflicts of an agent, in the order of the report."""
-        return self.report(agent).conflicts
 
     def journal(self) -> bytes:
         """The text of the desk's journal."""
@@ -78,6 +103,14 @@ class Desk:
         if not answer.startswith(word):
             raise Fault(answer.decode().strip())
         return answer
+
+    def _filled(self, call: Callable[..., int]) -> tuple[Conflict, ...]:
+        count = ctypes.c_size_t()
+        _done(call(self._found, len(self._found), count))
+        if count.value > len(self._found):
+            self._found = (exports.Conflict * (2 * count.value))()
+            _done(call(self._found, len(self._found), count))
+        return tuple(map(conflict_of, self._found[: count.value]))
 
     def _whole(self, is_whole: bool) -> bytes:
         if not is_whole:
@@ -108,5 +141,17 @@ def _bytes(text: str | bytes) -> bytes:
     return text.encode() if isinstance(text, str) else bytes(text)
 
 
-def _path(agent: int, cells: Iterable[Cell]) -> str:
-    return " ".join(("path", str(agent), *(f"{column},{row}" for column, row in cells)))
+def _done(status: int) -> None:
+    if status:
+        raise Fault(exports.STATUSES[status])
+
+
+def _number(number: int) -> int:
+    if not 0 <= number < 2**32:
+        raise Fault("no such number")
+    return number
+
+
+def _path(cells: Iterable[Cell]) -> tuple[ctypes.Array[exports.Cell], int]:
+    pairs = [(_number(column), _number(row)) for column, row in cells]
+    return (exports.Cell * len(pairs))(*pairs), len(pairs)

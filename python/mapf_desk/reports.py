@@ -4,7 +4,10 @@ from __future__ import annotations
 from dataclasses import dataclass
 from typing import Tuple
 
+from . import exports
+
 Cell = Tuple[int, int]
+KINDS = ("vertex", "parked", "edge", "follow", "swap", "cycle")
 
 
 @dataclass(frozen=True)
@@ -56,9 +59,15 @@ def read_report(text: str) -> Report:
     lines = [it.split() for it in text.splitlines()]
     agents = tuple(Agent(int(it[1]), _number(it[3]), it[5] == "yes", _number(it[7]), _number(it[9])) for it in lines if it[0] == "agent")
     visits = tuple(Visit(int(it[1]), int(it[2]), _cell(it[3])) for it in lines if it[0] == "visit")
-    conflicts = tuple(_conflict(it) for it in lines if it[0] in ("vertex", "parked", "edge", "follow", "swap", "cycle"))
+    conflicts = tuple(_conflict(it) for it in lines if it[0] in KINDS)
     totals = {it[0]: _number(it[1]) for it in lines[-5:-1]}
     return Report(int(lines[0][1]), agents, conflicts, visits, totals["sum"], totals["makespan"], totals["bounds"], totals["gap"])
+
+
+def conflict_of(entry: exports.Conflict) -> Conflict:
+    """The conflict of an entry in numbers."""
+    places = {"cycle": (), "edge": (entry.cell, entry.other), "swap": (entry.cell, entry.other)}.get(KINDS[entry.kind], (entry.cell,))
+    return Conflict(KINDS[entry.kind], entry.time, (entry.first, entry.second), tuple((it.x, it.y) for it in places))
 
 
 def _number(word: str) -> int | None:

@@ -2,6 +2,7 @@
    memory of the process, in pages, after some desks and after many more. */
 #include "mapf_desk.h"
 #include <stdio.h>
+#include <stdlib.h>
 
 static const char MAP[] = "type octile\nheight 1\nwidth 3\nmap\n...\n";
 static char room[4096];
@@ -85,12 +86,12 @@ static void opens_many(int count) {
     desk_close(&it);
 }
 
-int main(void) {
+int main(int count, char **words) {
     tries_faults();
     tries_answers();
     opens_many(500);
     long some = pages();
-    opens_many(10000);
+    opens_many(count > 1 ? atoi(words[1]) : 10000);
     printf("pages %ld\n", pages() - some);
     return 0;
 }
