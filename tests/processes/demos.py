@@ -39,6 +39,24 @@ def demo_client():
     want("the status", ran.returncode, 0)
 
 
+ASKED = """import sys
+from client import Desk
+desk = Desk(*sys.argv[1:])
+for line in ("", " \\t\\r", "# of nobody", "\\t#", "\\v", "report\\t", "version"):
+    print(desk.ask(line))
+print(desk.close())
+"""
+HEARD = ["version 0", "agents 0", "conflicts 0", "blocked 0", "sum 0", "makespan 0", "bounds 0", "gap 0", "end"]
+
+
+def demo_client_asks_remarks():
+    """Of a line that has no answer the client waits for none, and hears those of the next lines."""
+    words = [sys.executable, "-B", "-c", ASKED, Program.path, "serve", "--map", f"{DEMO}/corridor.map"]
+    ran = subprocess.run(words, capture_output=True, timeout=PATIENCE, text=True, cwd=DEMO)
+    want("what it hears", ran.stdout.splitlines(), [*["None"] * 4, "bad 5 word", str(HEARD), "version 0", "0"])
+    want("how it ends", (ran.returncode, ran.stderr), (0, ""))
+
+
 def demo_fleet():
     """Four planners of demo/planners plan for one fleet at once, until nothing is in the way of anyone."""
     words = [sys.executable, f"{DEMO}/planners/fleet.py", Program.path]
@@ -90,5 +108,5 @@ def demo_maps():
 
 
 def tests():
-    for test in (demo_maps, demo_session, demo_drill, demo_client, demo_fleet, demos_called_wrongly, demo_audit):
+    for test in (demo_maps, demo_session, demo_drill, demo_client, demo_client_asks_remarks, demo_fleet, demos_called_wrongly, demo_audit):
         yield test.__name__, test
