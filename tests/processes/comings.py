@@ -1,6 +1,8 @@
 """How planners of `host` come to their pipes: in each order, under whatever names, and how those who don't come are waited for."""
 import contextlib
+import errno
 import os
+import signal
 import subprocess
 import threading
 import time
@@ -145,8 +147,11 @@ def silent_for_longer_than_the_wait():
 GOING = {
     "the input is removed": "rm away.in",
     "the answers are removed behind the input": "rm away.out",
+    "the input is renamed": "mv away.in gone.in",
+    "the answers are renamed behind the input": "mv away.out gone.out",
     "both are renamed": "mv away.in gone.in; mv away.out gone.out",
     "a file is in the input's place": "rm away.in; echo close 0,0 > away.in",
+    "a file is in the place of the answers behind the input": "rm away.out; echo > away.out",
     "a new pipe is in the input's place": "rm away.in; mkfifo away.in",
     "all names are gone": "rm *.in *.out",
 }
@@ -171,7 +176,40 @@ def names_that_go():
         remove_pipes("gone")
 
 
+KILLED = 'exec 3> east.in 4< east.out; printf "agent 0 0,0 2,0\\nbegin\\npath 0" >&3; read one <&4; read two <&4; echo $one, $two; kill -9 $$'
+
+
+def back_by_pipes_that_are_kept():
+    """Who is killed can come back while somebody keeps its pipes open, within the line and gathering as it was, and later no more."""
+    with Hosted(["east", "west"]) as hosted:
+        kept, west = hosted.seats()
+        killed = subprocess.run(["sh", "-c", KILLED], capture_output=True, timeout=PATIENCE)
+        want("the planner's end", (killed.returncode, killed.stdout), (-signal.SIGKILL, b"version 1, base 1\n"))
+        back = Seat("east")
+        back.ask(b" 0,0 1,0", b"kept")
+        back.ask(b"commit", b"version 2")
+        back.close()
+        os.close(kept.lines)
+        want("what comes behind the last line", kept.hear(), None)
+        os.close(kept.answers)
+        want("why nobody comes", no_reader("east.in"), errno.ENXIO)
+        west.ask(b"version", b"version 2")
+        west.close()
+        hosted.operator.process.stdin.close()
+        hosted.ends(*AUDITED)
+
+
+def no_reader(pipe):
+    """Why it isn't opened for writing, before long, with no wait."""
+    for _ in range(100):
+        try:
+            os.close(os.open(pipe, os.O_WRONLY | os.O_NONBLOCK))
+        except OSError as why:
+            return why.errno
+        time.sleep(0.05)
+
+
 def tests():
     for test in (opened_in_each_order, written_before_it_is_read, gone_before_its_thread_waits, gone_without_a_line, half_a_planner,
-                 silent_for_longer_than_the_wait, names_that_go):
+                 silent_for_longer_than_the_wait, names_that_go, back_by_pipes_that_are_kept):
         yield test.__name__, test

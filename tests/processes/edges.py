@@ -10,6 +10,7 @@ from .comings import make_pipes
 from .growing import unheard
 from .hosting import Seat
 from .running import PATIENCE, Planner, Program, bytes_of, is_fault, put, remove, start, want
+from .texts import ADD, ONE_ENTRY
 
 
 def with_files(names, given):
@@ -54,11 +55,16 @@ def closed_input_of_a_host():
 
 
 def closed_error_of_a_session():
-    """The journal alone is in its file where standard error is closed at the start."""
+    """The journal alone is in its file where standard error is closed at the start, also where there is a fault to tell."""
     shell = 'exec "$0" serve --map m --save kept 2>&-'
     ran = subprocess.run(["sh", "-c", shell, Program.path], capture_output=True, input=b"agent 0 0,0 2,0\nfly\n", timeout=PATIENCE)
     want("the end", (ran.returncode, ran.stdout, ran.stderr), (0, b"version 1\nbad 2 word\n", b""))
-    want("the journal", bytes_of("kept"), b"journal 2\nmode stay\nentry 0 0 0 1\nagent 0 0,0 2,0\nend 1\n")
+    want("the journal", bytes_of("kept"), ONE_ENTRY)
+    remove("kept")
+    with open("/dev/full", "wb") as full:
+        ran = subprocess.run(["sh", "-c", shell, Program.path], stdout=full, input=ADD, timeout=PATIENCE)
+    want("the status", ran.returncode, 2)
+    want("the journal", bytes_of("kept"), ONE_ENTRY)
     remove("kept")
 
 

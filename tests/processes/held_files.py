@@ -13,7 +13,7 @@ import time
 
 from .growing import growths_apart, leave, settle
 from .hosting import Hosted
-from .running import PATIENCE, Planner, Program, Wrong, as_user, bytes_of, is_answered, is_fault, is_run, put, remove, run, start, want
+from .running import PATIENCE, USER, Planner, Program, Wrong, as_user, bytes_of, is_answered, is_fault, is_run, put, remove, run, start, want
 from .texts import ADD, FILES, JOURNAL, ONE_ENTRY
 
 WORDS = ["serve", "--map", "m", "--save"]
@@ -234,7 +234,7 @@ def one_of_those_that_saved(rounds, killing):
 
 
 def saved_at_once():
-    one_of_those_that_saved(100, False)
+    one_of_those_that_saved(300, False)
 
 
 def saved_at_once_and_killed():
@@ -326,6 +326,21 @@ def folder_that_takes_no_file():
         want("the file", bytes_of("kept"), ONE_ENTRY)
 
 
+def file_of_another_in_a_shared_folder():
+    """One who may not replace the file, as another's in a folder like /tmp, is told where the journal is kept; the file is as it was."""
+    if USER == os.geteuid():
+        return  # (who has no other user's rights makes no other user's file)
+    with in_a_folder():
+        shutil.copy2(Program.path, "desk"), os.chmod("desk", 0o755), os.chmod("m", 0o644)
+        os.mkdir("shared"), os.chmod("shared", 0o1777), put("shared/kept", JOURNAL), os.chmod("shared/kept", 0o644)
+        ran = subprocess.run(["./desk", *WORDS, "shared/kept"], input=ADD, capture_output=True, timeout=PATIENCE, preexec_fn=as_user)
+        fault = b"mapf_desk: can't write shared/kept: the journal is in shared/kept.0.mapf-kept\n"
+        want("the end", (ran.returncode, ran.stdout, ran.stderr), (2, b"version 1\n", fault))
+        want("the file", bytes_of("shared/kept"), JOURNAL)
+        want("the journal", bytes_of("shared/kept.0.mapf-kept"), ONE_ENTRY)
+        want("what is there", sorted(os.listdir("shared")), ["kept", "kept.0.mapf-kept"])
+
+
 def permissions_stay():
     """The file's permissions are those that it had; a new one has those of any new file."""
     with in_a_folder():
@@ -400,19 +415,17 @@ def room_of(size):
 
 
 def saved_in_any_room():
-    """A host is given room that lessens: each commit of the operator that was answered is in the journal, also where the program was
-    killed; the save takes no memory of its own."""
+    """A host is given room that grows: no signal ends it, and each commit of the operator that was answered is in the journal; the save takes
+    no memory of its own."""
     lines = b"agent 0 0,0 2,0\n" + b"".join(b"path 0 %s\n" % b" ".join([b"0,0"] * (it * 40 + 1)) for it in range(60))
     saved = 0
     with in_a_folder():
         for name in "xy":
             put(f"{name}.in", b"")
-        for size in range(8400, 13800, 50):
+        for size in (*range(8400, 12000, 200), *range(12000, 13800, 14)):
             remove("kept")
             status, said, complained = run(["host", "--map", "m", "--save", "kept", "x", "y"], lines, preexec_fn=room_of(size << 10))
-            if status < 0 or status == 127:
-                want(f"what was answered in room of {size} KiB, and then lost", said, "")
-                continue
+            want(f"whether the program ends by itself in room of {size} KiB", status in (0, 2), True)
             accepted = said.count("version ")
             if os.path.exists("kept"):
                 saved += 1
@@ -426,6 +439,6 @@ def saved_in_any_room():
 def tests():
     for test in (in_use_by_another_session, odd_names_in_one_line, in_use_by_a_host, names_alike_are_apart, folder_that_another_has_locked,
                  held_before_the_journal_is_read, saved_at_once, saved_at_once_and_killed, files_of_others, left_by_killed_sessions,
-                 never_to_be_saved, folder_that_takes_no_file, permissions_stay, kept_beside_a_folder, kept_beside_what_came_since, saved_with_no_page_more,
-                 saved_by_a_host_with_no_page_more, saved_in_any_room):
+                 never_to_be_saved, folder_that_takes_no_file, file_of_another_in_a_shared_folder, permissions_stay, kept_beside_a_folder,
+                 kept_beside_what_came_since, saved_with_no_page_more, saved_by_a_host_with_no_page_more, saved_in_any_room):
         yield test.__name__, test

@@ -272,7 +272,7 @@ def last_line_of_the_operator():
     is_run(["host", "--map", "m", "east"], b"close 0,0\nversion", (2, "version 1\naudit same\n", "mapf_desk: operator: ended within a line\n"))
     is_answered(["host", "--map", "m", "east"], b"close 0,0\nversion\n", "version 1\nversion 1\naudit same\n")
     fault = "mapf_desk: operator: ended within a line\n"
-    is_run(["host", "--map", "m", "--save", "kept", "east"], b"agent 0 0,0 2,0\ngoal 0 1,1", (2, "version 1\naudit same\n", fault))
+    is_run(["host", "--map", "m", "--save", "kept", "east"], b"agent 0 0,0 2,0\ngoal 0 1,0", (2, "version 1\naudit same\n", fault))
     want("the journal", bytes_of("kept"), b"journal 2\nmode stay\nentry 0 0 0 1\nagent 0 0,0 2,0\nend 1\n")
     remove("east.in", "east.out", "kept")
 

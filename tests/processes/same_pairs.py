@@ -11,6 +11,8 @@ LINKS = {
     "./a": None,
     "link": lambda: (os.symlink("a.in", "link.in"), os.symlink("a.out", "link.out")),
     "hard": lambda: (os.link("a.in", "hard.in"), os.link("a.out", "hard.out")),
+    "inputs": lambda: (os.symlink("a.in", "inputs.in"), put("inputs.out", b"")),
+    "answers": lambda: (put("answers.in", b""), os.symlink("a.out", "answers.out")),
     "crossed": lambda: (os.symlink("a.out", "crossed.in"), os.symlink("a.in", "crossed.out")),
 }
 
@@ -19,7 +21,7 @@ def two_names_of_one_pair():
     """Two planners that have a file in common are refused before a line is read, pipes and other files alike; so are two hosts of one pair."""
     for name, make in LINKS.items():
         for pipes in (True, False):
-            remove_pipes("link", "hard", "crossed")
+            remove_pipes(*LINKS)
             if pipes:
                 make_pipes("a")
                 keeps = os.open("a.in", os.O_RDWR)
@@ -35,7 +37,7 @@ def two_names_of_one_pair():
             want("the answers", pipes or bytes_of("a.out"), pipes or b"")
             if pipes:
                 os.close(keeps)
-    remove_pipes("a", "link", "hard", "crossed")
+    remove_pipes("a", *LINKS)
     with Hosted(["east"]) as hosted:
         [east] = hosted.seats()
         east.ask(b"version", b"version 0")

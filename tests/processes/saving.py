@@ -141,6 +141,43 @@ def not_saved_on_a_full_disk():
     remove(kept)
 
 
+APART = ["unshare", "--map-root-user", "--mount", "sh", "-c"]  # a shell whose mounts nobody else sees
+
+
+def on_a_disk(how, script, given, *words):
+    """What a shell does in a folder that has `disk`, a file system mounted so; none where nobody may mount one."""
+    if subprocess.run([*APART, "mount -t tmpfs none ."], capture_output=True).returncode != 0:
+        return None
+    os.mkdir("disk")
+    script = f"mount -t tmpfs -o {how} none disk || exit 9; {script}"
+    ran = subprocess.run([*APART, script, Program.path, *words], input=given, capture_output=True, timeout=PATIENCE)
+    os.rmdir("disk")
+    return ran.returncode, ran.stdout, ran.stderr.decode()
+
+
+def disk_that_is_read_alone():
+    """A file system that takes no file is told before a line is read."""
+    ended = on_a_disk("ro", '"$0" serve --map m --save disk/kept -v', ADD)
+    if ended:
+        want("the end", ended, (2, b"", "mapf_desk: can't write disk/kept\n  Read-only file system (os error 30)\n"))
+
+
+def disk_that_is_full():
+    """The file is as it was, and what its disk doesn't take is kept on another."""
+    name, many = own_name("kept"), 3000
+    script = 'cp journal "disk/$1"; "$0" serve --map m --save "disk/$1"; status=$?; cat "disk/$1"; exit $status'
+    put("journal", JOURNAL)
+    ended = on_a_disk("size=64k", script, ADD + b"goal 0 1,0\n" * many, name)
+    remove("journal")
+    if ended:
+        kept = kept_in(FOLDERS[0], name)
+        answers = b"".join(b"version %d\n" % it for it in range(1, many + 2))
+        want("the end", ended, (2, answers + JOURNAL, f"mapf_desk: can't write disk/{name}: the journal is in {kept}\n"))
+        entries = b"".join(b"entry 0 %d 0 1\ngoal 0 1,0\n" % it for it in range(1, many + 1))
+        want("the journal", bytes_of(kept), ONE_ENTRY.replace(b"end 1\n", entries + b"end %d\n" % (many + 1)))
+        remove(kept)
+
+
 def limit_of_files_is_told():
     """`./desk` ignores the signal that ends who writes more than a limit of the size of files lets: the save fails, and that is told."""
     kept = own_name("kept")
@@ -206,6 +243,7 @@ def saved_into_a_folder():
 
 def tests():
     for test in (saved, saved_in_another_mode, saved_from_a_map_on_standard_input, not_saved_where_no_session_begins, not_saved_over_another_file,
-                 broken_session_is_saved, saved_after_a_fault, not_saved_on_a_full_disk, limit_of_files_is_told, not_saved_where_the_file_became_a_folder,
-                 kept_elsewhere_where_the_folder_went, saved_in_place_of_a_link, saved_into_a_folder):
+                 broken_session_is_saved, saved_after_a_fault, not_saved_on_a_full_disk, disk_that_is_read_alone, disk_that_is_full,
+                 limit_of_files_is_told, not_saved_where_the_file_became_a_folder, kept_elsewhere_where_the_folder_went,
+                 saved_in_place_of_a_link, saved_into_a_folder):
         yield test.__name__, test

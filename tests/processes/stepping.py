@@ -31,12 +31,12 @@ WORDS = ["serve", "--map", "m", "--journal", "kept", "--save", "kept", "-v"]
 ELSEWHERE = ["make", "write", "sync"]  # what is done in another folder
 
 
-def code_of_filter():
-    """The filter: the calls above are asked about, those that open a file where they make it; all others go on."""
+def code_of_filter(calls):
+    """The filter: these calls are asked about, those that open a file where they make it; all others go on."""
     load, is_equal, has, answer = 0x20, 0x15, 0x45, 6
     asks, lets_go = (answer, 0, 0, 0x7FC00000), (answer, 0, 0, 0x7FFF0000)
     code = []
-    for call, name in CALLS.items():
+    for call, name in calls.items():
         code.append((load, 0, 0, 0))
         if name == "make":
             flags = 32 if call == 257 else 24
@@ -46,9 +46,9 @@ def code_of_filter():
     return [*code, lets_go]
 
 
-def set_filter(sender):
+def set_filter(sender, calls):
     """What the session does as it starts: it sets the filter, and sends what tells of its calls."""
-    code = code_of_filter()
+    code = code_of_filter(calls)
     text = b"".join(struct.pack("HBBI", *it) for it in code)
     library = ctypes.CDLL(None, use_errno=True)
 
@@ -67,10 +67,11 @@ def set_filter(sender):
 class Stepped:
     """A session that saves, whose calls wait."""
 
-    def __init__(self, lines, words=WORDS):
+    def __init__(self, lines, words=WORDS, calls=CALLS):
         here, there = socket.socketpair()
+        self.names = calls
         with here, there:
-            self.process = start(words, preexec_fn=set_filter(there), restore_signals=False)
+            self.process = start(words, preexec_fn=set_filter(there, calls), restore_signals=False)
             self.told = socket.recv_fds(here, 1, 1)[1][0]
         self.process.stdin.write(lines)
         self.process.stdin.close()
@@ -89,10 +90,10 @@ class Stepped:
             notice = bytearray(80)
             fcntl.ioctl(self.told, RECEIVE, notice)
             number, _, _, call, _, _, first = struct.unpack_from("QIIiIQQ", notice)
-            if CALLS[call] == "write" and first in (1, 2):
+            if self.names[call] == "write" and first in (1, 2):
                 self.answer(number)
             else:
-                yield number, CALLS[call]
+                yield number, self.names[call]
 
     def answer(self, number, refused=0):
         reply = struct.pack("QqiI", number, 0, -refused, 0 if refused else GO_ON)
