@@ -332,13 +332,13 @@ def file_of_another_in_a_shared_folder():
         return  # (who has no other user's rights makes no other user's file)
     with in_a_folder():
         shutil.copy2(Program.path, "desk"), os.chmod("desk", 0o755), os.chmod("m", 0o644)
-        os.mkdir("shared"), os.chmod("shared", 0o1777), put("shared/kept", JOURNAL), os.chmod("shared/kept", 0o644)
-        ran = subprocess.run(["./desk", *WORDS, "shared/kept"], input=ADD, capture_output=True, timeout=PATIENCE, preexec_fn=as_user)
-        fault = b"mapf_desk: can't write shared/kept: the journal is in shared/kept.0.mapf-kept\n"
+        os.mkdir("sticky"), os.chmod("sticky", 0o1777), put("sticky/kept", JOURNAL), os.chmod("sticky/kept", 0o644)
+        ran = subprocess.run(["./desk", *WORDS, "sticky/kept"], input=ADD, capture_output=True, timeout=PATIENCE, preexec_fn=as_user)
+        fault = b"mapf_desk: can't write sticky/kept: the journal is in sticky/kept.0.mapf-kept\n"
         want("the end", (ran.returncode, ran.stdout, ran.stderr), (2, b"version 1\n", fault))
-        want("the file", bytes_of("shared/kept"), JOURNAL)
-        want("the journal", bytes_of("shared/kept.0.mapf-kept"), ONE_ENTRY)
-        want("what is there", sorted(os.listdir("shared")), ["kept", "kept.0.mapf-kept"])
+        want("the file", bytes_of("sticky/kept"), JOURNAL)
+        want("the journal", bytes_of("sticky/kept.0.mapf-kept"), ONE_ENTRY)
+        want("what is there", sorted(os.listdir("sticky")), ["kept", "kept.0.mapf-kept"])
 
 
 def permissions_stay():
