@@ -5,10 +5,10 @@ ghost use Rattle.desk_audit.specs.Index.{IsIndexOf};
 ghost use Rattle.desk_audit.specs.Parts.{IsPart};
 
 use crate::faults::AuditFault;
-use crate::gates::Gate;
+use crate::gates::{Gate, NoGate};
 use crate::parts::Part;
 use crate::sightings::Sightings;
-use crate::threads::in_scope;
+use crate::threads::{in_scope, part_of};
 use desk_report::{Report, with_totals};
 use grid_cells::{List, OutOfMemory};
 use mapf_rules::sorted;
@@ -80,6 +80,20 @@ fn told<G: Gate, R: Threads + Wait>(
         Some(whole) => report_of(alloc, scene, whole),
         None => Err(OutOfMemory),
     }
+}
+
+/// The report of the scene, made from scratch with no thread, over an index of its own.
+///
+/// # Errors
+/// Want of memory.
+pub fn audit_alone(alloc: Global, scene: &Scene) -> Result<Report, OutOfMemory>
+    ensures { IfOk result (IsReportOf scene.now.grid scene.now.mode scene.now.rows) }
+{
+    let index = Sightings::new(alloc, scene.mode(), scene.plans())?;
+    let agents = scene.plans().count();
+    let found = part_of(alloc, scene, &index, 0, agents, 0, &NoGate);
+    drop(index);
+    report_of(alloc, scene, found?)
 }
 
 /// The report of the scene, made from scratch by that many threads. It uses no state but the

@@ -1,4 +1,4 @@
-//! The report of a scene, made from scratch in pieces, each by a thread of its own.
+//! The report of a scene, made from scratch: in pieces, each by a thread of its own, or with no thread.
 //!
 //! `sightings` is the index, filed in `tables`; it is made once and lent. `threads` starts a thread for
 //! each piece, under a promise that says what its part is; a part (`parts`) is made by `entries`, with
@@ -21,6 +21,6 @@ mod tables;
 mod threads;
 mod visits;
 
-pub use audits::audit;
+pub use audits::{audit, audit_alone};
 pub use faults::AuditFault;
 pub use gates::{Gate, NoGate};

@@ -26,8 +26,8 @@ impl<'a> Promise<Result<Part, OutOfMemory>> for Piece<'a> {
     ghost kept_by = { λ p r. IfOk r (IsPart p.scene.now.grid p.scene.now.mode p.scene.now.rows p.from p.to) };
 }
 
-// The part of a piece, whose thread begins at the gate.
-fn part_of<G: Gate>(
+/// The part of a piece, which begins at the gate.
+pub(crate) fn part_of<G: Gate>(
     alloc: Global,
     scene: &Scene,
     index: &Sightings,

@@ -18,6 +18,6 @@ mod sharing;
 pub use drilling::{MOST_SCRIPTS, hear_drill, run_drill};
 pub use hosts::{HostEnd, MOST_HOSTED, host_planners};
 pub use solver_check::{
-    BOUNDS, CheckFault, Fault, Hearing, HostFault, MOST_BYTES, MOST_HEARD, Outcome, Problem,
-    RunFault, SeatFault, Seats, run_check,
+    BOUNDS, CheckFault, Fault, Hearing, HostFault, Listing, MOST_BYTES, MOST_HEARD, Outcome,
+    Problem, RunFault, SeatFault, Seats, run_check,
 };

@@ -1,8 +1,9 @@
 -- The edits that a text of paths asks for (this project's choice).
-use Rattle.std.specs.Prelude.{ℕ, ◌+◌, Option, Some, None, Bool, true, false, List, [], ◌∷◌, ◌++◌, slice_get}
+use Rattle.std.specs.Prelude.{ℕ, ◌+◌, Option, Some, None, Bool, true, false, List, [], ◌∷◌, ◌++◌, length, slice_get, take}
 use Rattle.std.specs.Option.{option_and_then, option_or}
 use Rattle.grid_cells.specs.Cell.{Point}
 use Rattle.plan_table.specs.Path.{last_index}
+use Rattle.scene_edits.specs.Scene.{SceneState}
 use Rattle.scene_edits.specs.declared.edits.Edit.{Edit}
 use Rattle.scene_edits.specs.declared.edits.Edit.TheVariants.{Add, Drop, Goal, Path, Tail, Open, Close}
 use Rattle.path_files.specs.declared.paths.SolverPaths.{SolverPaths}
@@ -43,6 +44,15 @@ paths_from agent (path ∷ paths) = Path agent path ∷ paths_from (agent + 1) p
 abbrev pub edits_of : Bool → SolverPaths → List Edit
 edits_of true spelled = adds_of spelled ++ paths_from 0 spelled.paths
 edits_of false spelled = paths_from 0 spelled.paths
+
+-- what the text spells of the agents that there are: on a bare map of all, else of those of the scene
+abbrev pub of_agents : (bare : Bool) → SceneState → SolverPaths → SolverPaths
+of_agents true scene spelled = spelled
+of_agents false scene spelled = record spelled { paths = take (length scene.rows) spelled.paths }
+
+-- and what it asks for of them
+abbrev pub edits_within : (bare : Bool) → SceneState → SolverPaths → List Edit
+edits_within bare scene spelled = edits_of bare (of_agents bare scene spelled)
 
 -- the edit adds an agent or gives one a path
 abbrev pub IsOfPaths : Edit → Type 0

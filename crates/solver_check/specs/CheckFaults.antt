@@ -1,6 +1,6 @@
 -- Why there is no verdict, or no scene of a text of paths: the first fault of that text, the map, the scenario and the tasks, the
 -- agents and the paths (this project's choice). Want of memory is one fault, wherever it came.
-use Rattle.std.specs.Prelude.{◌≡◌, ◌⊎◌, ℕ, Bool, true, false, Option, List, [], length, unwrap_or, is_none, Result, Ok, Err}
+use Rattle.std.specs.Prelude.{◌≡◌, ◌⊎◌, ℕ, Bool, true, false, Option, Some, None, List, [], length, unwrap_or, is_none, Result, Ok, Err}
 use Rattle.grid_cells.specs.Size.{Extent}
 use Rattle.plan_table.specs.declared.tracks.Mode.{Mode}
 use Rattle.scene_edits.specs.Scene.{SceneState}
@@ -9,15 +9,17 @@ use Rattle.scene_edits.specs.declared.edits.Edit.{Edit}
 use Rattle.scene_edits.specs.declared.edits.Edit.TheVariants as edits
 use Rattle.scene_edits.specs.declared.edits.EditFault.{EditFault}
 use Rattle.path_files.specs.Texts.{paths_of}
-use Rattle.path_files.specs.declared.faults.PathsFault.TheVariants.{NoPaths}
+use Rattle.path_files.specs.declared.faults.PathsFault.{PathsFault}
 use Rattle.path_files.specs.declared.forms.Form.{Form}
 use Rattle.path_files.specs.declared.paths.SolverPaths.{SolverPaths}
 use Rattle.solver_check.specs.Opens.{Opens, IsOpenFault}
 use Rattle.solver_check.specs.declared.faults.RunFault.{RunFault}
 use Rattle.solver_check.specs.declared.faults.RunFault.TheVariants as run_fault
-use Rattle.solver_check.specs.CheckEdits.{edits_of}
+use Rattle.solver_check.specs.CheckEdits.{edits_of, edits_within}
 use Rattle.solver_check.specs.CheckTimes.{time_of_fault}
+use Rattle.solver_check.specs.Unread.{verdict_unread}
 use Rattle.solver_check.specs.Wrongs.{wrongs_of}
+use Rattle.solver_check.specs.declared.checks.judging.Verdict.{Verdict}
 use Rattle.solver_check.specs.declared.checks.faults.CheckFault.{CheckFault}
 use Rattle.solver_check.specs.declared.checks.faults.CheckFault.TheVariants.{Paths, Run, Agent, Path, WriteFailed, OutOfMemory}
 
@@ -87,30 +89,28 @@ IsUnopened map scen agents paths form (Path agent time why) = ⊥
 IsUnopened map scen agents paths form WriteFailed = ⊥
 IsUnopened map scen agents paths form OutOfMemory = Unit {0}
 
--- the solver found no paths
-abbrev pub is_without_paths : CheckFault → Bool
-is_without_paths (Paths NoPaths) = true
-is_without_paths fault = false
-
--- the text has no paths, and the map and the tasks make no scene
+-- the text isn't read and has a verdict, and the map and the tasks make no scene
 pub record HasOpenFaultAlone (map : List ℕ) (scen : Option (List ℕ)) (agents : Option ℕ) (paths : List ℕ) (form : Option Form) (why : RunFault) : Type 0 where
-  pub reads : paths_of form paths ≡ Err NoPaths
+  pub unread : PathsFault
+  pub verdict : Verdict
+  pub reads : paths_of form paths ≡ Err unread
+  pub told : verdict_unread unread ≡ Some verdict
   pub first : IsOpenFault map scen (unwrap_or agents 0) why
 
--- the scene opens, no path is wrong, and it refuses one for which it has no agent
-pub record IsBeyond (map : List ℕ) (scen : Option (List ℕ)) (agents : Option ℕ) (mode : Mode) (paths : List ℕ) (form : Option Form) (fault : CheckFault) : Type 0 where
+-- the scene opens, no path is wrong, and it refuses one of an agent that there is
+pub record IsDisallowed (map : List ℕ) (scen : Option (List ℕ)) (agents : Option ℕ) (mode : Mode) (paths : List ℕ) (form : Option Form) (fault : CheckFault) : Type 0 where
   pub spelled : SolverPaths
   pub opened : SceneState
   pub opens : Spells map scen agents mode paths form spelled opened
   pub right : wrongs_of (is_none scen) opened spelled ≡ []
-  pub first : IsFirstRefusal opened (edits_of (is_none scen) spelled) fault
+  pub first : IsFirstRefusal opened (edits_within (is_none scen) opened spelled) fault
 
--- why there is no verdict: the first fault of what a check reads, unless that is that there are no paths
+-- why there is no verdict: the first fault of what a check reads, unless a text of paths has a verdict by it
 abbrev pub IsUnjudged : List ℕ → Option (List ℕ) → Option ℕ → Mode → List ℕ → Option Form → CheckFault → Type 0
-IsUnjudged map scen agents mode paths form (Paths why) = (paths_of form paths ≡ Err why) × (is_without_paths (Paths why) ≡ false)
+IsUnjudged map scen agents mode paths form (Paths why) = (paths_of form paths ≡ Err why) × (verdict_unread why ≡ None)
 IsUnjudged map scen agents mode paths form (Run why) = HasOpenFault map scen agents paths form why ⊎ HasOpenFaultAlone map scen agents paths form why
-IsUnjudged map scen agents mode paths form (Agent agent why) = IsBeyond map scen agents mode paths form (Agent agent why)
-IsUnjudged map scen agents mode paths form (Path agent time why) = IsBeyond map scen agents mode paths form (Path agent time why)
+IsUnjudged map scen agents mode paths form (Agent agent why) = IsDisallowed map scen agents mode paths form (Agent agent why)
+IsUnjudged map scen agents mode paths form (Path agent time why) = IsDisallowed map scen agents mode paths form (Path agent time why)
 IsUnjudged map scen agents mode paths form WriteFailed = ⊥
 IsUnjudged map scen agents mode paths form OutOfMemory = Unit {0}
 

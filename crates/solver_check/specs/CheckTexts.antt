@@ -10,10 +10,10 @@ use Rattle.mapf_rules.specs.declared.kinds.Kinds.{Kinds}
 use Rattle.desk_report.specs.declared.reports.AgentLine.{AgentLine}
 use Rattle.desk_report.specs.declared.reports.Report.{Report}
 use Rattle.session_protocol.specs.Replies.{version_line}
-use Rattle.solver_check.specs.FindingTexts.{difference_line, wrong_line}
+use Rattle.solver_check.specs.FindingTexts.{difference_line, repeated_line, wrong_line}
 use Rattle.solver_check.specs.declared.checks.differences.Difference.{Difference}
 use Rattle.solver_check.specs.declared.checks.judging.Verdict.{Verdict}
-use Rattle.solver_check.specs.declared.checks.judging.Verdict.TheVariants.{NoPaths, Wrong, Judged}
+use Rattle.solver_check.specs.declared.checks.judging.Verdict.TheVariants.{NoPaths, Repeated, Wrong, Judged}
 use Rattle.solver_check.specs.declared.checks.wrongs.Wrong as wrongs
 
 -- how many of the agents are finished
@@ -65,12 +65,14 @@ wrong_body wrongs differences = flat_map wrong_line wrongs ++ flat_map differenc
 -- what a verdict says before its answer
 abbrev pub findings_text : Bool → Verdict → List ℕ
 findings_text quiet NoPaths = line_text (codes "no" ∷ codes "paths" ∷ [])
+findings_text quiet (Repeated line) = repeated_line line
 findings_text quiet (Wrong wrongs differences) = wrong_body wrongs differences
 findings_text quiet (Judged report differences solved) = report_body quiet report differences
 
 -- its answer: whether the paths solve the problem
 abbrev pub says_yes : Verdict → Bool
 says_yes NoPaths = false
+says_yes (Repeated line) = false
 says_yes (Wrong wrongs differences) = false
 says_yes (Judged report differences solved) = solved
 

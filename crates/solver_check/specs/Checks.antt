@@ -15,8 +15,10 @@ use Rattle.solver_check.specs.CheckFaults.{tasks_taken, IsUnjudged}
 use Rattle.solver_check.specs.declared.checks.faults.CheckFault.{CheckFault}
 use Rattle.solver_check.specs.declared.checks.faults.CheckFault.TheVariants.{WriteFailed}
 use Rattle.solver_check.specs.CheckTexts.{check_text, says_yes}
+use Rattle.solver_check.specs.Listings.{is_quiet, listed}
 use Rattle.solver_check.specs.Verdicts.{IsVerdict}
 use Rattle.solver_check.specs.declared.checks.judging.Verdict.{Verdict}
+use Rattle.solver_check.specs.declared.checks.listings.Listing.{Listing}
 
 -- the scene that opens from the map and the tasks, with the agents and the paths that the text spells, all of them allowed
 pub record IsPlanned (map : List ℕ) (scen : Option (List ℕ)) (agents : Option ℕ) (mode : Mode) (paths : List ℕ) (form : Option Form) (scene : SceneState) : Type 0 where
@@ -28,17 +30,17 @@ pub record IsPlanned (map : List ℕ) (scen : Option (List ℕ)) (agents : Optio
   pub is : scene ≡ edited_all opened (edits_of (is_none scen) spelled)
 
 -- what a check that comes to its end has written and answers
-pub record Checks (map : List ℕ) (scen : Option (List ℕ)) (agents : Option ℕ) (mode : Mode) (paths : List ℕ) (form : Option Form) (kinds : Kinds) (quiet : Bool) (held0 held1 : Option (List ℕ)) (solved : Bool) : Type 0 where
+pub record Checks (map : List ℕ) (scen : Option (List ℕ)) (agents : Option ℕ) (mode : Mode) (paths : List ℕ) (form : Option Form) (kinds : Kinds) (listing : Listing) (held0 held1 : Option (List ℕ)) (solved : Bool) : Type 0 where
   pub verdict : Verdict
   pub is : IsVerdict map scen agents mode paths form kinds verdict
   pub answer : solved ≡ says_yes verdict
-  pub written : Appends held0 held1 (check_text quiet verdict)
+  pub written : Appends held0 held1 (check_text (is_quiet listing) (listed listing kinds verdict))
 
 -- the sink failed, and a prefix of what the check writes went out
-pub record StopsInCheck (map : List ℕ) (scen : Option (List ℕ)) (agents : Option ℕ) (mode : Mode) (paths : List ℕ) (form : Option Form) (kinds : Kinds) (quiet : Bool) (held0 held1 : Option (List ℕ)) : Type 0 where
+pub record StopsInCheck (map : List ℕ) (scen : Option (List ℕ)) (agents : Option ℕ) (mode : Mode) (paths : List ℕ) (form : Option Form) (kinds : Kinds) (listing : Listing) (held0 held1 : Option (List ℕ)) : Type 0 where
   pub verdict : Verdict
   pub is : IsVerdict map scen agents mode paths form kinds verdict
-  pub sent : AppendsFront held0 held1 (check_text quiet verdict)
+  pub sent : AppendsFront held0 held1 (check_text (is_quiet listing) (listed listing kinds verdict))
 
 -- how a check fails: by the first fault of what it reads, else, where there is none, by its writer
 abbrev pub IsCheckFault : List ℕ → Option (List ℕ) → Option ℕ → Mode → List ℕ → Option Form → CheckFault → Type 0

@@ -1,6 +1,6 @@
--- Where a text of paths differs from the problem, or from itself: fewer paths than agents are asked for, another number of agents, lists
+-- Where a text of paths differs from the problem, or from itself: more or fewer paths than agents, another number of agents, lists
 -- of another length than there are paths, or starts and goals that aren't those of the scenario (this project's choice).
-use Rattle.std.specs.Prelude.{ℕ, ◌+◌, ◌==◌, nat_lt, Option, Some, None, List, [], ◌∷◌, ◌++◌, length, slice_get, if◌then◌else◌}
+use Rattle.std.specs.Prelude.{ℕ, ◌+◌, ◌==◌, Bool, true, false, Option, Some, None, List, [], ◌∷◌, ◌++◌, length, slice_get, if◌then◌else◌}
 use Rattle.std.specs.Option.{option_map, option_and_then, option_to_list}
 use Rattle.grid_cells.specs.Cell.{Point}
 use Rattle.plan_table.specs.Plans.{row_of}
@@ -39,15 +39,14 @@ abbrev pub ends_from : SceneState → SolverPaths → ℕ → List (List Point) 
 ends_from scene spelled agent [] = []
 ends_from scene spelled agent (path ∷ paths) = ends_apart scene spelled agent ++ ends_from scene spelled (agent + 1) paths
 
--- how many paths and agents there are, where the paths are fewer
-abbrev pub lacking : SceneState → SolverPaths → Option Difference
-lacking scene spelled =
-    if nat_lt (length spelled.paths) (length scene.rows) then Some (Paths (length spelled.paths) (length scene.rows)) else None
+-- how many agents there are: those of the tasks, or on a bare map one for each path
+abbrev pub agents_due : (bare : Bool) → SceneState → SolverPaths → ℕ
+agents_due true scene spelled = length spelled.paths
+agents_due false scene spelled = length scene.rows
 
--- how many agents there are: one for each path, or for each task where these are more
-abbrev pub agents_due : SceneState → SolverPaths → ℕ
-agents_due scene spelled =
-    if nat_lt (length spelled.paths) (length scene.rows) then length scene.rows else length spelled.paths
+-- how many paths and agents there are, where they aren't as many
+abbrev pub paths_apart : (paths agents : ℕ) → Option Difference
+paths_apart paths agents = if paths == agents then None else Some (Paths paths agents)
 
 -- the number of agents that the text tells, where it is another
 abbrev pub agents_apart : Option ℕ → ℕ → Option Difference
@@ -64,13 +63,13 @@ goals_uneven (Some goals) paths = if length goals == paths then None else Some (
 goals_uneven None paths = None
 
 -- the numbers that differ: of paths, of agents, of starts and of goals
-abbrev pub counts_apart : SceneState → SolverPaths → List Difference
-counts_apart scene spelled =
-    option_to_list (lacking scene spelled)
-    ++ (option_to_list (agents_apart spelled.agents (agents_due scene spelled))
+abbrev pub counts_apart : (bare : Bool) → SceneState → SolverPaths → List Difference
+counts_apart bare scene spelled =
+    option_to_list (paths_apart (length spelled.paths) (agents_due bare scene spelled))
+    ++ (option_to_list (agents_apart spelled.agents (agents_due bare scene spelled))
     ++ (option_to_list (starts_uneven spelled.starts (length spelled.paths))
     ++ option_to_list (goals_uneven spelled.goals (length spelled.paths))))
 
 -- where a text differs from the scene of the map and the tasks
-abbrev pub differences_of : SceneState → SolverPaths → List Difference
-differences_of scene spelled = counts_apart scene spelled ++ ends_from scene spelled 0 spelled.paths
+abbrev pub differences_of : (bare : Bool) → SceneState → SolverPaths → List Difference
+differences_of bare scene spelled = counts_apart bare scene spelled ++ ends_from scene spelled 0 spelled.paths

@@ -24,6 +24,10 @@ wrong_line (NotAStep agent time before cell) = cells_line agent time (codes "not
 abbrev pub counted_line : List ℕ → (found due : ℕ) → List ℕ
 counted_line what found due = line_text (codes "differs" ∷ what ∷ decimal found ∷ decimal due ∷ [])
 
+-- the line of the text that has a list for the second time
+abbrev pub repeated_line : ℕ → List ℕ
+repeated_line line = line_text (codes "differs" ∷ codes "line" ∷ decimal line ∷ [])
+
 -- an agent's cell in a list, and the due one
 abbrev pub listed_line : List ℕ → ℕ → Point → Point → List ℕ
 listed_line list agent listed due = line_text (codes "differs" ∷ list ∷ decimal agent ∷ cell_text listed ∷ cell_text due ∷ [])

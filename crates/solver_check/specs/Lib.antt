@@ -6,8 +6,10 @@ pub mod Wrongs
 pub mod Differences
 pub mod FindingTexts
 pub mod CheckTexts
+pub mod Unread
 pub mod CheckFaults
 pub mod Verdicts
+pub mod Listings
 pub mod Checks
 pub mod Bounds
 pub mod Inputs

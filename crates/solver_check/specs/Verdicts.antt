@@ -1,10 +1,10 @@
 -- The verdict on the paths of a text (this project's choice).
-use Rattle.std.specs.Prelude.{◌≡◌, ◌≢◌, ◌↔◌, IsTrue, ℕ, List, [], Option, Err, Bool, is_none, unwrap_or}
+use Rattle.std.specs.Prelude.{◌≡◌, ◌≢◌, ◌↔◌, ◌⊎◌, IsTrue, ℕ, List, [], Option, Some, Err, Bool, is_none, unwrap_or}
 use Rattle.plan_table.specs.declared.tracks.Mode.{Mode}
 use Rattle.scene_edits.specs.Scene.{SceneState}
 use Rattle.scene_edits.specs.InOrder.{edited_all, AreAllowed}
 use Rattle.path_files.specs.Texts.{paths_of}
-use Rattle.path_files.specs.declared.faults.PathsFault.TheVariants as paths
+use Rattle.path_files.specs.declared.faults.PathsFault.{PathsFault}
 use Rattle.path_files.specs.declared.forms.Form.{Form}
 use Rattle.path_files.specs.declared.paths.SolverPaths.{SolverPaths}
 use Rattle.desk_report.specs.Report.{IsReportOf}
@@ -12,13 +12,14 @@ use Rattle.desk_report.specs.Solves.{Solves}
 use Rattle.desk_report.specs.declared.reports.Report.{Report}
 use Rattle.mapf_rules.specs.declared.kinds.Kinds.{Kinds}
 use Rattle.solver_check.specs.Opens.{Opens}
-use Rattle.solver_check.specs.CheckEdits.{edits_of}
+use Rattle.solver_check.specs.CheckEdits.{edits_within}
 use Rattle.solver_check.specs.CheckFaults.{Spells}
 use Rattle.solver_check.specs.Differences.{differences_of}
+use Rattle.solver_check.specs.Unread.{verdict_unread}
 use Rattle.solver_check.specs.Wrongs.{wrongs_of}
 use Rattle.solver_check.specs.declared.checks.differences.Difference.{Difference}
 use Rattle.solver_check.specs.declared.checks.judging.Verdict.{Verdict}
-use Rattle.solver_check.specs.declared.checks.judging.Verdict.TheVariants.{NoPaths, Wrong, Judged}
+use Rattle.solver_check.specs.declared.checks.judging.Verdict.TheVariants.{NoPaths, Repeated, Wrong, Judged}
 
 -- the report of the scene, and whether that says that the problem is solved, from which the text of paths differs nowhere
 pub record IsAnswered (scene : SceneState) (kinds : Kinds) (report : Report) (differences : List Difference) (solved : Bool) : Type 0 where
@@ -29,21 +30,25 @@ pub record IsAnswered (scene : SceneState) (kinds : Kinds) (report : Report) (di
 abbrev pub IsJudged : SceneState → List Difference → Kinds → Verdict → Type 0
 IsJudged scene found kinds (Judged report differences solved) = (differences ≡ found) × IsAnswered scene kinds report differences solved
 IsJudged scene found kinds NoPaths = ⊥
+IsJudged scene found kinds (Repeated line) = ⊥
 IsJudged scene found kinds (Wrong wrongs differences) = ⊥
 
 -- the verdict on the paths of a text, on the scene that opens from the map and the tasks: those that aren't any, or else the answer for
 -- the scene that they make, in which all of them are allowed
 abbrev pub IsOn : (bare : Bool) → SolverPaths → SceneState → Kinds → Verdict → Type 0
 IsOn bare spelled opened kinds NoPaths = ⊥
+IsOn bare spelled opened kinds (Repeated line) = ⊥
 IsOn bare spelled opened kinds (Wrong wrongs differences) =
-    (wrongs ≡ wrongs_of bare opened spelled) × (wrongs ≢ []) × (differences ≡ differences_of opened spelled)
+    (wrongs ≡ wrongs_of bare opened spelled) × (wrongs ≢ []) × (differences ≡ differences_of bare opened spelled)
 IsOn bare spelled opened kinds (Judged report differences solved) =
-    (wrongs_of bare opened spelled ≡ []) × AreAllowed opened (edits_of bare spelled)
-    × IsJudged (edited_all opened (edits_of bare spelled)) (differences_of opened spelled) kinds (Judged report differences solved)
+    (wrongs_of bare opened spelled ≡ []) × AreAllowed opened (edits_within bare opened spelled)
+    × IsJudged (edited_all opened (edits_within bare opened spelled)) (differences_of bare opened spelled) kinds (Judged report differences solved)
 
--- the text has no paths, and the map and the tasks make a scene
-pub record HasNoPaths (map : List ℕ) (scen : Option (List ℕ)) (agents : Option ℕ) (mode : Mode) (text : List ℕ) (form : Option Form) : Type 0 where
-  pub reads : paths_of form text ≡ Err paths.NoPaths
+-- this is the verdict on a text that isn't read, and the map and the tasks make a scene
+pub record IsUnread (map : List ℕ) (scen : Option (List ℕ)) (agents : Option ℕ) (mode : Mode) (text : List ℕ) (form : Option Form) (verdict : Verdict) : Type 0 where
+  pub fault : PathsFault
+  pub reads : paths_of form text ≡ Err fault
+  pub told : verdict_unread fault ≡ Some verdict
   pub opened : SceneState
   pub opens : Opens map scen (unwrap_or agents 0) mode opened
 
@@ -56,5 +61,5 @@ pub record IsSpelled (map : List ℕ) (scen : Option (List ℕ)) (agents : Optio
 
 -- the verdict
 abbrev pub IsVerdict : List ℕ → Option (List ℕ) → Option ℕ → Mode → List ℕ → Option Form → Kinds → Verdict → Type 0
-IsVerdict map scen agents mode text form kinds NoPaths = HasNoPaths map scen agents mode text form
-IsVerdict map scen agents mode text form kinds verdict = IsSpelled map scen agents mode text form kinds verdict
+IsVerdict map scen agents mode text form kinds verdict =
+    IsUnread map scen agents mode text form verdict ⊎ IsSpelled map scen agents mode text form kinds verdict

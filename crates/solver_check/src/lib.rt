@@ -8,7 +8,8 @@
 //!
 //! In `checks`, for the word `check`, `edits` are what a text of paths asks for, `scenes` the scene
 //! that it makes, `times` the time at which a path is refused; `wrongs` are the paths that aren't any,
-//! `differences` and `counts` where the text differs from the problem, `judging` is the verdict; `texts`,
+//! `differences` and `counts` where the text differs from the problem, `judging` is the verdict, `unread`
+//! that on texts that aren't read to their end; `listings` leaves out what isn't to be printed; `texts`,
 //! `findings` and `quiet` write it; `faults` has what a verdict or a picture fails by.
 #![tactic(auto)]
 
@@ -25,11 +26,11 @@ mod shown;
 pub use bounds::{
     BOUNDS, MOST_BYTES, MOST_HOSTED_BYTES, MOST_HOSTED_LINES, MOST_LINES, SEAT_BOUNDS,
 };
-pub use checks::{CheckFault, planned_scene, run_check};
+pub use checks::{CheckFault, Listing, planned_scene, run_check};
 pub use faults::{Fault, RunFault};
 pub use heard::Heard;
 pub use hearing::{Hearing, MOST_HEARD};
-pub use reporting::{is_same, report_of};
+pub use reporting::{Alone, Auditor, InThreads, is_same, report_of};
 pub use scenes::{Problem, scene_of};
 pub use seats::{HostFault, Outcome, SeatFault, Seats};
 pub use shown::{Shown, letter_of};

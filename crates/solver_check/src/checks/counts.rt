@@ -1,32 +1,32 @@
 //! Where a text of paths has other numbers than the problem, or than itself.
 ghost use Rattle.std.specs.Prelude.{◌≡◌, ◌++◌, OnOk};
-ghost use Rattle.solver_check.specs.Differences.{agents_apart, agents_due, counts_apart, goals_uneven, lacking, starts_uneven};
+ghost use Rattle.solver_check.specs.Differences.{agents_apart, agents_due, counts_apart, goals_uneven, paths_apart, starts_uneven};
 
 use crate::checks::differences::{Difference, add};
 use grid_cells::{Cell, List, OutOfMemory};
 use path_files::SolverPaths;
 use scene_edits::Scene;
 
-// How many paths and agents there are, where the paths are fewer.
-fn lacking(scene: &Scene, spelled: &SolverPaths) -> Option<Difference>
-    ensures { result ≡ lacking scene.now spelled.now }
+// How many agents there are: those of the tasks, or on a bare map one for each path.
+fn agents_due(scene: &Scene, spelled: &SolverPaths, bare: bool) -> usize
+    ensures { result ≡ agents_due bare scene.now spelled.now }
 {
-    let paths = spelled.paths.items().len();
-    let agents = scene.plans().count() as usize;
-    if paths < agents {
-        Some(Difference::Paths { paths, agents })
+    if bare {
+        spelled.paths.items().len()
     } else {
-        None
+        scene.plans().count() as usize
     }
 }
 
-// How many agents there are: one for each path, or for each task where these are more.
-fn agents_due(scene: &Scene, spelled: &SolverPaths) -> usize
-    ensures { result ≡ agents_due scene.now spelled.now }
+// How many paths and agents there are, where they aren't as many.
+fn paths_apart(paths: usize, agents: usize) -> Option<Difference>
+    ensures { result ≡ paths_apart paths agents }
 {
-    let paths = spelled.paths.items().len();
-    let agents = scene.plans().count() as usize;
-    if agents > paths { agents } else { paths }
+    if paths == agents {
+        None
+    } else {
+        Some(Difference::Paths { paths, agents })
+    }
 }
 
 // The number of agents that is told, where it is another.
@@ -73,15 +73,14 @@ pub(crate) fn add_counts(
     found: &mut Vec<Difference>,
     scene: &Scene,
     spelled: &SolverPaths,
+    bare: bool,
 ) -> Result<(), OutOfMemory>
-    ensures { OnOk result (found.new.items ≡ found.old.items ++ counts_apart scene.now spelled.now) }
+    ensures { OnOk result (found.new.items ≡ found.old.items ++ counts_apart bare scene.now spelled.now) }
 {
     let paths = spelled.paths.items().len();
-    add(found, lacking(scene, spelled))?;
-    add(
-        found,
-        agents_apart(spelled.agents, agents_due(scene, spelled)),
-    )?;
+    let agents = agents_due(scene, spelled, bare);
+    add(found, paths_apart(paths, agents))?;
+    add(found, agents_apart(spelled.agents, agents))?;
     add(found, starts_uneven(&spelled.starts, paths))?;
     add(found, goals_uneven(&spelled.goals, paths))
 }

@@ -15,7 +15,7 @@ use std::alloc::Global;
 /// Where a text of paths differs from the problem, or from itself.
 #[derive(Clone, Copy)]
 pub(crate) enum Difference {
-    /// There are fewer paths than agents.
+    /// There are more or fewer paths than agents.
     Paths {
         paths: usize,
         agents: usize,
@@ -123,9 +123,9 @@ fn add_ends(
     add(found, goal_apart(agent, goal, goal_of(scene, agent)))
 }
 
-/// Where the text of paths differs from the scene of the map and the tasks: whether it has fewer
-/// paths, tells another number of agents, or lists more or fewer starts or goals than paths; and by
-/// agent each start and goal that it lists otherwise, which on a bare map it doesn't.
+/// Where the text of paths differs from the scene of the map and the tasks: whether it has more or
+/// fewer paths, tells another number of agents, or lists more or fewer starts or goals than paths;
+/// and by agent each start and goal that it lists otherwise, which on a bare map it doesn't.
 ///
 /// # Errors
 /// Want of memory.
@@ -133,12 +133,13 @@ pub(crate) fn differences_of(
     alloc: Global,
     scene: &Scene,
     spelled: &SolverPaths,
+    bare: bool,
 ) -> Result<Vec<Difference>, OutOfMemory>
     requires { length spelled.now.paths ≤ MOST_AGENTS }
-    ensures { IfOk result (λ found. found.items ≡ differences_of scene.now spelled.now) }
+    ensures { IfOk result (λ found. found.items ≡ differences_of bare scene.now spelled.now) }
 {
     let mut found = Vec::new(alloc);
-    add_counts(&mut found, scene, spelled)?;
+    add_counts(&mut found, scene, spelled, bare)?;
     for (number, _) in spelled.paths.items().iter().enumerate() {
         add_ends(&mut found, scene, spelled, agent_of(number))?;
     }

@@ -1,5 +1,5 @@
 ghost use Rattle.std.specs.Prelude.{◌≡◌};
-ghost use Rattle.solver_check.specs.CheckFaults.{is_without_paths, of_run};
+ghost use Rattle.solver_check.specs.CheckFaults.{of_run};
 
 use crate::faults::RunFault;
 use grid_cells::Agent;
@@ -46,11 +46,4 @@ impl From<RunFault> for CheckFault {
             fault => CheckFault::Run(fault),
         }
     }
-}
-
-/// Whether that is why there is no scene: the solver found no paths.
-pub(crate) fn is_without_paths(fault: &CheckFault) -> bool
-    ensures { result ≡ is_without_paths fault.now }
-{
-    matches!(fault, CheckFault::Paths(PathsFault::NoPaths))
 }

@@ -3,7 +3,7 @@ ghost use Rattle.std.specs.Prelude.{◌≡◌, ◌||◌, is_err, OnErr, OnOk};
 ghost use Rattle.std.specs.List.{flat_map};
 ghost use Rattle.std.specs.Io.KnownBytes.{Appends};
 ghost use Rattle.desk_report.specs.Bytes.{AppendsFront, Puts};
-ghost use Rattle.solver_check.specs.FindingTexts.{cell_line, cells_line, counted_line, difference_line, listed_line, wrong_line};
+ghost use Rattle.solver_check.specs.FindingTexts.{cell_line, cells_line, counted_line, difference_line, listed_line, repeated_line, wrong_line};
 
 use crate::checks::differences::Difference;
 use crate::checks::wrongs::Wrong;
@@ -82,6 +82,20 @@ pub(crate) fn put_wrongs<W: Sink>(sink: &mut W, wrongs: &[Wrong]) -> Result<(), 
         put_wrong(sink, *wrong)?;
     }
     Ok(())
+}
+
+/// Writes the line of the text that has a list for the second time.
+///
+/// # Errors
+/// The sink failed, or took no byte: a prefix of the text went out.
+pub(crate) fn put_repeated<W: Sink>(sink: &mut W, line: usize) -> Result<(), WriteFailed>
+    ensures { Puts W.held W.broken sink.old sink.new result (repeated_line line) }
+{
+    put_line(
+        sink,
+        b"differs",
+        &[Word::Text(b"line"), Word::Number(line as u64)],
+    )
 }
 
 // The line of the agent's cell in a list, and of its due one.

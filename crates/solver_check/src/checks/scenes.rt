@@ -2,7 +2,7 @@
 ghost use Rattle.std.specs.Prelude.{◌≡◌, ◌≤◌, length, IfOk, IfErr, OnOk};
 ghost use Rattle.scene_edits.specs.InOrder.{edited_all, AreAllowed};
 ghost use Rattle.scene_edits.specs.declared.scenes.TheConstants.{MOST_AGENTS};
-ghost use Rattle.solver_check.specs.CheckEdits.{edits_of, IsOfPaths};
+ghost use Rattle.solver_check.specs.CheckEdits.{edits_of, edits_within, IsOfPaths, of_agents};
 ghost use Rattle.solver_check.specs.CheckFaults.{IsPlanFault, IsRefused, IsUnopened, Spells, TellsFault};
 ghost use Rattle.solver_check.specs.Checks.{IsPlanned};
 ghost use Rattle.solver_check.specs.Opens.{bytes_of};
@@ -11,10 +11,11 @@ use crate::checks::edits::edits_of;
 use crate::checks::faults::CheckFault;
 use crate::checks::times::time_of;
 use crate::scenes::{Problem, scene_of};
-use grid_cells::{OutOfMemory, Size};
+use grid_cells::{List, OutOfMemory, Size};
 use path_files::{Form, PathsFault, SolverPaths, read_paths};
 use scene_edits::{Edit, EditFault, EditsFault, Scene};
 use std::alloc::Global;
+use std::mem;
 
 // The fault of an agent, or of a path.
 fn refusal_of(size: Size, edit: &Edit, why: EditFault) -> CheckFault
@@ -32,11 +33,22 @@ fn refusal_of(size: Size, edit: &Edit, why: EditFault) -> CheckFault
     }
 }
 
-/// Gives the scene the paths, and on a bare map the agents before them.
-///
-/// # Errors
-/// The first agent or path that the scene refuses, or want of memory.
-pub(crate) fn plan(
+// Keeps what the text spells of the agents that there are: on a bare map all, else of the scene's.
+fn keep_agents(alloc: Global, scene: &Scene, bare: bool, spelled: &mut SolverPaths)
+    requires { length spelled.old.paths ≤ MOST_AGENTS }
+    ensures is { spelled.new ≡ of_agents bare scene.now spelled.old }
+    ensures few { length spelled.new.paths ≤ MOST_AGENTS }
+{
+    if !bare {
+        let count = scene.plans().count() as usize;
+        let mut paths = mem::replace(&mut spelled.paths, List::new(Vec::new(alloc))).into_items();
+        paths.truncate(count);
+        spelled.paths = List::new(paths);
+    }
+}
+
+// Gives the scene the paths, and on a bare map the agents before them, unless it refuses one.
+fn plan(
     alloc: Global,
     scene: &mut Scene,
     spelled: SolverPaths,
@@ -58,6 +70,26 @@ pub(crate) fn plan(
             Err(refusal_of(scene.grid().size(), &edits[index], why))
         }
     }
+}
+
+/// Gives the scene the paths of the agents that there are, and on a bare map these before them.
+///
+/// # Errors
+/// The first agent or path that the scene refuses, or want of memory.
+pub(crate) fn plan_agents(
+    alloc: Global,
+    scene: &mut Scene,
+    spelled: SolverPaths,
+    bare: bool,
+) -> Result<(), CheckFault>
+    requires { length spelled.paths ≤ MOST_AGENTS }
+    ensures ok { OnOk result (AreAllowed scene.old (edits_within bare scene.old spelled)
+        × (scene.new ≡ edited_all scene.old (edits_within bare scene.old spelled))) }
+    ensures err { IfErr result (IsRefused scene.old (edits_within bare scene.old spelled)) }
+{
+    let mut kept = spelled;
+    keep_agents(alloc, scene, bare, &mut kept);
+    plan(alloc, scene, kept, bare)
 }
 
 /// What a text of paths spells, and the scene that it is judged on.

@@ -4,7 +4,7 @@ ghost use Rattle.desk_report.specs.Bytes.{AppendsFront};
 ghost use Rattle.solver_check.specs.CheckTexts.{body_text, check_text, findings_text, report_body, says_yes, wrong_body};
 
 use crate::checks::differences::Difference;
-use crate::checks::findings::{put_differences, put_wrongs};
+use crate::checks::findings::{put_differences, put_repeated, put_wrongs};
 use crate::checks::judging::Verdict;
 use crate::checks::quiet::put_quiet;
 use crate::checks::wrongs::Wrong;
@@ -63,6 +63,7 @@ fn put_findings<W: Sink>(writer: &mut W, quiet: bool, verdict: &Verdict) -> Resu
 {
     match verdict {
         Verdict::NoPaths => put_line(writer, b"no", &[Word::Text(b"paths")]),
+        Verdict::Repeated { line } => put_repeated(writer, *line),
         Verdict::Wrong {
             wrongs,
             differences,
@@ -81,11 +82,11 @@ pub(crate) fn says_yes(verdict: &Verdict) -> bool
 {
     match verdict {
         Verdict::Judged { solved, .. } => *solved,
-        Verdict::NoPaths | Verdict::Wrong { .. } => false,
+        Verdict::NoPaths | Verdict::Repeated { .. } | Verdict::Wrong { .. } => false,
     }
 }
 
-/// Writes the verdict: that there are no paths, those that aren't any, or version 0 and the report,
+/// Writes the verdict: that there are no paths, the line of a list that stood before, the paths that aren't any, or version 0 and the report,
 /// whole or quiet; where the text differs from the problem; and the answer.
 ///
 /// # Errors
