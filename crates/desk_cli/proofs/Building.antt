@@ -1,17 +1,19 @@
--- A command to which arguments and words were added in turn.
+-- A command to which arguments, or words, were added in turn.
 use Rattle.std.specs.Borrow.{Bor}
 use Rattle.std.specs.List.{AllZip}
 use Rattle.std.proofs.Common.{◌≡◌, ◌∙◌, ◌<◌, ◌+◌, ◌||◌, ℕ, Bool, true, false, List, [], ◌∷◌, ◌++◌, length, take, get_or, ap, refl, sym, subst}
 use Rattle.std.proofs.lemmas.List.{take_more}
 use Rattle.std.proofs.lemmas.Slice.Zip.{all_zipped_more}
-use Rattle.clap.specs.Built.{AddsArg, AddsInTurn}
-use Rattle.clap.specs.Simple.{App, app_of, with_rule}
+use Rattle.clap.specs.Built.{AddsArg, AddsInTurn, AddsSubcommand}
+use Rattle.clap.specs.Simple.{App, Shape, app_of, with_rule, with_subcommand}
 use Rattle.clap.specs.Walk.{rule_of}
 use Rattle.clap.specs.declared.builder.arg.Arg.{Arg}
 use Rattle.clap.specs.declared.builder.command.Command.{Command}
 use Rattle.clap.specs.declared.builder.command.Command.TheViews.{out-Command as fields_of}
-use Rattle.desk_cli.specs.Grammar.{rule_for, with_arguments}
+use Rattle.desk_cli.specs.Grammar.{app_for, rule_for, with_arguments}
+use Rattle.desk_cli.specs.Program.{with_words}
 use Rattle.desk_cli.specs.declared.arguments.Argument.{Argument}
+use Rattle.desk_cli.specs.declared.commands.Word.{Word}
 
 -- the parser's argument
 abbrev pub IsFor : Argument → Arg → Type 0
@@ -37,3 +39,22 @@ with_all_arguments (argument ∷ arguments) (arg ∷ args) old new (first, later
     let none : (fields_of middle).has_globals ≡ (fields_of old).has_globals =
     adds.globals ∙ ap (λ (b : Bool). (fields_of old).has_globals || b) first.1 ∙ or_false (fields_of old).has_globals in
     (last.0 ∙ ap (λ (app : App). with_arguments app arguments) one, last.1 ∙ none)
+
+-- the word's command
+abbrev pub IsOf : Word → Command → Type 0
+IsOf word command = (app_of command ≡ app_for word) × ((fields_of command).has_globals ≡ false)
+
+pub one_more_word : (words : List Word) (i : ℕ) (commands : List Command) (command : Command) (d : Word) → i < length words → AllZip IsOf (take i words) commands → IsOf (get_or words i d) command → AllZip IsOf (take (i + 1) words) (commands ++ command ∷ [])
+one_more_word words i commands command d inside are is =
+    subst (λ (t : List Word). AllZip IsOf t (commands ++ command ∷ [])) (sym (take_more words i d inside))
+    (all_zipped_more IsOf (take i words) commands (get_or words i d) command are is)
+
+-- with the commands of words added in turn it has their apps
+pub with_all_words : (words : List Word) (commands : List Command) (old new : Command) → AllZip IsOf words commands → AddsInTurn AddsSubcommand old commands new → app_of new ≡ with_words (app_of old) words
+with_all_words [] [] old new are is = ap app_of (sym is)
+with_all_words [] (command ∷ commands) old new are is = absurd are
+with_all_words (word ∷ words) [] old new are is = absurd are
+with_all_words (word ∷ words) (command ∷ commands) old new (first, later) (middle, adds, rest) =
+    let one : app_of middle ≡ with_subcommand (app_of old) (app_for word).top =
+    adds.shape first.1 ∙ ap (λ (app : App). with_subcommand (app_of old) app.top) first.0 in
+    with_all_words words commands middle new later rest ∙ ap (λ (app : App). with_words app words) one

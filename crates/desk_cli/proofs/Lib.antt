@@ -1,3 +1,4 @@
 mod Building
 pub mod Among
 pub mod Cuts
+pub mod Found

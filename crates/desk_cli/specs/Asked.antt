@@ -1,20 +1,22 @@
 -- What the words ask for, by what the parser found in them (this project's choice).
-use Rattle.std.specs.Prelude.{◌≡◌, ◌≢◌, ◌⊎◌, ℕ, Bool, List, [], Some, None, true, false, option_map, unwrap_or, codes}
+use Rattle.std.specs.Prelude.{◌≡◌, ◌≢◌, ◌⊎◌, ℕ, Bool, List, [], Option, Some, None, false, true, option_map, unwrap_or, codes}
 use Rattle.std.specs.Option.{option_copied}
 use Rattle.session_lines.specs.Kinds.{named_kinds}
 use Rattle.session_lines.specs.declared.versions.LinesVersion.{LinesVersion}
 use Rattle.session_lines.specs.declared.versions.LinesVersion.TheVariants.{One, Two}
 use Rattle.clap.specs.Matches.{first_value, found_of, has_subcommand, matched_of, one_text, raw_values, subcommand_name_of}
-use Rattle.clap.specs.Simple.{subcommand_rows_of}
+use Rattle.clap.specs.Simple.{App, HasMatchesOf, subcommand_rows_of}
 use Rattle.clap.specs.Walk.{rows_of}
 use Rattle.clap.specs.declared.parser.matches.ArgMatches.{ArgMatches}
 use Rattle.clap.specs.declared.parser.matches.Found.{Found}
+use Rattle.desk_cli.specs.Program.{IsProgram}
 use Rattle.desk_cli.specs.Values.{
   file_named,
   number_given,
   range_of,
   texts_given,
   texts_in,
+  is_sync_named,
   mode_named,
   lines_named,
   form_named,
@@ -48,6 +50,8 @@ pub record AsksToServe (usual : LinesVersion) (found : Found) (words : ServeWord
   pub mode : words.mode ≡ mode_named (first_value found (codes "mode"))
   pub journal : option_copied words.journal ≡ first_value found (codes "journal")
   pub save : option_copied words.save ≡ first_value found (codes "save")
+  pub log : option_copied words.log ≡ first_value found (codes "log")
+  pub sync : words.is_synced ≡ is_sync_named (first_value found (codes "sync"))
   pub lines : words.lines ≡ lines_named usual (first_value found (codes "lines"))
 
 pub record AsksToAudit (found : Found) (words : AuditWords) : Type 0 where
@@ -82,6 +86,7 @@ pub record AsksToCheck (found : Found) (words : CheckWords) : Type 0 where
   pub form : words.form ≡ form_named (first_value found (codes "form"))
   pub kinds : words.kinds ≡ kinds_named (option_map raw_values (matched_of found (codes "solves")))
   pub quiet : IsFlag found (codes "quiet") words.quiet
+  pub only : IsFlag found (codes "only") words.only
   pub workers : words.workers ≡ unwrap_or (number_given found (codes "workers")) 4
 
 pub record AsksToDraw (found : Found) (words : DrawWords) : Type 0 where
@@ -126,7 +131,7 @@ pub record AsksInWord (matches : ArgMatches) (words : Words) : Type 0 where
 
 -- a session without files
 abbrev pub usual_words : ServeWords
-usual_words = record { map = None; scen = None; agents = 0; limit = 100000; mode = Stay; journal = None; save = None; lines = One }
+usual_words = record { map = None; scen = None; agents = 0; limit = 100000; mode = Stay; journal = None; save = None; log = None; is_synced = true; lines = One }
 
 -- what all words ask for: the version by its flag, before all else; that of the word that was met; or a session, where none was
 abbrev pub Asks : ArgMatches → Words → Type 0
@@ -158,3 +163,13 @@ abbrev pub IsNothing : Asked → Type 0
 IsNothing (For words verbose) = ⊥
 IsNothing (Refused error) = Unit {0}
 IsNothing NoMemory = Unit {0}
+
+-- what the program's parser finds in the words
+abbrev pub IsMatched : List (List ℕ) → ArgMatches → Type 0
+IsMatched words matches = (app : App) × IsProgram app × HasMatchesOf app words matches
+
+-- where something is asked for, what the program's parser finds in the words asks for it
+abbrev pub IsAskedBy : List (List ℕ) → Asked → Type 0
+IsAskedBy words (For asked verbose) = (matches : ArgMatches) × IsMatched words matches × Asks matches asked × IsVerbose matches verbose
+IsAskedBy words (Refused error) = Unit {0}
+IsAskedBy words NoMemory = Unit {0}

@@ -1,3 +1,4 @@
 pub mod Values
 pub mod Asked
 pub mod Grammar
+pub mod Program

@@ -1,5 +1,25 @@
 -- What the values of options stand for (this project's choice).
-use Rattle.std.specs.Prelude.{ℕ, Bool, true, false, ◌==◌, nat_le, List, [], Option, Some, None, map, option_map, option_and_then, unwrap_or, codes, bytes_eq, if◌then◌else◌}
+use Rattle.std.specs.Prelude.{
+  ℕ,
+  Bool,
+  true,
+  false,
+  not,
+  ◌==◌,
+  nat_le,
+  List,
+  [],
+  Option,
+  Some,
+  None,
+  map,
+  option_map,
+  option_and_then,
+  unwrap_or,
+  codes,
+  bytes_eq,
+  if◌then◌else◌,
+}
 use Rattle.std.specs.List.{before_first, after_first}
 use Rattle.std.specs.Borrow.{Bor}
 use Rattle.bench_reader.specs.Words.{number_of}
@@ -35,6 +55,11 @@ texts_given found name = unwrap_or (option_map raw_values (matched_of found name
 abbrev pub mode_named : Option (List ℕ) → Mode
 mode_named None = Stay
 mode_named (Some text) = if bytes_eq text (codes "disappear") then Disappear else Stay
+
+-- a log is synced, unless off is named
+abbrev pub is_sync_named : Option (List ℕ) → Bool
+is_sync_named None = true
+is_sync_named (Some text) = not (bytes_eq text (codes "off"))
 
 -- the version of lines that is named, or the usual one
 abbrev pub lines_named : LinesVersion → Option (List ℕ) → LinesVersion

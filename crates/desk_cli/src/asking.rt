@@ -1,9 +1,9 @@
 //! What the program's words ask for.
-ghost use Rattle.std.specs.Prelude.{IfOk};
-ghost use Rattle.desk_cli.specs.Asked.{Asks, AsksSo, IsToldBehind, IsVerbose};
+ghost use Rattle.std.specs.Prelude.{IfOk, IfSome, map, string_bytes};
+ghost use Rattle.desk_cli.specs.Asked.{Asks, AsksSo, IsAskedBy, IsMatched, IsToldBehind, IsVerbose};
 
-use crate::commands::command;
 use crate::mistakes::{mistake_in, refused};
+use crate::program::command;
 use crate::reading::{named_words, usual_words};
 use crate::words::{Asked, Words};
 use clap::{ArgMatches, Error};
@@ -60,7 +60,10 @@ fn asked_of(alloc: Global, matches: &ArgMatches<'static>) -> Asked
 }
 
 // The words as their parser matches them; none where memory is short.
-fn matched<'a>(alloc: Global, words: &'a [String]) -> Option<Result<ArgMatches<'a>, Error>> {
+#[tactic(auto, using(crate::proofs::Found::found_by))]
+fn matched<'a>(alloc: Global, words: &'a [String]) -> Option<Result<ArgMatches<'a>, Error>>
+    ensures { IfSome result (λ read. IfOk read (IsMatched (map string_bytes words.entry.now))) }
+{
     match command(alloc) {
         Ok(command) => Some(command.try_get_matches_from(words)),
         Err(_) => None,
@@ -68,7 +71,10 @@ fn matched<'a>(alloc: Global, words: &'a [String]) -> Option<Result<ArgMatches<'
 }
 
 /// What the program's words, its name first, ask for; they stay as long as it runs.
-pub fn read_words(alloc: Global, words: &'static [String]) -> Asked {
+#[tactic(auto, using(crate::proofs::Found::asked_by))]
+pub fn read_words(alloc: Global, words: &'static [String]) -> Asked
+    ensures { IsAskedBy (map string_bytes words.entry.now) result }
+{
     match matched(alloc, words) {
         Some(Ok(matches)) => {
             let asked = asked_of(alloc, &matches);

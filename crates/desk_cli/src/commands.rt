@@ -1,41 +1,40 @@
-//! The program's words, as data, and as their parser takes them.
-ghost use Rattle.std.specs.Prelude.{◌≡◌, IfOk, false};
-ghost use Rattle.clap.specs.Simple.{app_of};
-ghost use Rattle.clap.specs.declared.builder.command.Command.TheViews.{out-Command as fields_of};
-ghost use Rattle.desk_cli.specs.Grammar.{app_for};
-
-use crate::arguments::{Argument, parsed};
+//! The program's words, as data.
+use crate::arguments::Argument;
+use crate::check_options::ONLY;
 use crate::helping::{
     ABOUT, AUDIT_HELP, CHECK_HELP, DRAW_HELP, DRILL_HELP, HOST_HELP, PAGE_HELP, PROGRAM_HELP,
     SERVE_HELP,
 };
 use crate::options::{
-    AGENTS, AGENTS_OF_PATHS, FORM, JOURNAL, JOURNAL_OF_AN_AUDIT, LIMIT, LINES, LINES_OF_PLANNERS,
-    LINES_OF_SCRIPTS, MAP, MAP_OR_INPUT, MODE, NAMES, NEEDED_PATHS, PATHS, QUIET, SAVE, SCEN,
-    SCEN_OF_PATHS, SCRIPTS, SOLVES, VERBOSE, VERBOSE_DRILL, VERSION, WAIT, WORKERS,
+    AGENTS, AGENTS_OF_PATHS, FORM, JOURNAL, JOURNAL_OF_AN_AUDIT, LIMIT, LINES, LOG, MAP,
+    MAP_OR_INPUT, MODE, NEEDED_PATHS, PATHS, QUIET, SAVE, SCEN, SCEN_OF_PATHS, SOLVES, SYNC,
+    VERBOSE, VERSION, WORKERS,
 };
 use crate::picture_options::{
     AGENTS_OF_A_PICTURE, AT, JOURNAL_OF_A_PICTURE, SHOWN, SOLVES_OF_A_PICTURE, TITLE,
 };
-use clap::Command;
-use std::alloc::{AllocError, Global};
+use crate::planner_options::{
+    LINES_OF_PLANNERS, LINES_OF_SCRIPTS, NAMES, SCRIPTS, VERBOSE_DRILL, WAIT,
+};
 
-// A word, with its arguments in the order in which help names them.
-struct Word {
-    name: &'static str,
-    about: &'static str,
-    help: &'static str,
-    arguments: &'static [Argument],
+/// A word, with its arguments in the order in which help names them.
+pub(crate) struct Word {
+    pub name: &'static str,
+    pub about: &'static str,
+    pub help: &'static str,
+    pub arguments: &'static [Argument],
 }
 
-const PROGRAM: Word = Word {
+/// The program, without a word.
+pub(crate) const PROGRAM: Word = Word {
     name: "mapf_desk",
     about: ABOUT,
     help: PROGRAM_HELP,
     arguments: &[VERSION, VERBOSE],
 };
 
-const WORDS: [Word; 7] = [
+/// The program's words.
+pub(crate) const WORDS: [Word; 7] = [
     Word {
         name: "serve",
         about: "Serves one planner's session from standard input to standard output",
@@ -48,6 +47,8 @@ const WORDS: [Word; 7] = [
             MODE,
             JOURNAL,
             SAVE,
+            LOG,
+            SYNC,
             LINES,
             VERBOSE,
         ],
@@ -112,6 +113,7 @@ const WORDS: [Word; 7] = [
             MODE,
             FORM,
             SOLVES,
+            ONLY,
             WORKERS,
             QUIET,
             VERBOSE,
@@ -160,28 +162,4 @@ pub(crate) fn arguments_of(name: &str) -> &'static [Argument] {
         }
     }
     &[]
-}
-
-// The command of a word.
-fn command_of<'a>(alloc: Global, word: &Word) -> Result<Command<'a>, AllocError>
-    ensures app { IfOk result (λ command. app_of command ≡ app_for word.now) }
-    ensures local { IfOk result (λ command. (fields_of command).has_globals ≡ false) }
-{
-    let mut arguments = Vec::new(alloc);
-    for argument in word.arguments {
-        arguments.push(parsed(alloc, *argument)?)?;
-    }
-    Command::new(alloc, word.name)
-        .about(word.about)
-        .after_help(word.help)
-        .args(arguments)
-}
-
-/// The program's words, as their parser takes them.
-pub(crate) fn command<'a>(alloc: Global) -> Result<Command<'a>, AllocError> {
-    let mut words = Vec::new(alloc);
-    for word in &WORDS {
-        words.push(command_of(alloc, word)?)?;
-    }
-    command_of(alloc, &PROGRAM)?.subcommands(words)
 }

@@ -56,6 +56,8 @@ try, what a commit would change.
 With --save F the journal is in F when the session is over, in place of one that was there: Ctrl-D
 ends it, Ctrl-C kills it and saves nothing. With --journal F the next session goes on from there; both
 may name one file.
+With --log F in their place each commit is in F before it is answered, so that it outlives the end of
+the program at any moment: the next session with --log F goes on from there.
 
 Statuses: 0 the input has ended; 2 a fault, reported on standard error.
 
@@ -112,8 +114,15 @@ says, and else the first and the last cells of the paths.
 check prints the report, as audit does, and solves yes or solves no: yes if every agent comes to its
 goal, no path crosses a closed cell, and there is no conflict of the kinds that count. What
 solvers call an edge conflict, two agents that change places, is swap; edge is two agents that make
-the same move. A path that isn't one has a line wrong AGENT TIME WHY CELL.., and there is no report.
-The paths of - come on standard input.
+the same move. With --only the report lists no conflicts of other kinds. The paths of - come on
+standard input.
+
+With one of these lines it is solves no, whatever the report says:
+  wrong AGENT TIME WHY CELL..   the agent's path isn't one, by its first cell at fault
+  differs WHAT ..               the number of paths, or agents=, starts= or goals= of their file, isn't
+                                that of the scenario, of --agents or of the paths; or stands there twice
+  no paths                      the file has none, as a solver prints that found none
+There is no report with lines wrong, or with no paths.
 
 Statuses: 0 solves yes; 1 solves no; 2 a fault, reported on standard error: there is no verdict.
 

@@ -3,12 +3,16 @@
 
 mod arguments;
 mod asking;
+mod check_options;
 mod commands;
 mod helping;
+mod kinds;
 mod mistakes;
 mod options;
 mod pages;
 mod picture_options;
+mod planner_options;
+mod program;
 mod ranges;
 mod reading;
 mod values;

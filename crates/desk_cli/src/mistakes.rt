@@ -5,8 +5,9 @@ ghost use Rattle.desk_cli.specs.Asked.{IsNothing};
 ghost use Rattle.desk_cli.specs.Values.{number_given};
 
 use crate::arguments::{Argument, Value};
-use crate::commands::{arguments_of, command};
+use crate::commands::arguments_of;
 use crate::helping::RANGE_MISTAKE;
+use crate::program::command;
 use crate::ranges::range_of;
 use crate::values::number_given;
 use crate::words::Asked;

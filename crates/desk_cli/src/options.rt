@@ -12,7 +12,8 @@ pub(crate) const FILE: Argument = Argument {
     help: "",
 };
 
-const FLAG: Argument = Argument {
+/// An option without a value.
+pub(crate) const FLAG: Argument = Argument {
     value: Value::Nothing,
     ..FILE
 };
@@ -91,6 +92,21 @@ pub(crate) const SAVE: Argument = Argument {
     ..FILE
 };
 
+pub(crate) const LOG: Argument = Argument {
+    name: "log",
+    excluded: &["journal", "save"],
+    help: "The log, whose entries are committed first, and which has each commit before it is answered",
+    ..FILE
+};
+
+pub(crate) const SYNC: Argument = Argument {
+    name: "sync",
+    value: Value::OneOf("S", &["on", "off"]),
+    usual: &["on"],
+    help: "Whether a commit is on the disk before it is answered; else it outlives the program alone",
+    ..FILE
+};
+
 pub(crate) const PATHS: Argument = Argument {
     name: "paths",
     help: "The paths, as a solver wrote them",
@@ -138,50 +154,11 @@ pub(crate) const LINES: Argument = Argument {
     ..FILE
 };
 
-pub(crate) const LINES_OF_SCRIPTS: Argument = Argument {
-    help: "The version of the scripts' lines; 2 has more questions",
-    ..LINES
-};
-
-pub(crate) const LINES_OF_PLANNERS: Argument = Argument {
-    usual: &["2"],
-    help: "The version of the planners' and the operator's lines; 2 has more questions",
-    ..LINES
-};
-
-pub(crate) const SCRIPTS: Argument = Argument {
-    name: "script",
-    value: Value::Listed("SCRIPT"),
-    is_needed: true,
-    help: "A planner's session, one file for each planner, from 1 to 255 of them",
-    ..FILE
-};
-
-pub(crate) const WAIT: Argument = Argument {
-    name: "wait",
-    value: Value::Number("S", 0, 86_400),
-    help: "How many seconds a planner may take to come, from 0 to 86400; for ever if it isn't given",
-    ..FILE
-};
-
-pub(crate) const NAMES: Argument = Argument {
-    name: "name",
-    value: Value::Listed("NAME"),
-    is_needed: true,
-    help: "A planner, who writes lines to NAME.in and reads answers from NAME.out; 1 to 255 of them",
-    ..FILE
-};
-
 pub(crate) const VERBOSE: Argument = Argument {
     name: "verbose",
     short: Some('v'),
     help: "Say more of a fault, in a second line on standard error",
     ..FLAG
-};
-
-pub(crate) const VERBOSE_DRILL: Argument = Argument {
-    help: "Say more of a fault, and how the lines of each script were answered, on standard error",
-    ..VERBOSE
 };
 
 pub const VERSION: Argument = Argument {

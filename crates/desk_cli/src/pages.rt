@@ -2,7 +2,8 @@
 ghost use Rattle.clap.specs.Matches.{found_of};
 ghost use Rattle.desk_cli.specs.Asked.{AsksToPage};
 
-use crate::values::{kinds_given, mode_given, number_given, paths_given, text_given};
+use crate::kinds::kinds_given;
+use crate::values::{mode_given, number_given, paths_given, text_given};
 use crate::words::PageWords;
 use clap::ArgMatches;
 

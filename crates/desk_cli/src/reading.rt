@@ -4,11 +4,12 @@ ghost use Rattle.clap.specs.Matches.{found_of};
 ghost use Rattle.desk_cli.specs.Values.{mode_named, number_given};
 ghost use Rattle.desk_cli.specs.Asked.{AsksFor, AsksToAudit, AsksToCheck, AsksToDraw, AsksToDrill, AsksToHost, AsksToServe, usual_words};
 
+use crate::kinds::{kinds_asked, kinds_given};
 use crate::pages::page_words;
 use crate::ranges::range_of;
 use crate::values::{
-    form_given, kinds_asked, kinds_given, lines_given, mode_given, number_given, paths_given,
-    text_given, texts_given,
+    form_given, is_synced, lines_given, mode_given, number_given, paths_given, text_given,
+    texts_given,
 };
 use crate::words::{AuditWords, CheckWords, DrawWords, DrillWords, HostWords, ServeWords, Words};
 use clap::ArgMatches;
@@ -45,6 +46,8 @@ fn serve_words(matches: &ArgMatches<'static>, usual: LinesVersion) -> ServeWords
         mode: mode_given(matches),
         journal: matches.get_str("journal"),
         save: matches.get_str("save"),
+        log: matches.get_str("log"),
+        is_synced: is_synced(matches),
         lines: lines_given(matches, usual),
     }
 }
@@ -101,6 +104,7 @@ fn check_words(matches: &ArgMatches<'static>) -> CheckWords
         form: form_given(matches),
         kinds: kinds_given(matches),
         quiet: matches.get_flag("quiet"),
+        only: matches.get_flag("only"),
         workers: workers_of(matches),
     }
 }
@@ -133,6 +137,8 @@ pub(crate) fn usual_words() -> ServeWords
         mode: Mode::Stay,
         journal: None,
         save: None,
+        log: None,
+        is_synced: true,
         lines: LinesVersion::One,
     }
 }

@@ -1,28 +1,25 @@
 //! The values of options, as the parser found them.
-ghost use Rattle.std.specs.Prelude.{◌≡◌, [], IfOk, bytes_eq, codes, option_and_then, option_map, unwrap_or};
-ghost use Rattle.std.specs.List.{list_any};
+ghost use Rattle.std.specs.Prelude.{◌≡◌, [], IfOk, codes, option_and_then, option_map, unwrap_or};
 ghost use Rattle.std.specs.Option.{option_copied};
 ghost use Rattle.clap.specs.Matches.{first_value, found_of, matched_of, raw_values};
-ghost use Rattle.session_lines.specs.Kinds.{named_kinds};
 ghost use Rattle.bench_reader.specs.Words.{number_of};
-ghost use Rattle.desk_cli.specs.Values.{file_named, form_named, kinds_named, lines_named, mode_named, number_given, texts_given, texts_in};
+ghost use Rattle.desk_cli.specs.Values.{
+  file_named,
+  form_named,
+  is_sync_named,
+  lines_named,
+  mode_named,
+  number_given,
+  texts_given,
+  texts_in,
+};
 
 use bench_reader::number_of;
 use clap::ArgMatches;
-use mapf_rules::Kinds;
 use path_files::Form;
 use plan_table::Mode;
 use session_lines::LinesVersion;
 use std::alloc::{AllocError, Global};
-
-/// The conflicts of the classical problem, which count if the words don't say.
-const CLASSICAL: Kinds = Kinds {
-    vertex: true,
-    edge: false,
-    follow: false,
-    swap: true,
-    cycle: false,
-};
 
 /// The text that an option names, or an empty one.
 pub(crate) fn text_given(matches: &ArgMatches<'static>, name: &str) -> &'static str
@@ -98,6 +95,22 @@ pub(crate) fn mode_given(matches: &ArgMatches<'static>) -> Mode
     mode_named(matches.get_str("mode"))
 }
 
+fn is_sync_named(text: Option<&str>) -> bool
+    ensures { result ≡ is_sync_named (option_copied text.entry) }
+{
+    match text {
+        Some(text) => text != "off",
+        None => true,
+    }
+}
+
+/// Whether a log is synced.
+pub(crate) fn is_synced(matches: &ArgMatches<'static>) -> bool
+    ensures { result ≡ is_sync_named (first_value (found_of matches.now) (codes "sync")) }
+{
+    is_sync_named(matches.get_str("sync"))
+}
+
 fn lines_named(usual: LinesVersion, text: Option<&str>) -> LinesVersion
     ensures { result ≡ lines_named usual (option_copied text.entry) }
 {
@@ -135,42 +148,4 @@ pub(crate) fn form_given(matches: &ArgMatches<'static>) -> Option<Form>
     ensures { result ≡ form_named (first_value (found_of matches.now) (codes "form")) }
 {
     form_named(matches.get_str("form"))
-}
-
-fn is_among(text: &str, words: &[&str]) -> bool
-    ensures { result ≡ list_any (λ word. bytes_eq word.now text.now) words.now }
-{
-    words.iter().any(|word| *word == text)
-}
-
-fn named_kinds(words: &[&str]) -> Kinds
-    ensures { result ≡ named_kinds (texts_in words.now) }
-{
-    Kinds {
-        vertex: is_among("vertex", words),
-        edge: is_among("edge", words),
-        follow: is_among("follow", words),
-        swap: is_among("swap", words),
-        cycle: is_among("cycle", words),
-    }
-}
-
-/// The kinds of conflicts that an option names, if it stands.
-pub(crate) fn kinds_asked(matches: &ArgMatches<'static>) -> Option<Kinds>
-    ensures { result ≡ option_map named_kinds (option_map raw_values (matched_of (found_of matches.now) (codes "solves"))) }
-{
-    match matches.get_strs("solves") {
-        Some(named) => Some(named_kinds(named)),
-        None => None,
-    }
-}
-
-/// The kinds of conflicts that count.
-pub(crate) fn kinds_given(matches: &ArgMatches<'static>) -> Kinds
-    ensures { result ≡ kinds_named (option_map raw_values (matched_of (found_of matches.now) (codes "solves"))) }
-{
-    match matches.get_strs("solves") {
-        Some(named) => named_kinds(named),
-        None => CLASSICAL,
-    }
 }

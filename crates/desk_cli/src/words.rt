@@ -38,6 +38,10 @@ pub struct ServeWords {
     pub journal: Option<&'static str>,
     /// The file that the journal is saved in.
     pub save: Option<&'static str>,
+    /// The file of a log that keeps the journal as it grows.
+    pub log: Option<&'static str>,
+    /// Whether an entry is on the disk before it is answered.
+    pub is_synced: bool,
     /// The version of the session's lines.
     pub lines: LinesVersion,
 }
@@ -113,6 +117,8 @@ pub struct CheckWords {
     pub kinds: Kinds,
     /// Whether conflicts are counted and not listed.
     pub quiet: bool,
+    /// Whether only the conflicts that count are listed.
+    pub only: bool,
     /// How many threads make the report, 1 to 64.
     pub workers: u32,
 }

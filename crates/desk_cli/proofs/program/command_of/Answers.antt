@@ -9,7 +9,7 @@ use Rattle.clap.specs.declared.builder.command.Command.TheViews.{out-Command as 
 use Rattle.desk_cli.specs.Grammar.{app_for, with_arguments}
 use Rattle.desk_cli.specs.declared.arguments.Argument.{Argument}
 use Rattle.desk_cli.proofs.Building.{IsFor, one_more_argument, with_all_arguments}
-use Rattle.desk_cli.proofs.commands.command_of.Goals as goal
+use Rattle.desk_cli.proofs.program.command_of.Goals as goal
 
 pub loop-argument-preserved : goal.loop-argument-preserved
 loop-argument-preserved c =

@@ -2,7 +2,7 @@ use Rattle.std.proofs.Common.{◌≡◌, ◌∙◌, codes}
 use Rattle.session_lines.specs.Kinds.{is_one_of}
 use Rattle.desk_cli.specs.Values.{texts_in}
 use Rattle.desk_cli.proofs.Among.{among_references}
-use Rattle.desk_cli.proofs.values.named_kinds.Goals as goal
+use Rattle.desk_cli.proofs.kinds.named_kinds.Goals as goal
 
 pub returns : goal.returns
 returns c =
