@@ -6,8 +6,7 @@ use Rattle.std.proofs.Common.{◌≡◌, ℕ, ◌+◌, ◌<◌, List, [], ◌∷
 use Rattle.std.proofs.lemmas.List.{get_or_default, take_more}
 use Rattle.std.proofs.lemmas.Slice.Zip.{all_zipped_more}
 use Rattle.solver_check.specs.declared.faults.Fault.{Fault}
-use Rattle.solver_check.specs.declared.faults.Fault.TheVariants.{AgentsWithoutScen}
-use Rattle.desk_io.specs.Texts.{AreTold, IsTold, IsUnread, IsUnreadOf}
+use Rattle.desk_io.specs.Texts.{AreTold, IsTold, IsUnread}
 
 -- one more file was read
 pub one_more_told : (holds : List ℕ → Option (List ℕ)) (files : List (Bor (List ℕ))) (i : ℕ) (all : List (Vec ℕ Global)) (bytes : Vec ℕ Global) (d : Bor (List ℕ)) → i < length files → AreTold holds (take i files) all → IsTold (holds (get_or files i d).now) bytes.items → AreTold holds (take (i + 1) files) (all ++ bytes ∷ [])
@@ -18,7 +17,3 @@ one_more_told holds files i all bytes d inside told read =
 -- the file at that place isn't read
 pub unread_at : (files : List (Bor (List ℕ))) (i : ℕ) (fault : Fault) (d : Bor (List ℕ)) → i < length files → IsUnread (get_or files i d).now fault → Any (λ (f : Bor (List ℕ)). IsUnread f.now fault) files
 unread_at files i fault d inside why = (i, get_or files i d, inside, get_or_default files i (get_or files i d) d inside, why)
-
--- what isn't read is no lack of a scenario
-pub not_lacking : (map scen journal : Option (List ℕ)) (fault : Fault) → IsUnreadOf map scen journal fault → fault ≡ AgentsWithoutScen → ⊥
-not_lacking map scen journal fault (file, named, why) is = subst (IsUnread file) is why

@@ -23,11 +23,32 @@ IsText holds None (Some text) = ⊥
 IsText holds (Some file) None = ⊥
 IsText holds (Some file) (Some text) = IsTold (holds file) text
 
+-- a text that begins as a log reads as the journal that its entries make, and any other stays
+abbrev pub ReadsBy : (is_log : Bool) → (bytes text : List ℕ) → Type 0
+ReadsBy true bytes text = (log : LogRead) × IsRead bytes log × (text ≡ log.journal.items)
+ReadsBy false bytes text = text ≡ bytes
+
+abbrev pub begins_as_log : List ℕ → Bool
+begins_as_log bytes = starts_with nat_eq bytes (codes "log ")
+
+abbrev pub ReadsAsJournal : (bytes text : List ℕ) → Type 0
+ReadsAsJournal bytes text = ReadsBy (begins_as_log bytes) bytes text
+
+-- the text is the journal that the bytes which are told of the file read as
+abbrev pub IsJournalTold : Option (List ℕ) → List ℕ → Type 0
+IsJournalTold told text = (bytes : List ℕ) × IsTold told bytes × ReadsAsJournal bytes text
+
+-- the text is that of the journal, where one is named, and else that of the paths
+abbrev pub IsCourses : (List ℕ → Option (List ℕ)) → (journal paths text : Option (List ℕ)) → Type 0
+IsCourses holds None paths text = IsText holds paths text
+IsCourses holds (Some file) paths None = ⊥
+IsCourses holds (Some file) paths (Some text) = IsJournalTold (holds file) text
+
 -- the texts are those of the files of these names, each in its place
-pub record AreTexts (holds : List ℕ → Option (List ℕ)) (map scen journal : Option (List ℕ)) (named : Named) : Type 0 where
+pub record AreTexts (holds : List ℕ → Option (List ℕ)) (map scen journal paths : Option (List ℕ)) (named : Named) : Type 0 where
   pub map_text : IsText holds map (option_map (λ b. b.items) named.map)
   pub scen_text : IsText holds scen (option_map (λ b. b.items) named.scen)
-  pub journal_text : IsText holds journal (option_map (λ b. b.items) named.journal)
+  pub courses_text : IsCourses holds journal paths (option_map (λ b. b.items) named.journal)
 
 -- the texts are those of these files, in their order
 abbrev pub AreTold : (List ℕ → Option (List ℕ)) → List (Bor (List ℕ)) → List (Vec ℕ Global) → Type 0
@@ -43,29 +64,19 @@ IsUnread file (CannotRead unread) = unread.now ≡ file
 IsUnread file (Run why) = why ≡ OutOfMemory
 IsUnread file other = ⊥
 
--- why one of the files that are named isn't read
-abbrev pub IsUnreadOf : (map scen journal : Option (List ℕ)) → Fault → Type 0
-IsUnreadOf map scen journal fault = (file : List ℕ) × ((map ≡ Some file) ⊎ ((scen ≡ Some file) ⊎ (journal ≡ Some file))) × IsUnread file fault
+-- the bytes are a log, and that line of it doesn't fit
+abbrev pub IsDamaged : List ℕ → Fault → Type 0
+IsDamaged bytes fault = (begins_as_log bytes ≡ true) × ((line : ℕ) × (fault ≡ Run (Journal (BadLine line))))
 
--- a log is damaged, or memory was wanting
-abbrev pub IsUnreadLog : Fault → Type 0
-IsUnreadLog fault = (fault ≡ Run OutOfMemory) ⊎ ((line : ℕ) × (fault ≡ Run (Journal (BadLine line))))
+-- why the journal in a file of that name isn't read: the file isn't, or the bytes that are told of it are a log, of which a line doesn't fit
+abbrev pub IsNoJournal : (List ℕ → Option (List ℕ)) → List ℕ → Fault → Type 0
+IsNoJournal holds file fault = IsUnread file fault ⊎ ((bytes : List ℕ) × IsTold (holds file) bytes × IsDamaged bytes fault)
 
--- a journal's file, where one is named, is a log that isn't read
-abbrev pub IsUnreadJournal : Option (List ℕ) → Fault → Type 0
-IsUnreadJournal journal fault = (file : List ℕ) × (journal ≡ Some file) × IsUnreadLog fault
-
--- why one of the files that are named isn't read, of which the last has a journal
-abbrev pub IsUnreadWith : (map scen journal : Option (List ℕ)) → Fault → Type 0
-IsUnreadWith map scen journal fault = IsUnreadOf map scen journal fault ⊎ IsUnreadJournal journal fault
-
--- a text that begins as a log reads as the journal that its entries make, and any other stays
-abbrev pub ReadsBy : (is_log : Bool) → (bytes text : List ℕ) → Type 0
-ReadsBy true bytes text = (log : LogRead) × IsRead bytes log × (text ≡ log.journal.items)
-ReadsBy false bytes text = text ≡ bytes
-
-abbrev pub ReadsAsJournal : (bytes text : List ℕ) → Type 0
-ReadsAsJournal bytes text = ReadsBy (starts_with nat_eq bytes (codes "log ")) bytes text
+-- why one of the files that are named isn't read; where a journal is, the paths aren't
+abbrev pub IsUnreadOf : (List ℕ → Option (List ℕ)) → (map scen journal paths : Option (List ℕ)) → Fault → Type 0
+IsUnreadOf holds map scen journal paths fault =
+    ((file : List ℕ) × ((map ≡ Some file) ⊎ ((scen ≡ Some file) ⊎ ((journal ≡ None) × (paths ≡ Some file)))) × IsUnread file fault)
+    ⊎ ((file : List ℕ) × (journal ≡ Some file) × IsNoJournal holds file fault)
 
 -- why a file of that name isn't held: it is told, or memory was wanting
 abbrev pub IsUnheld : List ℕ → Fault → Type 0

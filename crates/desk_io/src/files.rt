@@ -1,7 +1,7 @@
 //! The bytes of files.
 ghost use Rattle.std.specs.Prelude.{◌≡◌, ◌⊎◌, ℕ, List, Option, Some, None, IfErr, IfOk, Any, option_map};
 ghost use Rattle.std.specs.Option.{option_copied};
-ghost use Rattle.desk_io.specs.Texts.{AreTold, IsTold, IsText, IsUnread, IsUnreadLog};
+ghost use Rattle.desk_io.specs.Texts.{AreTold, IsJournalTold, IsNoJournal, IsTold, IsText, IsUnread};
 
 use crate::logs::as_journal;
 use crate::telling::More;
@@ -13,7 +13,7 @@ use std::rt::Files;
 
 /// What has files, by their names.
 pub trait Folder {
-    /// The bytes of the file of that name, or the text that a journal in it reads as, where they are told.
+    /// The bytes of the file of that name, where they are told.
     ghost holds: { Self → List ℕ → Option (List ℕ) };
 
     /// The bytes of a file; more is known of why it can't be read.
@@ -32,8 +32,8 @@ pub trait Folder {
     ///
     /// As `bytes`, or the log's first line that doesn't fit.
     fn journal(&self, file: &'static str, more: &mut More) -> Result<Vec<u8>, Fault>
-        ensures read { IfOk result (λ text. IsTold (holds self.now file.now) text.items) }
-        ensures unread { IfErr result (λ fault. IsUnread file.now fault ⊎ IsUnreadLog fault) };
+        ensures read { IfOk result (λ text. IsJournalTold (holds self.now file.now) text.items) }
+        ensures unread { IfErr result (IsNoJournal (holds self.now) file.now) };
 }
 
 /// The system's files.

@@ -47,7 +47,7 @@ pub use files::{Folder, System, all_bytes, named_bytes};
 pub use finishing::finish;
 pub use logs::{as_journal, tear_note};
 pub use looking::{HeldFile, hold_named};
-pub use named::{Named, read_courses, read_from, read_with_paths};
+pub use named::{Named, read_from};
 pub use noting::Noting;
 pub use patience::Patient;
 pub use prompting::Prompting;

@@ -1,6 +1,6 @@
 //! Logs that are read as journals.
-ghost use Rattle.std.specs.Prelude.{IfErr, IfOk};
-ghost use Rattle.desk_io.specs.Texts.{IsUnreadLog, ReadsAsJournal};
+ghost use Rattle.std.specs.Prelude.{◌≡◌, ◌⊎◌, ℕ, IfErr, IfOk};
+ghost use Rattle.desk_io.specs.Texts.{IsDamaged, ReadsAsJournal};
 
 use crate::telling::More;
 use desk_log::{LogFault, is_log, read_log};
@@ -18,7 +18,7 @@ pub fn tear_note(alloc: Global, bytes: usize) -> Option<String> {
 
 // The fault of a log that was to be read as a journal.
 fn fault_of(why: LogFault) -> Fault
-    ensures { IsUnreadLog result }
+    ensures { (result ≡ Fault.Run RunFault.OutOfMemory) ⊎ ((line : ℕ) × (result ≡ Fault.Run (RunFault.Journal (JournalFault.BadLine line)))) }
 {
     match why {
         LogFault::BadLine { line } => Fault::Run(RunFault::Journal(JournalFault::BadLine { line })),
@@ -34,7 +34,7 @@ fn fault_of(why: LogFault) -> Fault
 /// The log's first line that doesn't fit, or want of memory.
 pub fn as_journal(alloc: Global, bytes: Vec<u8>, more: &mut More) -> Result<Vec<u8>, Fault>
     ensures read { IfOk result (λ text. ReadsAsJournal bytes.items text.items) }
-    ensures unread { IfErr result IsUnreadLog }
+    ensures unread { IfErr result (λ fault. (fault ≡ Fault.Run RunFault.OutOfMemory) ⊎ IsDamaged bytes.items fault) }
 {
     if !is_log(bytes.as_slice()) {
         return Ok(bytes);

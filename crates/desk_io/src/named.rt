@@ -1,8 +1,8 @@
 //! The files that the words name.
-ghost use Rattle.std.specs.Prelude.{◌≡◌, ◌⊎◌, ℕ, List, None, Some, Ok, Err, IfErr, IfOk, option_map};
-ghost use Rattle.std.specs.Option.{option_copied, option_or};
+ghost use Rattle.std.specs.Prelude.{◌≡◌, None, Ok, Err, IfErr, IfOk, option_map};
+ghost use Rattle.std.specs.Option.{option_copied};
 ghost use Rattle.solver_check.specs.Opens.{bytes_of};
-ghost use Rattle.desk_io.specs.Texts.{AreTexts, IsText, IsUnread, IsUnreadJournal, IsUnreadLog, IsUnreadOf, IsUnreadWith};
+ghost use Rattle.desk_io.specs.Texts.{AreTexts, IsCourses, IsText, IsUnreadOf};
 
 use crate::details::Texts;
 use crate::files::{Folder, named_bytes};
@@ -44,17 +44,18 @@ impl Named {
     }
 }
 
-// The text of a journal, where one is named.
-fn named_journal<F: Folder>(
+// The text of the journal, where one is named, and else that of the paths.
+fn named_courses<F: Folder>(
     folder: &F,
-    file: Option<&'static str>,
+    journal: Option<&'static str>,
+    paths: Option<&'static str>,
     more: &mut More,
 ) -> Result<Option<Vec<u8>>, Fault>
-    ensures read { IfOk result (λ text. IsText (F.holds folder.now) (option_copied file.entry) (option_map (λ b. b.items) text)) }
-    ensures unread { IfErr result (λ fault. (name : List ℕ) × (option_copied file.entry ≡ Some name) × (IsUnread name fault ⊎ IsUnreadLog fault)) }
+    ensures read { IfOk result (λ text. IsCourses (F.holds folder.now) (option_copied journal.entry) (option_copied paths.entry) (option_map (λ b. b.items) text)) }
+    ensures unread { IfErr result (IsUnreadOf (F.holds folder.now) None None (option_copied journal.entry) (option_copied paths.entry)) }
 {
-    match file {
-        None => Ok(None),
+    match journal {
+        None => named_bytes(folder, paths, more),
         Some(file) => match folder.journal(file, more) {
             Ok(text) => Ok(Some(text)),
             Err(fault) => Err(fault),
@@ -71,7 +72,7 @@ fn read_problem<F: Folder>(
 ) -> Result<(Option<Vec<u8>>, Option<Vec<u8>>), Fault>
     ensures map { IfOk result (λ read. IsText (F.holds folder.now) (option_copied map.entry) (option_map (λ b. b.items) read.0)) }
     ensures scen { IfOk result (λ read. IsText (F.holds folder.now) (option_copied scen.entry) (option_map (λ b. b.items) read.1)) }
-    ensures unread { IfErr result (IsUnreadOf (option_copied map.entry) (option_copied scen.entry) None) }
+    ensures unread { IfErr result (IsUnreadOf (F.holds folder.now) (option_copied map.entry) (option_copied scen.entry) None None) }
 {
     let map = match named_bytes(folder, map, more) {
         Ok(map) => map,
@@ -86,18 +87,18 @@ fn read_problem<F: Folder>(
     }
 }
 
-// The map and the scenario, and the last text where it was read.
-fn with_last(
+// The map and the scenario, and the agents' courses where they were read.
+fn with_courses(
     read: (Option<Vec<u8>>, Option<Vec<u8>>),
-    last: Result<Option<Vec<u8>>, Fault>,
+    courses: Result<Option<Vec<u8>>, Fault>,
 ) -> Result<Named, Fault>
     ensures map { IfOk result (λ named. named.map ≡ read.0) }
     ensures scen { IfOk result (λ named. named.scen ≡ read.1) }
-    ensures last { IfOk result (λ named. last ≡ Ok named.journal) }
-    ensures unread { IfErr result (λ fault. last ≡ Err fault) }
+    ensures courses { IfOk result (λ named. courses ≡ Ok named.journal) }
+    ensures unread { IfErr result (λ fault. courses ≡ Err fault) }
 {
     let (map, scen) = read;
-    match last {
+    match courses {
         Ok(journal) => Ok(Named { map, scen, journal }),
         Err(fault) => {
             drop(scen);
@@ -107,7 +108,7 @@ fn with_last(
     }
 }
 
-/// Reads the files of a folder that are named.
+/// Reads the files of a folder that are named: of a journal where one is, and else of a solver's paths.
 ///
 /// # Errors
 ///
@@ -117,58 +118,16 @@ pub fn read_from<F: Folder>(
     map: Option<&'static str>,
     scen: Option<&'static str>,
     journal: Option<&'static str>,
-    more: &mut More,
-) -> Result<Named, Fault>
-    ensures read { IfOk result (AreTexts (F.holds folder.now) (option_copied map.entry) (option_copied scen.entry) (option_copied journal.entry)) }
-    ensures unread { IfErr result (IsUnreadWith (option_copied map.entry) (option_copied scen.entry) (option_copied journal.entry)) }
-{
-    match read_problem(folder, map, scen, more) {
-        Ok(read) => with_last(read, named_journal(folder, journal, more)),
-        Err(fault) => Err(fault),
-    }
-}
-
-/// Reads the files of a folder that are named, the last of which has a solver's paths.
-///
-/// # Errors
-///
-/// The first file that can't be read.
-pub fn read_with_paths<F: Folder>(
-    folder: &F,
-    map: Option<&'static str>,
-    scen: Option<&'static str>,
     paths: Option<&'static str>,
     more: &mut More,
 ) -> Result<Named, Fault>
-    ensures read { IfOk result (AreTexts (F.holds folder.now) (option_copied map.entry) (option_copied scen.entry) (option_copied paths.entry)) }
-    ensures unread { IfErr result (IsUnreadOf (option_copied map.entry) (option_copied scen.entry) (option_copied paths.entry)) }
+    ensures read { IfOk result (AreTexts (F.holds folder.now) (option_copied map.entry) (option_copied scen.entry) (option_copied journal.entry)
+        (option_copied paths.entry)) }
+    ensures unread { IfErr result (IsUnreadOf (F.holds folder.now) (option_copied map.entry) (option_copied scen.entry) (option_copied journal.entry)
+        (option_copied paths.entry)) }
 {
     match read_problem(folder, map, scen, more) {
-        Ok(read) => with_last(read, named_bytes(folder, paths, more)),
+        Ok(read) => with_courses(read, named_courses(folder, journal, paths, more)),
         Err(fault) => Err(fault),
-    }
-}
-
-/// Reads the files of a folder that are named: of a journal where one is, and else of a solver's paths.
-///
-/// # Errors
-///
-/// The first file that can't be read.
-pub fn read_courses<F: Folder>(
-    folder: &F,
-    map: Option<&'static str>,
-    scen: Option<&'static str>,
-    journal: Option<&'static str>,
-    paths: Option<&'static str>,
-    more: &mut More,
-) -> Result<Named, Fault>
-    ensures read { IfOk result (AreTexts (F.holds folder.now) (option_copied map.entry) (option_copied scen.entry)
-        (option_copied (option_or journal.entry paths.entry))) }
-    ensures unread { IfErr result (λ fault. IsUnreadOf (option_copied map.entry) (option_copied scen.entry) (option_copied (option_or journal.entry paths.entry)) fault
-        ⊎ IsUnreadJournal (option_copied journal.entry) fault) }
-{
-    match journal {
-        Some(_) => read_from(folder, map, scen, journal, more),
-        None => read_with_paths(folder, map, scen, paths, more),
     }
 }
