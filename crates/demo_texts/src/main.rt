@@ -1,10 +1,10 @@
 //! Reads each text of data/texts.txt by the reader that the line before it names, and prints what it
 //! tells. That line has a word and how many bytes the text has. The word is `tasks` for a scenario of a map of
-//! 12 x 3 cells, `journal`, `words` for a line of words, or for a file of
-//! paths its form, or `any`.
+//! 12 x 3 cells, `journal`, `log`, `words` for a line of words, or for a file of paths its form, or `any`.
 #![tactic(auto)]
 
 mod journals;
+mod logs;
 mod paths;
 mod tasks;
 mod telling;
@@ -22,6 +22,8 @@ fn told(alloc: Global, word: &str, text: &[u8]) -> Result<String, AllocError> {
         tasks::put_tasks(alloc, &mut told, text)?;
     } else if word == "journal" {
         journals::put_journal(alloc, &mut told, text)?;
+    } else if word == "log" {
+        logs::put_log(alloc, &mut told, text)?;
     } else if word == "words" {
         words::put_line(alloc, &mut told, text)?;
     } else {

@@ -60,7 +60,13 @@ fn put_desk(text: &mut String, words: &ServeWords) -> Result<(), AllocError> {
     put_number(text, "limit", words.limit, 100_000)?;
     put_mode(text, words.mode)?;
     put_file(text, "journal", words.journal)?;
-    put_file(text, "save", words.save)
+    put_file(text, "save", words.save)?;
+    put_file(text, "log", words.log)?;
+    if words.is_synced {
+        Ok(())
+    } else {
+        text.push_str(" sync=off")
+    }
 }
 
 // What an audit and a drill begin with.
@@ -119,6 +125,9 @@ fn put_check(text: &mut String, words: &CheckWords) -> Result<(), AllocError> {
     put_number(text, "workers", words.workers, 4)?;
     if words.quiet {
         text.push_str(" quiet")?;
+    }
+    if words.only {
+        text.push_str(" only")?;
     }
     Ok(())
 }

@@ -1,3 +1,5 @@
 mod Ending
 mod Unsent
 mod Planners
+mod LogDesk
+mod LogSession

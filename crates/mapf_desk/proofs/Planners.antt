@@ -1,5 +1,5 @@
 -- What hosting comes to follows from its parts.
-use Rattle.std.proofs.Common.{◌≡◌, ℕ, List, Option, Result, Ok, Err, IfOk, length, subst, sym}
+use Rattle.std.proofs.Common.{◌≡◌, ℕ, List, Option, None, Result, Ok, Err, IfOk, length, subst, sym}
 use Rattle.std.specs.Option.{option_copied}
 use Rattle.desk_commits.specs.State.{DeskState}
 use Rattle.desk_cli.specs.declared.words.HostWords.{HostWords}
@@ -13,7 +13,7 @@ use Rattle.mapf_desk.specs.Hosted.{HasHosted, IsRunEndOf}
 use Rattle.mapf_desk.specs.declared.statuses.RunEnd.{RunEnd}
 
 pub hosted : {E : Type 0} (holds : List ℕ → Option (List ℕ)) (has_saved : Savings) (words : HostWords) (start : DeskState) (version : LinesVersion) (planners : ℕ) (end : HostEnd) (held : Option (List ℕ)) (result : Result RunEnd E)
-    → OfFiles holds (option_copied words.desk.map) (option_copied words.desk.scen) (option_copied words.desk.journal) (IsOpened words.desk start)
+    → OfFiles holds (option_copied words.desk.map) (option_copied words.desk.scen) (option_copied words.desk.journal) None (IsOpened words.desk start)
     → version ≡ words.desk.lines → planners ≡ length words.names.items → Hosts (λ _. untold_input version) start planners end
     → held ≡ option_copied words.desk.save
     → IfOk result (IsRunEndOf end) → IfOk result (λ run. IsSavedIn has_saved held end.desk) → IfOk result (HasHosted holds has_saved words)

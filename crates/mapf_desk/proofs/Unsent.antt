@@ -13,6 +13,7 @@ use Rattle.single_runs.specs.PageRuns.{Pages}
 use Rattle.path_files.specs.declared.forms.Form.{Form}
 use Rattle.solver_check.specs.Opens.{bytes_of}
 use Rattle.solver_check.specs.Checks.{Checks, IsCheckFault}
+use Rattle.solver_check.specs.Listings.{listing_of}
 use Rattle.solver_check.specs.declared.faults.RunFault.{RunFault}
 use Rattle.solver_check.specs.declared.faults.RunFault.TheVariants.{WriteFailed}
 use Rattle.solver_check.specs.declared.checks.faults.CheckFault.{CheckFault}
@@ -38,9 +39,9 @@ unaudited words map scen journal held0 held1 ended result is fails same sent =
     (λ done audits fault why. record { held0 = held0; held1 = held1; why = inr (inr (why, record { held0 = held0; held1 = held1; audits = audits })) })
     (λ fault why. record { held0 = held0; held1 = held1; why = inr (inl why) })
 
-pub unchecked : (words : CheckWords) (form : Option Form) (map scen paths held0 held1 : Option (List ℕ)) (ended result : Result Bool CheckFault) → IfOk ended (Checks (unwrap_or map []) scen words.agents words.mode (unwrap_or paths []) form words.kinds words.quiet held0 held1) → IfErr ended (IsCheckFault (unwrap_or map []) scen words.agents words.mode (unwrap_or paths []) form) → IfErr ended (λ fault. result ≡ Err fault) → OnOk ended (IfErr result (λ fault. fault ≡ Run WriteFailed)) → IfErr result (IsUnchecked words form map scen paths)
+pub unchecked : (words : CheckWords) (form : Option Form) (map scen paths held0 held1 : Option (List ℕ)) (ended result : Result Bool CheckFault) → IfOk ended (Checks (unwrap_or map []) scen words.agents words.mode (unwrap_or paths []) form words.kinds (listing_of words.quiet words.only) held0 held1) → IfErr ended (IsCheckFault (unwrap_or map []) scen words.agents words.mode (unwrap_or paths []) form) → IfErr ended (λ fault. result ≡ Err fault) → OnOk ended (IfErr result (λ fault. fault ≡ Run WriteFailed)) → IfErr result (IsUnchecked words form map scen paths)
 unchecked words form map scen paths held0 held1 ended result is fails same sent =
-    unsent (Checks (unwrap_or map []) scen words.agents words.mode (unwrap_or paths []) form words.kinds words.quiet held0 held1)
+    unsent (Checks (unwrap_or map []) scen words.agents words.mode (unwrap_or paths []) form words.kinds (listing_of words.quiet words.only) held0 held1)
     (IsCheckFault (unwrap_or map []) scen words.agents words.mode (unwrap_or paths []) form)
     (IsUnchecked words form map scen paths) (Run WriteFailed) ended result is fails same sent
     (λ solved checks fault why. record { why = inr (why, solved, record { held0 = held0; held1 = held1; checks = checks }) })

@@ -1,11 +1,12 @@
 -- What the end of a run says, by its words (this project's choice). The system's files say nothing of their bytes or saves.
-use Rattle.std.specs.Prelude.{◌≡◌, Some, Bool}
-use Rattle.std.specs.Option.{option_copied, option_or}
+use Rattle.std.specs.Prelude.{◌≡◌, None, Some, Bool}
+use Rattle.std.specs.Option.{option_copied}
 use Rattle.desk_cli.specs.declared.words.Words.{Words}
 use Rattle.desk_cli.specs.declared.words.Words.TheVariants.{Version, Serve, Audit, Drill, Host, Check, Draw, Page}
 use Rattle.desk_io.specs.Texts.{untold}
-use Rattle.mapf_desk.specs.Ends.{HasNoFault, unsaid}
+use Rattle.mapf_desk.specs.Ends.{unsaid}
 use Rattle.mapf_desk.specs.Files.{OfFiles}
+use Rattle.mapf_desk.specs.Logged.{HasServed}
 use Rattle.mapf_desk.specs.Hosted.{HasHosted}
 use Rattle.mapf_desk.specs.Runs.{HasAudited, HasChecked, HasDrawn, HasPaged}
 use Rattle.mapf_desk.specs.Drilled.{HasDrilled, OfScripts}
@@ -18,17 +19,16 @@ use Rattle.mapf_desk.specs.declared.statuses.RunEnd.TheVariants.{Yes}
 abbrev pub Ends : Words → RunEnd → Type 0
 Ends Version end = end ≡ Yes
 Ends (Serve words) end =
-    (end ≡ Yes)
-    × OfFiles untold (option_copied words.map) (option_copied words.scen) (option_copied words.journal) (HasNoFault unsaid words)
+    (end ≡ Yes) × HasServed untold unsaid untold unsaid words (option_copied words.log)
 Ends (Audit words) end =
-    (end ≡ Yes) × OfFiles untold (Some words.map.now) (option_copied words.scen) (option_copied words.journal) (HasAudited words)
+    (end ≡ Yes) × OfFiles untold (Some words.map.now) (option_copied words.scen) (option_copied words.journal) None (HasAudited words)
 Ends (Drill words) end =
     (same : Bool) × (end ≡ answered same) × OfScripts untold words (λ map scen scripts. HasDrilled words map scen scripts same)
 Ends (Host words) end = HasHosted untold unsaid words end
 Ends (Check words) end =
     (solved : Bool) × (end ≡ answered solved)
-    × OfFiles untold (Some words.map.now) (option_copied words.scen) (Some words.paths.now) (λ map scen paths. HasChecked words words.form map scen paths solved)
+    × OfFiles untold (Some words.map.now) (option_copied words.scen) None (Some words.paths.now) (λ map scen paths. HasChecked words words.form map scen paths solved)
 Ends (Draw words) end =
-    (end ≡ Yes) × OfFiles untold (Some words.map.now) (option_copied words.scen) (option_copied (option_or words.journal words.paths)) (HasDrawn words)
+    (end ≡ Yes) × OfFiles untold (Some words.map.now) (option_copied words.scen) (option_copied words.journal) (option_copied words.paths) (HasDrawn words)
 Ends (Page words) end =
-    (end ≡ Yes) × OfFiles untold (Some words.map.now) (option_copied words.scen) (option_copied (option_or words.journal words.paths)) (HasPaged words)
+    (end ≡ Yes) × OfFiles untold (Some words.map.now) (option_copied words.scen) (option_copied words.journal) (option_copied words.paths) (HasPaged words)

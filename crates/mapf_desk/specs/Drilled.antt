@@ -30,7 +30,7 @@ pub record IsUndrilled (words : DrillWords) (map scen : Option (List ℕ)) (scri
 pub record OfScripts (holds : List ℕ → Option (List ℕ)) (words : DrillWords) (IsSo : (map scen : Option (List ℕ)) → List (Vec ℕ Global) → Type 0) : Type 0 where
   pub scripts : List (Vec ℕ Global)
   pub told : AreTold holds words.scripts.items scripts
-  pub texts : OfFiles holds (Some words.map.now) (option_copied words.scen) None (λ map scen none. IsSo map scen scripts)
+  pub texts : OfFiles holds (Some words.map.now) (option_copied words.scen) None None (λ map scen none. IsSo map scen scripts)
 
 -- agents are asked for, and no scenario that has their tasks
 abbrev pub LacksDrillTasks : DrillWords → Type 0
@@ -43,6 +43,6 @@ IsScriptUnread words fault = (fault ≡ Run OutOfMemory) ⊎ Any (λ file. IsUnr
 -- why a drill did not come to its end: the words lack a scenario, a text or a script isn't read, or these fail it so
 abbrev pub FailsDrillOver : (List ℕ → Option (List ℕ)) → DrillWords → Fault → Type 0
 FailsDrillOver holds words fault =
-    IsWithoutTexts (LacksDrillTasks words) (Some words.map.now) (option_copied words.scen) None fault
+    IsWithoutTexts (LacksDrillTasks words) holds (Some words.map.now) (option_copied words.scen) None None fault
     ⊎ IsScriptUnread words fault
     ⊎ ((why : RunFault) × (fault ≡ Run why) × OfScripts holds words (λ map scen scripts. IsUndrilled words map scen scripts why))

@@ -102,10 +102,11 @@ IsOpened words desk map scen journal = OpensDesk (unwrap_or map []) scen words.a
 -- why the desk of the words isn't opened: its files aren't ready, two planners have one name, or the texts make no desk
 abbrev pub IsUnnamed : (List ℕ → Option (List ℕ)) → HostWords → ProgramFault → Type 0
 IsUnnamed holds words (program.Desk fault) =
-    IsUnready words.desk fault
-    ⊎ ((why : RunFault) × (fault ≡ desk.Run why) × OfFiles holds (option_copied words.desk.map) (option_copied words.desk.scen) (option_copied words.desk.journal)
+    IsUnready holds words.desk fault
+    ⊎ ((why : RunFault) × (fault ≡ desk.Run why) × OfFiles holds (option_copied words.desk.map) (option_copied words.desk.scen) (option_copied words.desk.journal) None
     (λ map scen journal. IsDeskFault (unwrap_or map []) scen words.desk.agents words.desk.mode (limit_of words.desk) journal why))
 IsUnnamed holds words (program.NamedTwice name) = first_repeated [] words.names.items ≡ Some name.now
 IsUnnamed holds words (program.Check fault) = ⊥
 IsUnnamed holds words (program.Host fault) = ⊥
 IsUnnamed holds words (program.InUse name) = ⊥
+IsUnnamed holds words (program.Log why) = ⊥

@@ -1,5 +1,5 @@
 -- A desk that is hosted for the planners of the words (this project's choice).
-use Rattle.std.specs.Prelude.{◌≡◌, ◌||◌, ℕ, List, Option, Bool, Ok, is_err, length}
+use Rattle.std.specs.Prelude.{◌≡◌, ◌||◌, ℕ, List, Option, None, Bool, Ok, is_err, length}
 use Rattle.std.specs.List.{list_any}
 use Rattle.std.specs.Option.{option_copied}
 use Rattle.desk_commits.specs.State.{DeskState}
@@ -41,5 +41,5 @@ HostsBy has_saved words map scen journal run =
 -- and the texts are those of the files of the words, each in its place
 abbrev pub HasHosted : (List ℕ → Option (List ℕ)) → Savings → HostWords → RunEnd → Type 0
 HasHosted holds has_saved words run =
-    OfFiles holds (option_copied words.desk.map) (option_copied words.desk.scen) (option_copied words.desk.journal)
+    OfFiles holds (option_copied words.desk.map) (option_copied words.desk.scen) (option_copied words.desk.journal) None
     (λ map scen journal. HostsBy has_saved words map scen journal run)

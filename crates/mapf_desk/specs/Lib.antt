@@ -7,4 +7,5 @@ pub mod Runs
 pub mod Ends
 pub mod Drilled
 pub mod Hosted
+pub mod Logged
 pub mod Answers

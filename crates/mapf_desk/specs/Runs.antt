@@ -4,6 +4,7 @@ use Rattle.std.specs.Borrow.{Bor}
 use Rattle.std.specs.Option.{option_copied}
 use Rattle.solver_check.specs.Opens.{bytes_of}
 use Rattle.solver_check.specs.Checks.{Checks, IsCheckFault}
+use Rattle.solver_check.specs.Listings.{listing_of}
 use Rattle.solver_check.specs.declared.faults.Fault.{Fault}
 use Rattle.solver_check.specs.declared.faults.Fault.TheVariants.{AgentsWithoutScen}
 use Rattle.solver_check.specs.declared.faults.Fault.TheVariants as desk
@@ -20,7 +21,7 @@ use Rattle.desk_cli.specs.declared.words.AuditWords.{AuditWords}
 use Rattle.desk_cli.specs.declared.words.CheckWords.{CheckWords}
 use Rattle.desk_cli.specs.declared.words.DrawWords.{DrawWords}
 use Rattle.desk_cli.specs.declared.words.PageWords.{PageWords}
-use Rattle.desk_io.specs.Texts.{IsUnreadJournal, IsUnreadOf}
+use Rattle.desk_io.specs.Texts.{IsUnreadOf}
 use Rattle.mapf_desk.specs.Files.{OfFiles}
 use Rattle.mapf_desk.specs.Words.{courses_in, courses_of}
 use Rattle.mapf_desk.specs.declared.faults.ProgramFault.{ProgramFault}
@@ -42,7 +43,7 @@ pub record IsUnaudited (words : AuditWords) (map scen journal : Option (List ℕ
 pub record HasChecked (words : CheckWords) (form : Option Form) (map scen paths : Option (List ℕ)) (solved : Bool) : Type 0 where
   pub held0 : Option (List ℕ)
   pub held1 : Option (List ℕ)
-  pub checks : Checks (unwrap_or map []) scen words.agents words.mode (unwrap_or paths []) form words.kinds words.quiet held0 held1 solved
+  pub checks : Checks (unwrap_or map []) scen words.agents words.mode (unwrap_or paths []) form words.kinds (listing_of words.quiet words.only) held0 held1 solved
 
 -- the texts, memory or the writer failed the check; or it came to its end, and could not be sent
 pub record IsUnchecked (words : CheckWords) (form : Option Form) (map scen paths : Option (List ℕ)) (fault : CheckFault) : Type 0 where
@@ -91,24 +92,20 @@ abbrev pub LacksTasks : Option ℕ → Option (Bor (List ℕ)) → Type 0
 LacksTasks agents scen = (is_some agents ≡ true) × (scen ≡ None)
 
 -- the words lack a scenario, or a file isn't read
-abbrev pub IsWithoutTexts : Type 0 → (map scen journal : Option (List ℕ)) → Fault → Type 0
-IsWithoutTexts Lacks map scen journal fault = (Lacks × (fault ≡ AgentsWithoutScen)) ⊎ IsUnreadOf map scen journal fault
+abbrev pub IsWithoutTexts : Type 0 → (List ℕ → Option (List ℕ)) → (map scen journal paths : Option (List ℕ)) → Fault → Type 0
+IsWithoutTexts Lacks holds map scen journal paths fault = (Lacks × (fault ≡ AgentsWithoutScen)) ⊎ IsUnreadOf holds map scen journal paths fault
 
 -- why a run over the texts of files did not come to its end: there are no such texts, or they fail it so
-abbrev pub FailsOver : Type 0 → (List ℕ → Option (List ℕ)) → (map scen journal : Option (List ℕ)) → ((map scen journal : Option (List ℕ)) → CheckFault → Type 0) → ProgramFault → Type 0
-FailsOver Lacks holds map scen journal Fails (program.Desk fault) = IsWithoutTexts Lacks map scen journal fault
-FailsOver Lacks holds map scen journal Fails (program.Check fault) = OfFiles holds map scen journal (λ map scen journal. Fails map scen journal fault)
-FailsOver Lacks holds map scen journal Fails (program.Host fault) = ⊥
-FailsOver Lacks holds map scen journal Fails (program.NamedTwice name) = ⊥
-FailsOver Lacks holds map scen journal Fails (program.InUse name) = ⊥
-
--- the journal's file is a log that isn't read
-abbrev pub IsWithoutJournal : Option (List ℕ) → ProgramFault → Type 0
-IsWithoutJournal journal (program.Desk fault) = IsUnreadJournal journal fault
-IsWithoutJournal journal other = ⊥
+abbrev pub FailsOver : Type 0 → (List ℕ → Option (List ℕ)) → (map scen journal paths : Option (List ℕ)) → ((map scen courses : Option (List ℕ)) → CheckFault → Type 0) → ProgramFault → Type 0
+FailsOver Lacks holds map scen journal paths Fails (program.Desk fault) = IsWithoutTexts Lacks holds map scen journal paths fault
+FailsOver Lacks holds map scen journal paths Fails (program.Check fault) = OfFiles holds map scen journal paths (λ map scen courses. Fails map scen courses fault)
+FailsOver Lacks holds map scen journal paths Fails (program.Host fault) = ⊥
+FailsOver Lacks holds map scen journal paths Fails (program.NamedTwice name) = ⊥
+FailsOver Lacks holds map scen journal paths Fails (program.InUse name) = ⊥
+FailsOver Lacks holds map scen journal paths Fails (program.Log why) = ⊥
 
 -- and of an audit
 abbrev pub FailsAuditOver : Type 0 → (List ℕ → Option (List ℕ)) → (map scen journal : Option (List ℕ)) → ((map scen journal : Option (List ℕ)) → RunFault → Type 0) → Fault → Type 0
 FailsAuditOver Lacks holds map scen journal Fails fault =
-    IsWithoutTexts Lacks map scen journal fault
-    ⊎ ((why : RunFault) × (fault ≡ desk.Run why) × OfFiles holds map scen journal (λ map scen journal. Fails map scen journal why))
+    IsWithoutTexts Lacks holds map scen journal None fault
+    ⊎ ((why : RunFault) × (fault ≡ desk.Run why) × OfFiles holds map scen journal None (λ map scen journal. Fails map scen journal why))

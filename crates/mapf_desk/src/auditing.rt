@@ -1,10 +1,9 @@
 //! The word `audit`.
-ghost use Rattle.std.specs.Prelude.{◌≡◌, ◌⊎◌, [], ◌<◌, Some, None, Err, IfErr, OnOk, unwrap_or};
+ghost use Rattle.std.specs.Prelude.{◌≡◌, [], ◌<◌, Some, None, Err, IfErr, OnOk, unwrap_or};
 ghost use Rattle.std.specs.Option.{option_copied};
 ghost use Rattle.single_runs.specs.Audits.{Audits, FailsAudit};
 ghost use Rattle.solver_check.specs.Opens.{bytes_of};
 ghost use Rattle.mapf_desk.specs.Files.{OfFiles};
-ghost use Rattle.desk_io.specs.Texts.{IsUnreadJournal};
 ghost use Rattle.mapf_desk.specs.Runs.{FailsAuditOver, HasAudited, IsUnaudited};
 
 use desk_cli::AuditWords;
@@ -33,16 +32,16 @@ pub fn audit_files<R: AllocGlobal + Print + Eprint + Threads + Wait, F: Folder>(
 ) -> Result<(), Fault>
     ensures asked { (0 < words.now.agents) × (words.now.scen ≡ None) → result ≡ Err Fault.AgentsWithoutScen }
     ensures audited { OnOk result (OfFiles (F.holds folder.now) (Some words.now.map.now) (option_copied words.now.scen)
-        (option_copied words.now.journal) (HasAudited words.now)) }
-    ensures refused { IfErr result (λ fault. IsUnreadJournal (option_copied words.now.journal) fault
-        ⊎ FailsAuditOver ((0 < words.now.agents) × (words.now.scen ≡ None)) (F.holds folder.now) (Some words.now.map.now)
-        (option_copied words.now.scen) (option_copied words.now.journal) (IsUnaudited words.now) fault) }
+        (option_copied words.now.journal) None (HasAudited words.now)) }
+    ensures refused { IfErr result (FailsAuditOver ((0 < words.now.agents) × (words.now.scen ≡ None)) (F.holds folder.now) (Some words.now.map.now)
+        (option_copied words.now.scen) (option_copied words.now.journal) (IsUnaudited words.now)) }
 {
     if words.agents > 0 && words.scen.is_none() {
         return Err(Fault::AgentsWithoutScen);
     }
     tell_stage(rt, stages, "reading the files");
-    let named = match read_from(folder, Some(words.map), words.scen, words.journal, more) {
+    let (map, journal) = (Some(words.map), words.journal);
+    let named = match read_from(folder, map, words.scen, journal, None, more) {
         Ok(named) => named,
         Err(fault) => return Err(fault),
     };

@@ -1,18 +1,17 @@
 //! The word `check`.
-ghost use Rattle.std.specs.Prelude.{◌≡◌, [], Some, Err, IfErr, IfOk, unwrap_or};
+ghost use Rattle.std.specs.Prelude.{◌≡◌, [], None, Some, Err, IfErr, IfOk, unwrap_or};
 ghost use Rattle.std.specs.Option.{option_copied};
 ghost use Rattle.solver_check.specs.Checks.{Checks, IsCheckFault};
+ghost use Rattle.solver_check.specs.Listings.{listing_of};
 ghost use Rattle.solver_check.specs.Opens.{bytes_of};
 ghost use Rattle.mapf_desk.specs.Files.{OfFiles};
 ghost use Rattle.mapf_desk.specs.Runs.{FailsOver, HasChecked, IsUnchecked, LacksTasks};
 
 use crate::faults::ProgramFault;
 use desk_cli::CheckWords;
-use desk_io::{
-    Folder, More, Noting, Texts, bytes_in, finish, problem_of, read_with_paths, tell_stage,
-};
+use desk_io::{Folder, More, Noting, Texts, bytes_in, finish, problem_of, read_from, tell_stage};
 use desk_report::{Sink, Spout};
-use solver_check::{CheckFault, Fault, run_check};
+use solver_check::{CheckFault, Fault, InThreads, Listing, run_check};
 use std::alloc::Global;
 use std::io;
 use std::io::BufWriter;
@@ -34,16 +33,16 @@ pub fn check_files<R: AllocGlobal + Print + Eprint + Threads + Wait, F: Folder>(
 ) -> Result<bool, ProgramFault>
     ensures asked { LacksTasks words.now.agents words.now.scen → result ≡ Err (ProgramFault.Desk Fault.AgentsWithoutScen) }
     ensures checked { IfOk result (λ solved. OfFiles (F.holds folder.now) (Some words.now.map.now) (option_copied words.now.scen)
-        (Some words.now.paths.now) (λ map scen paths. HasChecked words.now words.now.form map scen paths solved)) }
+        None (Some words.now.paths.now) (λ map scen paths. HasChecked words.now words.now.form map scen paths solved)) }
     ensures refused { IfErr result (FailsOver (LacksTasks words.now.agents words.now.scen) (F.holds folder.now) (Some words.now.map.now)
-        (option_copied words.now.scen) (Some words.now.paths.now) (IsUnchecked words.now words.now.form)) }
+        (option_copied words.now.scen) None (Some words.now.paths.now) (IsUnchecked words.now words.now.form)) }
 {
     if words.agents.is_some() && words.scen.is_none() {
         return Err(ProgramFault::Desk(Fault::AgentsWithoutScen));
     }
     tell_stage(rt, stages, "reading the files");
     let (map, paths) = (Some(words.map), Some(words.paths));
-    let named = match read_with_paths(folder, map, words.scen, paths, more) {
+    let named = match read_from(folder, map, words.scen, None, paths, more) {
         Ok(named) => named,
         Err(fault) => return Err(ProgramFault::Desk(fault)),
     };
@@ -90,19 +89,19 @@ fn check_onto<T: Threads + Wait, W: Sink>(
     writer: &mut W,
 ) -> Result<bool, CheckFault>
     ensures checked { IfOk result (Checks (unwrap_or (bytes_of texts.entry.map) []) (bytes_of texts.entry.scen) words.now.agents words.now.mode
-        (unwrap_or (bytes_of texts.entry.journal) []) texts.entry.form words.now.kinds words.now.quiet (W.held writer.old) (W.held writer.new)) }
+        (unwrap_or (bytes_of texts.entry.journal) []) texts.entry.form words.now.kinds (listing_of words.now.quiet words.now.only)
+        (W.held writer.old) (W.held writer.new)) }
     ensures refused { IfErr result (IsCheckFault (unwrap_or (bytes_of texts.entry.map) []) (bytes_of texts.entry.scen) words.now.agents words.now.mode
         (unwrap_or (bytes_of texts.entry.journal) []) texts.entry.form) }
 {
     run_check(
-        rt,
+        &InThreads::new(rt, words.workers.clamp(1, 64)),
         alloc,
         problem_of(texts, words.agents, words.mode),
         bytes_in(texts.journal),
         texts.form,
         words.kinds,
-        words.quiet,
-        words.workers.clamp(1, 64),
+        Listing::of(words.quiet, words.only),
         writer,
     )
 }

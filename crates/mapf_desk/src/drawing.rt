@@ -1,15 +1,15 @@
 //! The word `draw`.
-ghost use Rattle.std.specs.Prelude.{◌≡◌, ◌⊎◌, [], Some, Err, IfErr, OnOk, unwrap_or};
-ghost use Rattle.std.specs.Option.{option_copied, option_or};
+ghost use Rattle.std.specs.Prelude.{◌≡◌, [], Some, Err, IfErr, OnOk, unwrap_or};
+ghost use Rattle.std.specs.Option.{option_copied};
 ghost use Rattle.single_runs.specs.Draws.{Draws, FailsDraw};
 ghost use Rattle.solver_check.specs.Opens.{bytes_of};
 ghost use Rattle.mapf_desk.specs.Files.{OfFiles};
-ghost use Rattle.mapf_desk.specs.Runs.{FailsOver, HasDrawn, IsUndrawn, IsWithoutJournal, LacksTasks};
+ghost use Rattle.mapf_desk.specs.Runs.{FailsOver, HasDrawn, IsUndrawn, LacksTasks};
 ghost use Rattle.mapf_desk.specs.Words.{courses_in, courses_of};
 
 use crate::faults::ProgramFault;
 use desk_cli::DrawWords;
-use desk_io::{Folder, More, Noting, Texts, finish, problem_of, read_courses, tell_stage};
+use desk_io::{Folder, More, Noting, Texts, finish, problem_of, read_from, tell_stage};
 use desk_pictures::Frame;
 use desk_report::{Sink, Spout};
 use grid_cells::Step;
@@ -49,17 +49,16 @@ pub fn draw_files<R: AllocGlobal + Print + Eprint + Threads + Wait, F: Folder>(
 ) -> Result<(), ProgramFault>
     ensures asked { LacksTasks words.now.agents words.now.scen → result ≡ Err (ProgramFault.Desk Fault.AgentsWithoutScen) }
     ensures drawn { OnOk result (OfFiles (F.holds folder.now) (Some words.now.map.now) (option_copied words.now.scen)
-        (option_copied (option_or words.now.journal words.now.paths)) (HasDrawn words.now)) }
-    ensures refused { IfErr result (λ fault. IsWithoutJournal (option_copied words.now.journal) fault
-        ⊎ FailsOver (LacksTasks words.now.agents words.now.scen) (F.holds folder.now) (Some words.now.map.now)
-        (option_copied words.now.scen) (option_copied (option_or words.now.journal words.now.paths)) (IsUndrawn words.now) fault) }
+        (option_copied words.now.journal) (option_copied words.now.paths) (HasDrawn words.now)) }
+    ensures refused { IfErr result (FailsOver (LacksTasks words.now.agents words.now.scen) (F.holds folder.now) (Some words.now.map.now)
+        (option_copied words.now.scen) (option_copied words.now.journal) (option_copied words.now.paths) (IsUndrawn words.now)) }
 {
     if words.agents.is_some() && words.scen.is_none() {
         return Err(ProgramFault::Desk(Fault::AgentsWithoutScen));
     }
     tell_stage(rt, stages, "reading the files");
     let (journal, paths) = (words.journal, words.paths);
-    let named = match read_courses(folder, Some(words.map), words.scen, journal, paths, more) {
+    let named = match read_from(folder, Some(words.map), words.scen, journal, paths, more) {
         Ok(named) => named,
         Err(fault) => return Err(ProgramFault::Desk(fault)),
     };

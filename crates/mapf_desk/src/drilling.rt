@@ -41,7 +41,7 @@ pub fn drill_files<R: AllocGlobal + Print + Eprint + Threads + Wait + Clock + Sy
         return Err(Fault::AgentsWithoutScen);
     }
     tell_stage(rt, stages, "reading the files");
-    let named = match read_from(folder, Some(words.map), words.scen, None, more) {
+    let named = match read_from(folder, Some(words.map), words.scen, None, None, more) {
         Ok(named) => named,
         Err(fault) => return Err(fault),
     };

@@ -3,7 +3,8 @@
 //!
 //! Each word but `version` has a file: `serving`, `auditing`, `drilling`, `hosting`, `checking`,
 //! `drawing`, `paging`. `reading` reads and holds a session's files, `saving` saves in the one that is
-//! held, `closing` ends a session; `opening` opens the desk that planners share, `seating` hosts them;
+//! held; `logging` keeps commits in one of the `logs`, by `log_opening`, `log_resuming`, `log_sitting`;
+//! `closing` ends a session, `opening` opens the desk that planners share, `seating` hosts them;
 //! `hosted`, `statuses` and `faults` have what a run and the program end with.
 #![tactic(auto)]
 
@@ -21,6 +22,11 @@ mod drilling;
 mod faults;
 mod hosted;
 mod hosting;
+mod log_opening;
+mod log_resuming;
+mod log_sitting;
+mod logging;
+mod logs;
 mod opening;
 mod paging;
 mod reading;
@@ -37,8 +43,8 @@ use drawing::draw_files;
 use drilling::drill_files;
 use faults::ProgramFault;
 use hosting::host_files;
+use logging::serve_files;
 use paging::page_files;
-use serving::serve_streams;
 use shared_runs::{Fault, RunFault};
 use statuses::{RunEnd, answered, status_of};
 use std::env;
@@ -82,9 +88,9 @@ fn obey<
         },
         Words::Serve(serve) => {
             let typed = runtime.stdin().is_terminal();
-            match serve_streams(rt, files, serve, typed, more, verbose) {
+            match serve_files(rt, files, serve, typed, more, verbose) {
                 Ok(()) => Ok(RunEnd::Yes),
-                Err(fault) => Err(ProgramFault::Desk(fault)),
+                Err(fault) => Err(fault),
             }
         }
         Words::Audit(audit) => match audit_files(rt, files, audit, stages, more) {

@@ -63,7 +63,7 @@ pub fn open_named<F: Folder + Saver>(
 ) -> Result<(Desk, Option<Held<F::Place>>), ProgramFault>
     ensures asked { LacksScen words.now.desk → result ≡ Err (ProgramFault.Desk Fault.AgentsWithoutScen) }
     ensures opened { IfOk result (λ opened. OfFiles (F.holds files.now) (option_copied words.now.desk.map) (option_copied words.now.desk.scen)
-        (option_copied words.now.desk.journal) (IsOpened words.now.desk opened.0)) }
+        (option_copied words.now.desk.journal) None (IsOpened words.now.desk opened.0)) }
     ensures apart { IfOk result (λ _. first_repeated [] words.now.names.items ≡ None) }
     ensures held { IfOk result (λ opened. option_map (λ held. held.file.now) opened.1 ≡ option_copied words.now.desk.save) }
     ensures refused { IfErr result (IsUnnamed (F.holds files.now) words.now) }

@@ -1,17 +1,17 @@
 //! The word `page`.
-ghost use Rattle.std.specs.Prelude.{◌≡◌, ◌⊎◌, [], Some, Err, IfErr, OnOk, unwrap_or};
-ghost use Rattle.std.specs.Option.{option_copied, option_or};
+ghost use Rattle.std.specs.Prelude.{◌≡◌, [], Some, Err, IfErr, OnOk, unwrap_or};
+ghost use Rattle.std.specs.Option.{option_copied};
 ghost use Rattle.single_runs.specs.Draws.{FailsDraw};
 ghost use Rattle.single_runs.specs.PageRuns.{Pages};
 ghost use Rattle.solver_check.specs.Opens.{bytes_of};
 ghost use Rattle.mapf_desk.specs.Files.{OfFiles};
-ghost use Rattle.mapf_desk.specs.Runs.{FailsOver, HasPaged, IsPageFor, IsUnpaged, IsWithoutJournal, LacksTasks};
+ghost use Rattle.mapf_desk.specs.Runs.{FailsOver, HasPaged, IsPageFor, IsUnpaged, LacksTasks};
 ghost use Rattle.mapf_desk.specs.Words.{courses_in};
 
 use crate::drawing::{WORKERS, courses_of};
 use crate::faults::ProgramFault;
 use desk_cli::PageWords;
-use desk_io::{Folder, More, Noting, Texts, finish, problem_of, read_courses, tell_stage};
+use desk_io::{Folder, More, Noting, Texts, finish, problem_of, read_from, tell_stage};
 use desk_pages::Page;
 use desk_report::{Sink, Spout};
 use page_parts::{LOOKS, SCRIPT};
@@ -38,17 +38,16 @@ pub fn page_files<R: AllocGlobal + Print + Eprint + Threads + Wait, F: Folder>(
 ) -> Result<(), ProgramFault>
     ensures asked { LacksTasks words.now.agents words.now.scen → result ≡ Err (ProgramFault.Desk Fault.AgentsWithoutScen) }
     ensures paged { OnOk result (OfFiles (F.holds folder.now) (Some words.now.map.now) (option_copied words.now.scen)
-        (option_copied (option_or words.now.journal words.now.paths)) (HasPaged words.now)) }
-    ensures refused { IfErr result (λ fault. IsWithoutJournal (option_copied words.now.journal) fault
-        ⊎ FailsOver (LacksTasks words.now.agents words.now.scen) (F.holds folder.now) (Some words.now.map.now)
-        (option_copied words.now.scen) (option_copied (option_or words.now.journal words.now.paths)) (IsUnpaged words.now) fault) }
+        (option_copied words.now.journal) (option_copied words.now.paths) (HasPaged words.now)) }
+    ensures refused { IfErr result (FailsOver (LacksTasks words.now.agents words.now.scen) (F.holds folder.now) (Some words.now.map.now)
+        (option_copied words.now.scen) (option_copied words.now.journal) (option_copied words.now.paths) (IsUnpaged words.now)) }
 {
     if words.agents.is_some() && words.scen.is_none() {
         return Err(ProgramFault::Desk(Fault::AgentsWithoutScen));
     }
     tell_stage(rt, stages, "reading the files");
     let (journal, paths) = (words.journal, words.paths);
-    let named = match read_courses(folder, Some(words.map), words.scen, journal, paths, more) {
+    let named = match read_from(folder, Some(words.map), words.scen, journal, paths, more) {
         Ok(named) => named,
         Err(fault) => return Err(ProgramFault::Desk(fault)),
     };

@@ -1,7 +1,7 @@
 //! The files of `serve` and `host`: the bytes that are read, and the file that is held.
-ghost use Rattle.std.specs.Prelude.{◌≡◌, ◌⊎◌, ℕ, List, Some, Err, IfErr, IfOk, option_map};
+ghost use Rattle.std.specs.Prelude.{◌≡◌, ◌⊎◌, ℕ, List, None, Some, Err, IfErr, IfOk, option_map};
 ghost use Rattle.std.specs.Option.{option_copied};
-ghost use Rattle.desk_io.specs.Texts.{AreTexts, IsUnheld, IsUnreadWith};
+ghost use Rattle.desk_io.specs.Texts.{AreTexts, IsUnheld, IsUnreadOf};
 ghost use Rattle.mapf_desk.specs.Files.{IsUnready, LacksScen};
 
 use crate::saving::{Held, Saver};
@@ -47,9 +47,9 @@ pub(crate) fn read_named<F: Folder + Saver>(
 ) -> Result<(Named, Option<Held<F::Place>>), Fault>
     ensures asked { LacksScen words.now → result ≡ Err Fault.AgentsWithoutScen }
     ensures read { IfOk result (λ ready. AreTexts (F.holds files.now) (option_copied words.now.map) (option_copied words.now.scen)
-        (option_copied words.now.journal) ready.0) }
+        (option_copied words.now.journal) None ready.0) }
     ensures held { IfOk result (λ ready. option_map (λ held. held.file.now) ready.1 ≡ option_copied words.now.save) }
-    ensures unready { IfErr result (IsUnready words.now) }
+    ensures unready { IfErr result (IsUnready (F.holds files.now) words.now) }
 {
     if words.agents > 0 && words.scen.is_none() {
         return Err(Fault::AgentsWithoutScen);
@@ -69,11 +69,12 @@ fn read_held<F: Folder + Saver>(
     more: &mut More,
 ) -> Result<(Named, Option<Held<F::Place>>), Fault>
     ensures read { IfOk result (λ ready. AreTexts (F.holds files.now) (option_copied words.now.map) (option_copied words.now.scen)
-        (option_copied words.now.journal) ready.0) }
+        (option_copied words.now.journal) None ready.0) }
     ensures held { IfOk result (λ ready. ready.1 ≡ held) }
-    ensures unread { IfErr result (IsUnreadWith (option_copied words.now.map) (option_copied words.now.scen) (option_copied words.now.journal)) }
+    ensures unread { IfErr result (IsUnreadOf (F.holds files.now) (option_copied words.now.map) (option_copied words.now.scen)
+        (option_copied words.now.journal) None) }
 {
-    match read_from(files, words.map, words.scen, words.journal, more) {
+    match read_from(files, words.map, words.scen, words.journal, None, more) {
         Ok(named) => Ok((named, held)),
         Err(fault) => {
             let_go(files, held);
@@ -90,9 +91,10 @@ fn first_fault<F: Folder>(
     unheld: More,
     more: &mut More,
 ) -> Fault
-    ensures { (result ≡ fault) ⊎ IsUnreadWith (option_copied words.now.map) (option_copied words.now.scen) (option_copied words.now.journal) result }
+    ensures { (result ≡ fault) ⊎ IsUnreadOf (F.holds files.now) (option_copied words.now.map) (option_copied words.now.scen)
+        (option_copied words.now.journal) None result }
 {
-    match read_from(files, words.map, words.scen, words.journal, more) {
+    match read_from(files, words.map, words.scen, words.journal, None, more) {
         Ok(named) => {
             drop(named);
             *more = unheld;

@@ -1,5 +1,5 @@
 //! The word `serve`.
-ghost use Rattle.std.specs.Prelude.{◌≡◌, ◌⊎◌, ℕ, List, Option, Err, IfErr, IfOk, OnOk, max, min};
+ghost use Rattle.std.specs.Prelude.{◌≡◌, ◌⊎◌, ℕ, List, Option, None, Err, IfErr, IfOk, OnOk, max, min};
 ghost use Rattle.std.specs.Option.{option_copied};
 ghost use Rattle.desk_commits.specs.declared.limits.TheConstants.{MOST_ENTRIES};
 ghost use Rattle.solver_check.specs.Opens.{bytes_of};
@@ -41,9 +41,9 @@ pub fn serve_streams<R: AllocGlobal + Clock + Print + Eprint + Input, F: Folder 
 ) -> Result<(), Fault>
     ensures asked { LacksScen words.now → result ≡ Err Fault.AgentsWithoutScen }
     ensures served { OnOk result (OfFiles (F.holds files.now) (option_copied words.now.map) (option_copied words.now.scen)
-        (option_copied words.now.journal) (HasNoFault (F.has_saved files.now) words.now)) }
-    ensures refused { IfErr result (λ fault. IsUnready words.now fault ⊎ OfFiles (F.holds files.now) (option_copied words.now.map)
-        (option_copied words.now.scen) (option_copied words.now.journal) (λ map scen journal. HasServeFault words.now map scen journal fault)) }
+        (option_copied words.now.journal) None (HasNoFault (F.has_saved files.now) words.now)) }
+    ensures refused { IfErr result (λ fault. IsUnready (F.holds files.now) words.now fault ⊎ OfFiles (F.holds files.now) (option_copied words.now.map)
+        (option_copied words.now.scen) (option_copied words.now.journal) None (λ map scen journal. HasServeFault words.now map scen journal fault)) }
 {
     let (named, held) = match read_named(files, words, more) {
         Ok(ready) => ready,
