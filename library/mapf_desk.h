@@ -64,6 +64,15 @@ typedef enum {
     DESK_REFUSED         /* for another reason of the desk, which none of these calls gives it */
 } desk_status;
 
+/* How solvers write paths: the first line tells it, or a line for each time, for each agent, or of a session. */
+typedef enum { DESK_ANY_FORM, DESK_BY_TIME, DESK_BY_AGENT, DESK_BY_SESSION } desk_form;
+
+/* What is listed of a report: all, no conflicts of kinds that don't count, or only how many there are. */
+typedef enum { DESK_ALL, DESK_ONLY, DESK_QUIET } desk_listing;
+
+/* Whether paths solve their problem, or there is no verdict. */
+typedef enum { DESK_SOLVED, DESK_UNSOLVED, DESK_FAULT } desk_verdict;
+
 /* What the library exports. The calls below test what can be null first. */
 bool mapf_desk_open(desk *it, const uint8_t *map, size_t map_length, const uint8_t *scen, size_t scen_length, bool has_scen, uint32_t agents,
                     bool disappears, uint32_t limit, const uint8_t *journal, size_t journal_length, bool has_journal);
@@ -77,6 +86,9 @@ uint32_t mapf_desk_try_path(desk *it, uint32_t agent, const desk_cell *path, siz
 uint32_t mapf_desk_conflicts(desk *it, uint32_t agent, desk_conflict *room, size_t most, size_t *count);
 uint32_t mapf_desk_solves(desk *it, bool vertex, bool edge, bool follow, bool swap, bool cycle, bool *answer);
 uint32_t mapf_desk_distance(desk *it, uint32_t agent, uint32_t x, uint32_t y, uint32_t *steps);
+uint32_t mapf_desk_check(const uint8_t *map, size_t map_length, const uint8_t *scen, size_t scen_length, bool has_scen, uint32_t agents,
+                         const uint8_t *paths, size_t paths_length, uint32_t form, bool vertex, bool edge, bool follow, bool swap, bool cycle,
+                         bool disappears, bool quiet, bool only, uint8_t *room, size_t most, size_t *length);
 
 #ifdef __cplusplus
 }
@@ -177,6 +189,22 @@ static inline desk_status desk_distance(desk *it, uint32_t agent, desk_cell cell
 /* Gives back all memory. False where the desk is closed already. */
 static inline bool desk_close(desk *it) {
     return it && mapf_desk_close(it);
+}
+
+/* Gives a verdict on the paths that a solver wrote, by kinds of conflicts as desk_solves: the status and the text of the program's `check`
+   (docs/CLI.md), or DESK_FAULT and the fault's text. It needs no desk. A scenario without bytes is not given; then the agents are those of the
+   paths, whatever their number. With one there are as many as its first `agents` tasks, or with DESK_NONE as many as paths. The text is copied to
+   `room`, which is none of the texts, as by desk_answer. It is empty where there was no memory for it; DESK_FAULT, and nothing else, where a
+   pointer is null that may not be. */
+static inline desk_verdict desk_check(desk_text map, desk_text scen, uint32_t agents, desk_text paths, desk_form form, uint32_t kinds, desk_mode mode,
+                                      desk_listing listing, void *room, size_t most, size_t *length) {
+    uint8_t none;
+    if (!length || (!room && most))
+        return DESK_FAULT;
+    return (desk_verdict)mapf_desk_check(desk_bytes(map), desk_length(map), desk_bytes(scen), desk_length(scen), scen.bytes, agents, desk_bytes(paths),
+                                         desk_length(paths), form, kinds & 3, kinds >> DESK_EDGE & 1, kinds >> DESK_FOLLOW & 1, kinds >> DESK_SWAP & 1,
+                                         kinds >> DESK_CYCLE & 1, mode == DESK_DISAPPEAR, listing == DESK_QUIET, listing == DESK_ONLY,
+                                         room ? (uint8_t *)room : &none, most, length);
 }
 
 #endif

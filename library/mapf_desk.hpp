@@ -43,6 +43,23 @@ using Cell = desk_cell;
 using Conflict = desk_conflict;
 
 enum class Mode { stay, disappear };
+enum class Form { any, by_time, by_agent, by_session };
+enum class Listing { all, only, quiet };
+
+namespace detail {
+
+inline desk_text text(std::string_view it) { return {it.data() ? it.data() : "", it.size()}; }
+inline desk_text text(const std::optional<std::string_view> &it) { return it ? text(*it) : desk_nothing(); }
+inline desk_mode mode(Mode it) { return it == Mode::disappear ? DESK_DISAPPEAR : DESK_STAY; }
+
+template <class Kinds> std::uint32_t bits(const Kinds &kinds) {
+    std::uint32_t bits = 0;
+    for (desk_kind kind : kinds)
+        bits |= 1u << kind;
+    return bits;
+}
+
+} // namespace detail
 
 // What a desk is opened of.
 struct Problem {
@@ -58,8 +75,9 @@ struct Problem {
 class Desk {
   public:
     static Result<Desk> open(const Problem &problem) {
+        using detail::text;
         Desk desk;
-        const auto mode = problem.mode == Mode::disappear ? DESK_DISAPPEAR : DESK_STAY;
+        const auto mode = detail::mode(problem.mode);
         if (desk_open(&desk.handle, text(problem.map), text(problem.scen), problem.agents, mode, problem.limit, text(problem.journal)))
             return Result<Desk>(std::move(desk));
         std::string why = desk.answer();
@@ -76,7 +94,7 @@ class Desk {
     ~Desk() { desk_close(&handle); }
 
     // The answer to the session's next line, with its line feeds.
-    Result<std::string> ask(std::string_view line) { return told(desk_line(&handle, text(line))); }
+    Result<std::string> ask(std::string_view line) { return told(desk_line(&handle, detail::text(line))); }
 
     // How many commits the desk has accepted.
     Result<std::uint64_t> version() {
@@ -106,11 +124,8 @@ class Desk {
 
     // Whether the plans solve by these kinds of conflicts.
     Result<bool> solves(std::initializer_list<desk_kind> kinds) {
-        std::uint32_t bits = 0;
-        for (desk_kind kind : kinds)
-            bits |= 1u << kind;
         bool answer = false;
-        const desk_status status = desk_solves(&handle, bits, &answer);
+        const desk_status status = desk_solves(&handle, detail::bits(kinds), &answer);
         return given(status, answer);
     }
 
@@ -128,9 +143,6 @@ class Desk {
 
   private:
     Desk() = default;
-
-    static desk_text text(std::string_view it) { return {it.data() ? it.data() : "", it.size()}; }
-    static desk_text text(const std::optional<std::string_view> &it) { return it ? text(*it) : desk_nothing(); }
 
     // The word of a status.
     static const char *word(desk_status status) {
@@ -174,6 +186,44 @@ class Desk {
 
     desk handle = {};
 };
+
+// What a verdict is asked for; without a number of agents there are as many as paths.
+struct Check {
+    std::string_view map;
+    std::optional<std::string_view> scen = std::nullopt;
+    std::optional<std::uint32_t> agents = std::nullopt;
+    std::string_view paths;
+    Form form = Form::any;
+    std::vector<desk_kind> kinds = {DESK_VERTEX, DESK_SWAP};
+    Mode mode = Mode::stay;
+    Listing listing = Listing::all;
+};
+
+// The text of the program's `check`, and whether the paths solve the problem.
+struct Verdict {
+    bool is_solved;
+    std::string text;
+};
+
+// The verdict on the paths that a solver wrote, or why there is none.
+inline Result<Verdict> check(const Check &asked) {
+    std::string bytes(1 << 16, '\0');
+    std::size_t length = 0;
+    const auto call = [&] {
+        return desk_check(detail::text(asked.map), detail::text(asked.scen), asked.agents.value_or(DESK_NONE), detail::text(asked.paths),
+                          static_cast<desk_form>(asked.form), detail::bits(asked.kinds), detail::mode(asked.mode),
+                          static_cast<desk_listing>(asked.listing), bytes.data(), bytes.size(), &length);
+    };
+    desk_verdict verdict = call();
+    if (length > bytes.size()) {
+        bytes.resize(length);
+        verdict = call();
+    }
+    bytes.resize(length);
+    if (verdict == DESK_FAULT)
+        return Fault{bytes.empty() ? "out of memory" : std::move(bytes)};
+    return Verdict{verdict == DESK_SOLVED, std::move(bytes)};
+}
 
 } // namespace mapf
 

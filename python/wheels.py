@@ -7,7 +7,7 @@ from pathlib import Path
 HERE = Path(__file__).resolve().parent
 NAME, VERSION, TAG = "mapf_desk", "1.0", "py3-none-linux_x86_64"
 INFO = f"{NAME}-{VERSION}.dist-info"
-FILES = ("__init__.py", "desks.py", "exports.py", "reports.py", "py.typed", "libmapf_desk.so")
+FILES = ("__init__.py", "checks.py", "desks.py", "exports.py", "reports.py", "py.typed", "libmapf_desk.so")
 
 
 def build_wheel(wheel_directory, config_settings=None, metadata_directory=None):

@@ -3,10 +3,14 @@ from __future__ import annotations
 
 import ctypes
 from types import TracebackType
-from typing import Callable, Iterable, Literal
+from typing import Callable, Iterable, Literal, Sequence
 
 from . import exports
 from .reports import Cell, Conflict, Report, conflict_of, read_report
+
+Kind = Literal["vertex", "edge", "follow", "swap", "cycle"]
+Mode = Literal["stay", "disappear"]
+KINDS = ("vertex", "edge", "follow", "swap", "cycle")
 
 
 class Fault(ValueError):
@@ -21,20 +25,19 @@ class Desk:
         map: str | bytes,
         scen: str | bytes | None = None,
         agents: int = 0,
-        mode: Literal["stay", "disappear"] = "stay",
+        mode: Mode = "stay",
         limit: int = 100_000,
         journal: str | bytes | None = None,
     ) -> None:
         """Opens a desk of a map's text, with the first tasks of a scenario, after the entries of a journal of at most `limit`."""
         self._handle, self._room, self._found = exports.Handle(), ctypes.create_string_buffer(4096), (exports.Conflict * 8)()
-        if mode not in ("stay", "disappear"):
-            raise Fault(f"mode {mode!r}")
+        leaves = is_leaving(mode)
         for name, number in (("agents", agents), ("limit", limit)):
             if not 0 <= number < 2**32:
                 raise Fault(f"{name} {number}")
-        texts = [_bytes(it) for it in (map, scen or b"", journal or b"")]
+        texts = [text_bytes(it) for it in (map, scen or b"", journal or b"")]
         words = [it for text in texts for it in (text, len(text))]
-        how = (scen is not None, agents, mode == "disappear", limit)
+        how = (scen is not None, agents, leaves, limit)
         if not exports.open_desk(self._handle, *words[:4], *how, *words[4:], journal is not None):
             why = self._answer().decode()
             self.close()
@@ -42,7 +45,7 @@ class Desk:
 
     def ask(self, line: str | bytes) -> bytes:
         """The answer to the session's next line, without its line feed."""
-        text = _bytes(line)
+        text = text_bytes(line)
         return self._whole(exports.line(self._handle, text, len(text)))
 
     def version(self) -> int:
@@ -77,13 +80,10 @@ class Desk:
         _done(status)
         return steps.value
 
-    def solves(self, *kinds: Literal["vertex", "edge", "follow", "swap", "cycle"]) -> bool:
+    def solves(self, *kinds: Kind) -> bool:
         """Whether the plans solve by these kinds of conflicts, as `solves("vertex", "swap")`."""
-        names, answer = ("vertex", "edge", "follow", "swap", "cycle"), ctypes.c_bool()
-        for it in kinds:
-            if it not in names:
-                raise Fault(f"kind {it!r}")
-        _done(exports.solves(self._handle, *(it in kinds for it in names), answer))
+        answer = ctypes.c_bool()
+        _done(exports.solves(self._handle, *flags_of_kinds(kinds), answer))
         return answer.value
 
     def report(self, *agents: int) -> Report:
@@ -137,8 +137,24 @@ class Desk:
             self.close()
 
 
-def _bytes(text: str | bytes) -> bytes:
+def text_bytes(text: str | bytes) -> bytes:
+    """The text's bytes."""
     return text.encode() if isinstance(text, str) else bytes(text)
+
+
+def is_leaving(mode: Mode) -> bool:
+    """Whether agents leave at their goals."""
+    if mode not in ("stay", "disappear"):
+        raise Fault(f"mode {mode!r}")
+    return mode == "disappear"
+
+
+def flags_of_kinds(kinds: Sequence[Kind]) -> tuple[bool, ...]:
+    """Whether each kind of conflicts is among these, in the library's order."""
+    for it in kinds:
+        if it not in KINDS:
+            raise Fault(f"kind {it!r}")
+    return tuple(it in kinds for it in KINDS)
 
 
 def _done(status: int) -> None:

@@ -33,9 +33,9 @@ _ROOM = (ctypes.POINTER(Conflict), _LENGTH, ctypes.POINTER(_LENGTH))
 _VERSION = ctypes.POINTER(ctypes.c_uint64)
 
 
-def _exported(name: str, *types, result=ctypes.c_bool):
+def _exported(name: str, *types, result=ctypes.c_bool, first=(_HANDLE,)):
     call = getattr(_LIBRARY, f"mapf_desk_{name}")
-    call.restype, call.argtypes = result, (_HANDLE, *types)
+    call.restype, call.argtypes = result, (*first, *types)
     return call
 
 
@@ -50,3 +50,5 @@ try_path = _exported("try_path", *_PATH, *_ROOM, result=_NUMBER)
 conflicts = _exported("conflicts", _NUMBER, *_ROOM, result=_NUMBER)
 solves = _exported("solves", *[ctypes.c_bool] * 5, ctypes.POINTER(ctypes.c_bool), result=_NUMBER)
 distance = _exported("distance", *[_NUMBER] * 3, ctypes.POINTER(_NUMBER), result=_NUMBER)
+_WORDS = (*_TEXT, *_TEXT, ctypes.c_bool, _NUMBER, *_TEXT, _NUMBER, *[ctypes.c_bool] * 8)
+check = _exported("check", *_WORDS, *_TEXT, ctypes.POINTER(_LENGTH), result=_NUMBER, first=())

@@ -1,4 +1,5 @@
 pub mod Calls
+pub mod Checking
 pub mod Handles
 pub mod Numbers
 pub mod Opening

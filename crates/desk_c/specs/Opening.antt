@@ -1,6 +1,5 @@
 -- What comes of opening a desk behind a handle (this project's choice): the desk that `serve` opens of the same texts.
-use Rattle.std.specs.Prelude.{◌≡◌, ◌⊎◌, ◌<◌, ◌≤◌, ℕ, List, [], Option, Some, None, Result, Ok, Err, Bool, true, false, option_map}
-use Rattle.std.specs.Borrow.{Bor}
+use Rattle.std.specs.Prelude.{◌≡◌, ◌⊎◌, ◌<◌, ◌≤◌, ℕ, List, [], Option, Some, None, Result, Ok, Err, Bool, true, false}
 use Rattle.grid_cells.specs.Grid.{Chart}
 use Rattle.plan_table.specs.declared.tracks.Mode.{Mode}
 use Rattle.plan_table.specs.declared.tracks.Mode.TheVariants.{Stay, Disappear}
@@ -33,10 +32,6 @@ use Rattle.desk_c.specs.declared.states.State.{State}
 abbrev pub optional : Bool → List ℕ → Option (List ℕ)
 optional true text = Some text
 optional false text = None
-
--- the bytes of a text, where one is handed in
-abbrev pub bytes_of : Option (Bor (List ℕ)) → Option (List ℕ)
-bytes_of text = option_map (λ bytes. bytes.now) text
 
 -- the mode, by whether agents disappear at their goals
 abbrev pub mode_of : Bool → Mode

@@ -2,7 +2,8 @@
 //!
 //! `handles` has the handle and what is behind it, whose box `loose` takes to a pointer and back;
 //! `states` answers lines there, and `opening` opens a desk of texts. `solving` has the calls on numbers, `planned` what they do
-//! behind a handle, `planning` what they ask of a desk, `numbers` and `statuses` how that is told. What a caller owes and gets
+//! behind a handle, `planning` what they ask of a desk, `numbers` and `statuses` how that is told. `checking` has the call that gives
+//! a verdict on a solver's paths, and needs no handle. What a caller owes and gets
 //! is in `library/mapf_desk.h`, which tests what can be null before it calls these.
 #![tactic(auto)]
 
@@ -10,6 +11,7 @@ ghost use Rattle.std.specs.Prelude.{◌≡◌, None, is_some};
 ghost use Rattle.desk_c.specs.Calls.{AtHandle, AtState, IsCopied, IsHeard, WritesJournal};
 ghost use Rattle.desk_c.specs.Opening.{IsOpened, optional};
 
+mod checking;
 mod handles;
 mod loose;
 mod numbers;
@@ -20,10 +22,10 @@ mod solving;
 mod states;
 mod statuses;
 
+use crate::checking::mode_of;
 use crate::handles::Handle;
 use crate::opening::{Texts, opened};
 use crate::states::State;
-use plan_table::Mode;
 use std::alloc::Global;
 
 /// Opens a desk of a map's text, the first tasks of a scenario and the entries of a journal, where these are
@@ -49,11 +51,7 @@ pub extern "C" fn mapf_desk_open(
         map,
         scen: if has_scen { Some(scen) } else { None },
         agents,
-        mode: if disappears {
-            Mode::Disappear
-        } else {
-            Mode::Stay
-        },
+        mode: mode_of(disappears),
         journal: if has_journal { Some(journal) } else { None },
     };
     let Some(state) = opened(alloc, texts, limit) else {

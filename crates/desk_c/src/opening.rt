@@ -1,5 +1,6 @@
 ghost use Rattle.std.specs.Prelude.{◌≡◌, IfSome};
-ghost use Rattle.desk_c.specs.Opening.{IsFirst, IsNew, MakesDesk, MakesScene, Opens, Replays, bytes_of};
+ghost use Rattle.desk_c.specs.Opening.{IsFirst, IsNew, MakesDesk, MakesScene, Opens, Replays};
+ghost use Rattle.solver_check.specs.Opens.{bytes_of};
 
 use crate::states::{OpenDesk, Opening, State};
 use bench_reader::{MapFault, ScenFault, read_map, read_scen};

@@ -2,10 +2,10 @@
 ghost use Rattle.std.specs.Prelude.{◌≡◌};
 ghost use Rattle.desk_c.specs.Handles.{AtDesk, CommitsAt, IsUnfilled, IsUnmoved, OfDesk, TellsDistanceAt, TellsEntriesAt, TellsSolvesAt, TellsVersion, TriesAt};
 
+use crate::checking::kinds_of;
 use crate::handles::Handle;
 use crate::numbers::{CellNumbers, EntryNumbers};
 use crate::statuses::CLOSED;
-use desk_report::Kinds;
 use std::alloc::Global;
 
 /// Gives how many commits the desk has accepted.
@@ -104,13 +104,7 @@ pub extern "C" fn mapf_desk_solves(
     let Some(mut state) = handle.take(alloc) else {
         return CLOSED;
     };
-    let kinds = Kinds {
-        vertex,
-        edge,
-        follow,
-        swap,
-        cycle,
-    };
+    let kinds = kinds_of(vertex, edge, follow, swap, cycle);
     let told = state.solves(kinds, answer);
     handle.put(state);
     told

@@ -121,13 +121,21 @@ impl State {
         ensures whole { result ≡ length self.now.answer.items }
         ensures front { room.new ≡ take (length room.old) self.now.answer.items ++ drop (length self.now.answer.items) room.old }
     {
-        let count = self.answer.len();
-        let most = if count < room.len() {
-            count
-        } else {
-            room.len()
-        };
-        room[..most].copy_from_slice(&self.answer[..most]);
-        count
+        copy_front(self.answer.as_slice(), room)
     }
+}
+
+/// Copies the front of the bytes that there is room for, and gives the length of the whole.
+pub(crate) fn copy_front(bytes: &[u8], room: &mut [u8]) -> usize
+    ensures whole { result ≡ length bytes.now }
+    ensures front { room.new ≡ take (length room.old) bytes.now ++ drop (length bytes.now) room.old }
+{
+    let count = bytes.len();
+    let most = if count < room.len() {
+        count
+    } else {
+        room.len()
+    };
+    room[..most].copy_from_slice(&bytes[..most]);
+    count
 }
