@@ -18,6 +18,7 @@ sys.dont_write_bytecode = True
 sys.path.insert(1, os.path.join(os.path.dirname(os.path.abspath(__file__)), "library"))
 
 import memory
+import on_checks
 import on_numbers
 from processes.documented import LIBRARY, blocks_of, commands_of, page_runs
 from processes.running import TOP, Program, Wrong, run, want
@@ -228,6 +229,18 @@ def numbers_of_c():
     on_numbers.c_answers_as_the_plain_program(built, said)
 
 
+def c_checks_as_the_program():
+    on_checks.c_checks_as_the_program(built, said, MAP, changed)
+
+
+def cpp_checks_as_the_program():
+    on_checks.cpp_checks_as_the_program(built, said, MAP, changed)
+
+
+def python_checks_as_the_program():
+    on_checks.python_checks_as_the_program(MAP, changed)
+
+
 def planners():
     """A planner in each language finds paths for 20 agents."""
     words = [f"{TOP}/demo/warehouse.map", f"{TOP}/demo/warehouse.scen", "20"]
@@ -244,7 +257,8 @@ def memory_checked():
 TESTS = (
     programs_of_the_page, c_answers_as_the_program, python_answers_as_the_program, a_journal_comes_back, opens_as_the_program,
     python_refuses_what_is_wrong, a_report_is_read, wrong_calls_of_c, desks_of_cpp, a_wheel_is_installed, numbers_of_c,
-    on_numbers.python_answers_as_the_plain_program, planners, memory_checked,
+    on_numbers.python_answers_as_the_plain_program, c_checks_as_the_program, cpp_checks_as_the_program, python_checks_as_the_program, planners,
+    memory_checked,
 )
 
 

@@ -16,7 +16,7 @@ from wrong_body import refused_by_tests
 TOP = os.path.dirname(os.path.dirname(os.path.abspath(__file__)))
 PROGRAM, READERS, CALLERS = "mapf_desk", "desk_cli", "test_desks"
 # The crates that have wrong bodies which tests refuse, the program and what stands below it.
-CRATES = (PROGRAM, "desk_io", "atomic_save", "desk_log", READERS, "desk_session", "single_runs", "shared_runs", "solver_check")
+CRATES = (PROGRAM, "desk_io", "atomic_save", "log_file", "desk_log", READERS, "desk_session", "single_runs", "shared_runs", "solver_check")
 WRONG, TOLD, TRIED = "MAPF_DESK_WRONG", "MAPF_DESK_TOLD", "MAPF_DESK_TRIED"
 BEGIN, END = "‹", "›"
 

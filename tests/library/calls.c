@@ -65,6 +65,20 @@ static void tries_answers(void) {
     IS(desk_close(&it) && is_closed(&it));
 }
 
+static desk_verdict checks(const char *map, const char *paths, void *to, size_t most, size_t *length) {
+    return desk_check(desk_string(map), desk_nothing(), DESK_NONE, desk_string(paths), DESK_ANY_FORM, 1 << DESK_VERTEX, DESK_STAY, DESK_ONLY, to, most, length);
+}
+
+static void tries_checks(void) {
+    size_t length = 77;
+    memset(room, 'x', sizeof room);
+    IS(checks(MAP, "path 0 0,0\n", 0, 9, &length) == DESK_FAULT && checks(MAP, "path 0 0,0\n", room, 9, 0) == DESK_FAULT && length == 77 && room[0] == 'x');
+    IS(checks(MAP, "path 0 0,0\n", 0, 0, &length) == DESK_SOLVED && length > 77);
+    IS(checks(MAP, "path 0 0,0\n", room, 7, &length) == DESK_SOLVED && length > 77 && !memcmp(room, "versionx", 8));
+    IS(checks(0, "path 0 0,0\n", room, sizeof room, &length) == DESK_FAULT && length == 15 && !memcmp(room, "map: not octile", 15));
+    IS(checks(MAP, 0, room, sizeof room, &length) == DESK_UNSOLVED && length == 19 && !memcmp(room, "no paths\nsolves no\n", 19));
+}
+
 static long pages(void) {
     long all = 0, held = 0;
     FILE *file = fopen("/proc/self/statm", "r");
@@ -89,6 +103,7 @@ static void opens_many(int count) {
 int main(int count, char **words) {
     tries_faults();
     tries_answers();
+    tries_checks();
     opens_many(500);
     long some = pages();
     opens_many(count > 1 ? atoi(words[1]) : 10000);

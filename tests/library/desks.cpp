@@ -28,5 +28,13 @@ int main() {
     is(mapf::Desk::open({"type hex\n"}).fault() == "map: not octile", "a map's fault is the text");
     is(mapf::Desk::open({map, std::nullopt, 0, mapf::Mode::stay, 9, "journal 2\nmode disappear\nend 0\n"}).fault() == "journal: mode differs", "modes differ");
     is(bool(mapf::Desk::open({map, std::nullopt, 0, mapf::Mode::disappear, 9, "journal 2\nmode disappear\nend 0\n"})), "modes are the same");
+    mapf::Check asked;
+    asked.map = map;
+    asked.paths = "path 0 0,0 1,0\n";
+    is(mapf::check(asked) && mapf::check(asked)->is_solved, "paths solve");
+    asked.paths = "path 0 0,0 2,0\n";
+    is(mapf::check(asked)->text == "wrong 0 1 not-a-step 0,0 2,0\nsolves no\n" && !mapf::check(asked)->is_solved, "a wrong path is told");
+    asked.paths = "path 0 0\n";
+    is(mapf::check(asked).fault() == "paths: bad path in line 1", "a fault of the paths is told");
     return 0;
 }

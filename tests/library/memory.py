@@ -6,7 +6,7 @@ from plain_calls import runs
 from processes.running import Wrong
 
 VALGRIND = ["valgrind", "-q", "--leak-check=full", "--show-leak-kinds=all", "--error-exitcode=9"]
-DESKS = 1000  # desks that are opened and closed; ten times as many without valgrind
+DESKS = 10000  # desks that are opened and closed
 
 
 def silent(words, given, said, what):

@@ -4,7 +4,7 @@ What many files are checked for, and in what time and room, is in fleets.py.
 """
 from .faulty_checks import FAULTS, OTHER_FAULTS, WRONG
 from .running import TOP, is_fault, is_run, put, remove, run, want
-from .texts import ARRIVED, LEFT, STAYED
+from .texts import ARRIVED, EMPTY, LEFT, RESTING, STAYED
 
 DEMO = f"{TOP}/demo/corridor"
 
@@ -38,6 +38,11 @@ def quiet(agents, finished, conflicts, kinds, blocked, totals):
     return f"agents {agents}\nfinished {finished}\nconflicts {conflicts}\n{counts}blocked {blocked}\n" + "sum {}\nmakespan {}\nbounds {}\ngap {}\nend\n".format(*totals)
 
 
+def unlisted(report):
+    """The report without its conflicts."""
+    return report[: report.index("conflicts")] + "conflicts 0\n" + report[report.index("blocked") :]
+
+
 # Name, further words, the paths, the report, and whether they solve the problem.
 WORKED = [
     ("swap_by_time", "--map field", SWAP, SWAPPED, "no"),
@@ -45,14 +50,19 @@ WORKED = [
     ("swap_that_counts_alone", "--map field --solves swap", SWAP, SWAPPED, "no"),
     ("followers_that_count", "--map field --solves follow", SWAP, SWAPPED, "no"),
     ("swap_counted", "--map field --quiet", SWAP, quiet(2, 2, 3, (0, 0, 2, 1, 0), 0, (2, 1, 2, 0)), "no"),
+    ("swap_listed_alone", "--map field --only", SWAP, SWAPPED.replace("conflicts 3\nfollow 0 0 1 1,0\nfollow 0 1 0 0,0\n", "conflicts 1\n"), "no"),
+    ("no_swap_listed", "--map field --solves vertex edge cycle --only", SWAP, unlisted(SWAPPED), "yes"),
     ("together_by_agent", "--map field", TOGETHER, CROSSED, "no"),
+    ("visits_listed_and_no_conflicts", "--map field --solves swap --only", TOGETHER, unlisted(CROSSED), "no"),
     ("closed_cells_always_count", "--map field --solves cycle", TOGETHER, CROSSED, "no"),
     ("together_counted", "--map field --quiet", TOGETHER, quiet(3, 3, 3, (2, 1, 0, 0, 0), 1, (5, 2, 7, "none")), "no"),
     ("ring_by_session", "--map field", RING, TURNED, "yes"),
     ("ring_that_counts", "--map field --solves cycle", RING, TURNED, "no"),
     ("ring_that_counts_among_others", "--map field --solves vertex cycle vertex edge", RING, TURNED, "no"),
     ("ring_counted", "--map field --quiet", RING, quiet(4, 4, 5, (0, 0, 4, 0, 1), 0, (4, 1, 4, 0)), "yes"),
+    ("counted_whatever_is_listed", "--map field --quiet --only", RING, quiet(4, 4, 5, (0, 0, 4, 0, 1), 0, (4, 1, 4, 0)), "yes"),
     ("parked_by_session", "--map m", COMES, STAYED, "no"),
+    ("parked_listed_as_vertex", "--map m --only", COMES, STAYED.replace("conflicts 2", "conflicts 1").replace("follow 0 1 0 1,0\n", ""), "no"),
     ("parked_that_does_not_count", "--map m --mode stay --solves swap", COMES, STAYED, "yes"),
     ("parked_counts_as_vertex", "--map m --quiet --solves vertex", COMES, quiet(2, 2, 2, (1, 0, 1, 0, 0), 0, (1, 1, 1, 0)), "no"),
     ("left_before_it_comes", "--map m --mode disappear", COMES, LEFT, "yes"),
@@ -65,6 +75,11 @@ WORKED = [
     ("as_many_tasks_as_paths", "--map field --scen tasks", b"path 0 0,0 1,0 2,0", ARRIVED, "yes"),
     ("an_agent_without_a_path", "--map field --scen tasks --agents 2", b"path 0 0,0 1,0 2,0", TWO + "differs paths 1 2\n", "no"),
     ("an_agent_without_a_path_and_elsewhere", "--map field --scen tasks --agents 3", b"path 0 0,0 1,0 2,0", THREE + "differs paths 1 3\n", "no"),
+    ("a_path_too_many", "--map m --scen s --agents 1", b"path 0 0,0 1,0 2,0\npath 1 0,0\n", ARRIVED + "differs paths 2 1\n", "no"),
+    ("a_path_too_many_off_the_map", "--map m --scen s --agents 1", b"path 0 0,0\npath 1 9,9 0,0\n", RESTING + "differs paths 2 1\n", "no"),
+    ("paths_of_no_agent", "--map m --scen s --agents 0", b"path 0 0,0\n", EMPTY + "differs paths 1 0\n", "no"),
+    ("more_paths_and_agents_told_than_asked_for", "--map m --scen s --agents 1 --form time",
+     b"Agent count=2\nagents=2\nstarts=(0,0)\nsolution=\n0:(0,0),(1,0),\n", RESTING + "differs paths 2 1\ndiffers agents 2 1\ndiffers starts 1 2\n", "no"),
     ("starts_and_goals_of_the_scenario", "--map m --scen s", b"starts=(0,0)\ngoals=(2,0)\nsolution=\n0:(0,0),\n1:(1,0),\n2:(2,0),\n", ARRIVED, "yes"),
     ("another_start_than_the_scenario", "--map m --scen s", b"starts=(1,0)\nsolution=\n0:(0,0),\n1:(1,0),\n2:(2,0),\n",
      ARRIVED + "differs starts 0 1,0 0,0\n", "no"),

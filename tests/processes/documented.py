@@ -39,6 +39,11 @@ def commands_of(page):
     return commands
 
 
+def programs_of(page):
+    """The programs of a page: each Python block, under the name of the file that the paragraph above it begins with."""
+    return re.findall(r"^`(\w+\.py)`.*\n\n```python\n(.*?)^```$", text_of(page), re.MULTILINE | re.DOTALL)
+
+
 def are_these(found, wanted):
     """Whether the lines are those that are wanted, where `..` stands for any."""
     pattern = "".join(r"(.*\n)*" if it == ".." else re.escape(it + "\n") for it in wanted)
@@ -114,5 +119,5 @@ def anchors_of(file):
 
 
 def tests():
-    pages = [(f"page_runs_{os.path.basename(page)[:-3].lower()}", lambda page=page: page_runs(page)) for page in PAGES if commands_of(page) and page != LIBRARY]
+    pages = [(f"page_runs_{os.path.basename(page)[:-3].lower()}", lambda page=page: page_runs(page, files=programs_of(page))) for page in PAGES if commands_of(page) and page != LIBRARY]
     return [(it.__name__, it) for it in (pages_have_commands, pages_are_short, links_lead_somewhere)] + pages

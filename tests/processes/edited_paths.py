@@ -82,6 +82,13 @@ def report_of(goals, paths, differs):
     return ["version 0", f"agents {len(paths)}", *lines, f"blocked {len(visits)}", *visits, *ends]
 
 
+def verdict_by(fault):
+    """What stands before `solves no` for a text that isn't read for that fault, or nothing where that is no verdict."""
+    if fault == "no paths":
+        return "no paths\n"
+    return f"differs {fault.removeprefix('repeated list in ')}\n" if fault.startswith("repeated list") else ""
+
+
 CONFLICTS = ("conflicts", "vertex", "parked", "edge", "follow", "swap", "cycle")
 
 
@@ -97,7 +104,7 @@ def compare(text, form, size):
         kind = f"read by {told}"
     except Fault as why:
         fault, kind = str(why), re.sub(r" \d+", "", str(why))
-        wrong, differs = "no paths\n" if kind == "no paths" else "", ""
+        wrong, differs = verdict_by(fault), ""
     if wrong:
         want(f"the check of {text!r} by {form}", (status, said, complained), (1, f"{wrong}{differs}solves no\n", ""))
     elif fault:

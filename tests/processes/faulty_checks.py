@@ -5,7 +5,6 @@ FAULTS = [
     ("--map m", b"agents=1\n", "missing solution", None),
     ("--map m", b"\n\nhello\n", "no form of paths in line 3", "hello"),
     ("--map m", b"agents=1\nhello\n", "bad header in line 2", "hello"),
-    ("--map m", b"starts=(0,0)\ngoals=(0,0)\nstarts=(0,0)\n", "repeated list in line 3", "starts=(0,0)"),
     ("--map m", b"solution=\n1:(0,0),\n", "bad time in line 2", "1:(0,0),"),
     ("--map m", b"Agent 1: (0,0)->\n", "bad agent in line 1", "Agent 1: (0,0)->"),
     ("--map m", b"path 0 0,0\npath 0 0,0\n", "bad agent in line 2", "path 0 0,0"),
@@ -18,15 +17,11 @@ FAULTS = [
     ("--map m", b"path 0\n", "no cells in line 1", "path 0"),
     ("--map m", b"goals=(0,0),(1,0)\nsolution=\n0:(0,0),\n1:(0,0),(1,0),\n", "cell count in line 4", "1:(0,0),(1,0),"),
     ("--map m", b"agents=one\nsolution=\n0:(0,0),\n", "bad header in line 1", "agents=one"),
-    ("--map m", b"agents=1\nagents=1\n", "repeated list in line 2", "agents=1"),
     ("--map m --form agent", b"solution=\n0:(0,0),\n", "bad agent in line 1", "solution="),
     ("--map m --form time", b"path 0 0,0\n", "bad header in line 1", "path 0 0,0"),
     ("--map m --form session", b"Agent 0: (0,0)->\n", "bad path in line 1", "Agent 0: (0,0)->"),
     ("--map m", b"Agent count=1\nsolution=\n0:(0,0),\n", "bad agent in line 1", "Agent count=1"),
     ("--map map_size", b"path 0 x\n", "bad path in line 1", "path 0 x"),
-    ("--map m --scen s --agents 1", b"path 0 0,0\npath 1 0,0\n", "agent 1 at time 0: unknown-agent", "paths: 2, agents: 1"),
-    ("--map m --scen s --agents 0", b"path 0 0,0\n", "agent 0 at time 0: unknown-agent", "paths: 1, agents: 0"),
-    ("--map m --scen s --agents 1 --form time", b"Agent count=2\nsolution=\n0:(0,0),(1,0),\n", "agent 1 at time 0: unknown-agent", "paths: 2, agents: 1"),
 ]
 
 # Words, and paths of which some aren't any, or that are none; and what is said of them.
@@ -36,7 +31,11 @@ WRONG = [
     ("--map m --form agent", b"", "no paths"),
     ("--map m --scen s", b"# a remark\n", "no paths"),
     ("--map m --scen s --agents 1", b"agents=1\nsolved=0\nsolution=\n", "no paths"),
+    ("--map m", b"starts=(0,0)\ngoals=(0,0)\nstarts=(0,0)\n", "differs line 3"),
+    ("--map m --scen s --quiet", b"agents=1\nagents=x\nno more is read\n", "differs line 2"),
+    ("--map m --scen s --agents 1", b"\ngoals=(2,0)\na=b\n\ngoals=(1,0)\nsolution=\n0:(0,0)\n", "differs line 5"),
     ("--map m --scen s", b"path 0 0,0 2,0\n", "wrong 0 1 not-a-step 0,0 2,0"),
+    ("--map m --scen s --agents 1", b"path 0 0,0 2,0\npath 1 0,0\n", "wrong 0 1 not-a-step 0,0 2,0\ndiffers paths 2 1"),
     ("--map m --scen s", b"path 0 0,0 0,0 1,0 1,1 2,0\n", "wrong 0 3 out-of-map 1,1"),
     ("--map m --scen s", b"path 0 1,0 2,0\n", "wrong 0 0 not-from-start 0,0 1,0"),
     ("--map m --scen s", b"path 0 9,9 1,0\n", "wrong 0 0 out-of-map 9,9"),
@@ -80,6 +79,9 @@ OTHER_FAULTS = [
     ("--map map_size --paths none_at_all", "map: bad size"),
     ("--map m --scen scen_size --paths none_at_all", "scen: size mismatch in line 2"),
     ("--map m --scen s --paths none_at_all --agents 2", "scen: too few tasks, 1"),
+    ("--map map_size --paths twice", "map: bad size"),
+    ("--map m --scen scen_size --paths twice", "scen: size mismatch in line 2"),
+    ("--map m --scen s --paths twice --agents 2", "scen: too few tasks, 1"),
 ]
 
 # Words of a picture or a page, paths that aren't any, the fault's text, and the cells that show it.
@@ -97,6 +99,7 @@ UNDRAWN = [
     ("--map m", b"Agent 0: (0,0)->(1,0)->\n", "agent 0: out-of-map", "starts at (0,0), and its goal is (1,0)"),
     ("--map m --scen s --agents 1", b"path 0 0,0\npath 1 0,0\n", "agent 1 at time 0: unknown-agent", "paths: 2, agents: 1"),
     ("--map m", b"# no path\n", "no paths", None),
+    ("--map m", b"agents=1\nagents=1\n", "repeated list in line 2", "line 2: agents=1"),
 ]
 
 # Words of a picture, and the text of its fault, in the order in which faults are looked for.

@@ -64,6 +64,15 @@ def counts(report):
     return "\n".join([*kept[:2], f"finished {finished}", kept[2], *kinds, *kept[3:]]) + "\n"
 
 
+def listed(report, kinds):
+    """The report with the conflicts of these kinds alone."""
+    shown = {it for kind in kinds for it in ASKED[kind]}
+    hidden = {it for names in ASKED.values() for it in names} - shown
+    lines = [it for it in report.splitlines() if it.split()[0] not in hidden]
+    count = sum(it.split()[0] in shown for it in lines)
+    return "".join(f"conflicts {count}\n" if it.startswith("conflicts ") else f"{it}\n" for it in lines)
+
+
 def verdict(report, kinds):
     lines = [it.split() for it in report.splitlines()]
     wrong = {it for kind in kinds for it in ASKED[kind]}
@@ -90,6 +99,7 @@ def round_trip():
             wanted = (int(said == "no"), f"{report}solves {said}\n", "")
             want(f"the check of {fleet.by_session()!r} by {form}", run([*words, *scen]), wanted)
         want("the counts", run([*words, *scen, "--quiet"])[1], f"{counts(report)}solves {said}\n")
+        want("the conflicts that count", run([*words, *scen, "--only"])[1], f"{listed(report, kinds)}solves {said}\n")
     want("the verdicts", seen, {"yes", "no"})
     remove("trip_map", "trip_scen", "trip_journal", "trip_paths")
 

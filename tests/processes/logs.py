@@ -1,108 +1,135 @@
-"""Logs that are read as journals: whole, cut off, damaged. Their text is made here from docs/PROTOCOL.md alone."""
-import hashlib
+"""Logs: what they hold, what a session goes on from, and what every word reads of them. The log's text is made here from docs/PROTOCOL.md alone."""
+import os
 import random
 
+from .log_texts import OFF, SERVE, WIDE, answers, edits, head, log_of, tear_note
 from .running import Wrong, bytes_of, is_answered, is_fault, is_run, put, remove, run, want
-from .texts import ADD
+from .texts import ADD, MAP, SCEN
 
-WIDE = b"type octile\nheight 2\nwidth 9\nmap\n.........\n.........\n"
-READ = ["serve", "--map", "wide", "--journal", "log"]
-
-
-def digits(text):
-    return hashlib.sha256(text).hexdigest().encode()
-
-
-def head(shown=WIDE, scen=b"", agents=0, mode=b"stay"):
-    return b"log 1\nmode %s\nscene %s\n" % (mode, digits(shown + b"\n" + scen + b"\n" + b"%d" % agents))
-
-
-def log_of(entries, begins=None):
-    """The text of a log of those entries."""
-    text = begins or head()
-    check = digits(text)[:16]
-    for number, entry in enumerate(entries, 1):
-        check = digits(check + entry)[:16]
-        text += entry + b"commit %d %s\n" % (number, check)
-    return text
+# Sessions over one log, one after another: lines, their answers, and the entries that they make.
+SESSIONS = [
+    (b"close 0,1\nclose 1,1\nclose 2,1\n", answers(1, 3), edits(3)[1]),
+    (b"version\n" + ADD + b"begin\nwatch map\npath 0 0,0 1,0 2,0\ndrop 7\ncommit\ncancel\n",
+     "version 3\nversion 4\nbase 4\nkept\nkept\nkept\nrefused faulty 1 unknown-agent\ncancelled\n", [b"entry 0 3 0 1\n" + ADD]),
+    (b"begin\nwatch map\npath 0 0,0 1,0 2,0\ncommit\nversion\n", "base 4\nkept\nkept\nversion 5\nversion 5\n",
+     [b"entry 0 4 1 1\nwatch map\npath 0 0,0 1,0 2,0\n"]),
+    (b"drop 7\nbegin\ncommit\nclose 3,1 \nfly\nbegin\nclose 4,1\ncancel\ncommit\npath 0 1,0\nsolves vertex\ndistance 0 0,0\ntail 0 9 9,9\n",
+     "refused faulty 0 unknown-agent\nbase 5\nrefused no-edits\nkept\nbad 5 word\nbase 5\nkept\ncancelled\nbad 9 notbegun\n"
+     "refused faulty 0 not-from-start\nsolves yes\ndistance 2\nrefused faulty 0 out-of-map\n", []),
+]
 
 
-def edits(count):
-    """Lines of a session, each of which makes a commit; and the entries that they make."""
-    lines = [(b"close %d,1" if it // 9 % 2 == 0 else b"open %d,1") % (it % 9) for it in range(count)]
-    return lines, [b"entry 0 %d 0 1\n%s\n" % (it, line) for it, line in enumerate(lines)]
-
-
-def logs_as_journals():
-    """A log reads as its journal in each word, and stays as it is."""
+def logged():
+    """The log is the text that docs/PROTOCOL.md says, with what was accepted and nothing else, and is gone on with."""
     put("wide", WIDE)
-    entries = [*edits(3)[1], b"entry 0 3 0 1\n" + ADD, b"entry 0 4 1 1\nwatch map\npath 0 0,0 1,0 2,0\n"]
-    put("log", log_of(entries))
-    put("journal", b"journal 2\nmode stay\n" + b"".join(entries) + b"end 5\n")
-    for words in (["audit", "--map", "wide"], ["draw", "--map", "wide"], ["page", "--map", "wide"]):
-        want(f"what {words} print", run([*words, "--journal", "log"]), run([*words, "--journal", "journal"]))
-    is_answered([*READ, "--save", "other"], b"version\n", "version 5\n")
-    want("what is saved", bytes_of("other"), bytes_of("journal"))
-    want("the log", bytes_of("log"), log_of(entries))
-    remove("log", "journal", "other")
+    entries = []
+    for given, answered, more in SESSIONS:
+        is_answered(SERVE, given, answered)
+        entries += more
+        want("the log", bytes_of("log"), log_of(entries))
+    remove("log", "wide")
+
+
+def logged_as_its_journal():
+    """Every word reads a log as the journal of its entries, and leaves it as it is; what isn't finished is told, and what is damaged refused."""
+    put("wide", WIDE), put("east.in", b"version\n")
+    entries = [it for session in SESSIONS for it in session[2]]
+    put("journal", b"journal 2\nmode stay\n" + b"".join(entries) + b"end %d\n" % len(entries))
+    text = log_of(entries)
+    damaged = text.replace(b"close 1,1", b"close 1,0")
+    for words in (["audit"], ["draw"], ["page"], ["serve", "--save", "other"], ["host", "--save", "other", "east"]):
+        words[1:1] = ["--map", "wide", "--journal"]
+        status, said, complained = run([*words[:4], "journal", *words[4:]])
+        want("what is read of the journal", (status, complained), (0, ""))
+        for torn in (b"", b"entry 0 5 0 1\nclose 8,1\ncommit 6 "):
+            put("log", text + torn)
+            is_run([*words[:4], "log", *words[4:]], b"", (status, said, tear_note(len(torn))))
+            want("the log that was only read", bytes_of("log"), text + torn)
+            if "other" in words:
+                want("what is saved", bytes_of("other"), bytes_of("journal"))
+        put("log", damaged)
+        is_fault([*words[:4], "log", *words[4:]], "journal: bad line 9", b"version\n")
+        want("the damaged log", bytes_of("log"), damaged)
+        remove("other")
+    remove("log", "journal", "east.in", "east.out", "wide")
+
+
+def logged_of_a_scene():
+    """The head names the mode, and by its digest the map, the scenario and the agents; the map may stand on standard input."""
+    is_answered(["serve", "--log", "log"], MAP + ADD, "version 1\n")
+    want("the log", bytes_of("log"), log_of([b"entry 0 0 0 1\n" + ADD], head(MAP)))
+    is_answered(["serve", "--map", "m", "--log", "log"], b"version\n", "version 1\n")
+    is_answered(["serve", "--log", "log"], MAP + b"version\n", "version 1\n")
+    remove("log")
+    scened = ["serve", "--map", "m", "--scen", "s", "--agents", "1", "--mode", "disappear", "--log", "log", "--sync", "off"]
+    is_answered(scened, b"drop 0\n", "version 1\n")
+    want("the log", bytes_of("log"), log_of([b"entry 0 0 0 1\ndrop 0\n"], head(MAP, SCEN, 1, b"disappear")))
+    is_answered(scened, b"version\n", "version 1\n")
+    is_fault(["audit", "--map", "m", "--scen", "s", "--agents", "1", "--journal", "log"], "journal: mode differs")
+    remove("log")
 
 
 def damaged_logs_as_journals():
-    """A log that is damaged is read as a journal with a bad line, and stays as it is; a script that begins as a log does is none."""
-    put("wide", WIDE)
-    damaged = log_of(edits(2)[1]).replace(b"close 0,1", b"close 0,0")
-    put("log", damaged)
-    is_fault(["serve", "--map", "wide", "--journal", "log"], "journal: bad line 6")
-    is_fault(["audit", "--map", "wide", "--journal", "log"], "journal: bad line 6")
-    want("the log", bytes_of("log"), damaged)
-    put("log", b"log 1\n")
+    """A script that begins as a log does is none; no more is a journal whose first line is that of a log's next version."""
+    put("wide", WIDE), put("log", b"log 1\n")
     want("the status of a drill", run(["drill", "--map", "wide", "log"])[0], 0)
-    remove("log")
+    put("log", log_of(edits(2)[1]).replace(b"close 0,1", b"close 0,0"))
+    is_fault(["audit", "--map", "wide", "--journal", "log"], "journal: bad line 6")
+    put("log", log_of([]).replace(b"log 1", b"log 2"))
+    is_fault(["audit", "--map", "wide", "--journal", "log"], "journal: bad line 1")
+    remove("log", "wide")
 
 
 def cut_logs():
-    """Of a log that is cut at any byte the entries that are whole before the cut are read, and the rest is told; within its first lines it is no log."""
+    """A log that is cut at any byte has the entries that are whole before the cut; the rest is told, and cut off before more is put there."""
     put("wide", WIDE)
-    text = log_of(edits(2)[1])
-    ends = [len(log_of(edits(it)[1])) for it in range(3)]
-    for cut in range(ends[0], len(text) + 1):
+    lines, entries = edits(3)
+    text = log_of(entries[:2])
+    ends = [len(log_of(entries[:it])) for it in range(3)]
+    for cut in range(len(text)):
         put("log", text[:cut])
-        count = sum(it <= cut for it in ends) - 1
-        torn = cut - ends[count]
-        note = f"note: log: {torn} bytes of an entry that was not finished\n" if torn else ""
-        is_run(READ, b"version\n", (0, f"version {count}\n", note))
-    for cut in range(len(b"log "), ends[0], 7):
-        put("log", text[:cut])
-        is_fault(READ, f"journal: bad line {text[:cut].count(10) + 1}", b"version\n")
-    want("the log", bytes_of("log"), text[:cut])
-    remove("log")
+        count = max(0, sum(it <= cut for it in ends) - 1)
+        whole, torn = text[: ends[count]], cut - ends[count] if cut >= ends[0] else cut
+        if cut % 5:
+            is_run(OFF, b"version\n", (0, f"version {count}\n", tear_note(torn)))
+            want("the log", bytes_of("log"), whole)
+        else:
+            is_run(OFF, lines[count] + b"\n", (0, f"version {count + 1}\n", tear_note(torn)))
+            want("the log", bytes_of("log"), log_of(entries[: count + 1]))
+        if cut % 17 == 0 and cut >= ends[0]:
+            put("log", text[:cut])
+            is_run(["serve", "--map", "wide", "--journal", "log"], b"version\n", (0, f"version {count}\n", tear_note(torn)))
+            want("the log that was only read", bytes_of("log"), text[:cut])
+    remove("log", "wide")
 
 
 def changed_logs():
-    """One changed byte is told, whichever it is; so are entries left out, twice, exchanged, and what is none."""
+    """One changed byte near the log's end is told, whichever it is; so are entries that are left out, twice, exchanged, or not to be committed."""
     put("wide", WIDE)
-    entries = edits(30)[1]
-    begins = head()
-    text = log_of(entries, begins)
-    chance = random.Random(1967)
-    for place in [*range(4, len(begins), 5), *range(len(text) - 60, len(text)), *(chance.randrange(4, len(text)) for _ in range(200))]:
-        byte = chance.choice([it for it in (*range(256), 10, 10, 10, 32, 48, 57, 99) if it != text[place]])
-        put("log", text[:place] + bytes([byte]) + text[place + 1:])
-        status, said, complained = run(READ, b"version\n")
-        if (status, said) != (2, "") or not complained.startswith("mapf_desk: journal: bad line "):
-            raise Wrong(f"byte {place} as {byte}: {status}, {said!r}, {complained!r}")
-    whole = [it + b"\n" for it in text[len(begins):].split(b"\n")[:-1]]
-    triples = [b"".join(whole[it:it + 3]) for it in range(0, len(whole), 3)]
-    for line, put_in in ((18, triples[:4] + triples[5:]), (21, triples[:5] + triples[4:]), (18, triples[:4] + [triples[5], triples[4]] + triples[6:])):
-        put("log", begins + b"".join(put_in))
-        is_fault(READ, f"journal: bad line {line}", b"version\n")
-    for line, entry in ((11, b"entry 0 2 0 1\nfly\n"), (12, entries[2] + entries[3]), (10, b"")):
-        put("log", log_of([*entries[:2], entry]))
-        is_fault(READ, f"journal: bad line {line}", b"version\n")
-    put("log", log_of([*entries[:2], b"entry 0 2 0 1\ndrop 7\n"]))
-    is_fault(READ, "journal: entry 3 refused", b"version\n")
-    remove("log")
+    entries, chance = edits(6)[1], random.Random(1967)
+    text, begins = log_of(entries), head()
+    for place in range(len(text) - 60, len(text)):
+        changed = text[:place] + bytes([chance.choice([it for it in (*range(256), 10, 10, 32, 48, 99) if it != text[place]])]) + text[place + 1:]
+        put("log", changed)
+        status, said, complained = run(OFF, b"version\n")
+        if (status, said, complained.startswith("mapf_desk: log: bad line ")) != (2, "", True):
+            raise Wrong(f"byte {place} as {changed[place]}: {status}, {said!r}, {complained!r}")
+        want("the log", bytes_of("log"), changed)
+    sealed = [it + b"commit %s\n" % line for it, line in zip(entries, (it.split(b"\n")[0] for it in text.split(b"commit ")[1:]))]
+    for fault, changed in (("log: bad line 9", begins + b"".join(sealed[:1] + sealed[2:])),
+                           ("log: bad line 12", begins + b"".join(sealed[:2] + sealed[1:])),
+                           ("log: bad line 9", begins + b"".join([sealed[0], sealed[2], sealed[1]])),
+                           ("log: bad line 8", log_of([entries[0], b"entry 0 1 0 1\nfly\n"])),
+                           ("log: bad line 9", log_of([entries[0], entries[1] + entries[2]])), ("log: bad line 7", log_of([entries[0], b""])),
+                           ("log: bad line 8", log_of([entries[0], b"entry 0 1 0 1\n"])), ("log: bad line 7", log_of(entries[:1]) + b"\n"),
+                           ("log: bad line 1", b"\n" + text), ("log: bad line 1", log_of(entries[:1]).replace(b"\n", b"\r\n")),
+                           ("journal: entry 2 refused", log_of([entries[0], b"entry 0 1 0 1\ndrop 7\n"]))):
+        put("log", changed)
+        is_fault(OFF, fault, b"version\n")
+        want("the log", bytes_of("log"), changed)
+    remove("log", "wide")
 
 
 def tests():
-    return [(it.__name__, it) for it in (logs_as_journals, damaged_logs_as_journals, cut_logs, changed_logs)]
+    for test in (logged, logged_as_its_journal, logged_of_a_scene, damaged_logs_as_journals, cut_logs, changed_logs):
+        yield test.__name__, test

@@ -29,8 +29,6 @@ def ten_thousand_agents(form):
     for count in (MOST_AGENTS + 1, 10000):
         is_fault(check(agents([(3, 4)] * count), "--map", "m"), f"paths: too many agents in line {line}")
     words = check(agents([(3, 4)] * MOST_AGENTS), "--map", put_closed(5, 5), "--scen", "tasks")
-    put("tasks", b"version 1\n" + TASK % (3, 4) * (MOST_AGENTS - 1))
-    is_fault([*words, "--agents", "8191"], "paths: agent 8191 at time 0: unknown-agent")
     put("tasks", b"version 1\n" + TASK % (3, 4) * (MOST_AGENTS - 1) + TASK % (4, 3))
     is_run(words, b"", (1, "wrong 8191 0 not-from-start 4,3 3,4\nsolves no\n", ""))
     cells = [(n % 128, n // 128) for n in range(MOST_AGENTS)]
@@ -38,6 +36,11 @@ def ten_thousand_agents(form):
     lines = said.splitlines()
     want("the verdict", (status, lines[:2], lines[-1], complained), (1, ["version 0", "agents 8192"], "solves no", ""))
     want("the visits", [it for it in lines if it[:5] == "visit"], [f"visit {n} 0 {x},{y}" for n, (x, y) in enumerate(cells)])
+    put("tasks", b"version 1\n" + b"".join(b"0 f 128 64 %d %d 0 0 0\n" % it for it in cells[:-1]))
+    status, said, complained = run([*check(agents(cells), "--map", "closed_128_64"), "--scen", "tasks", "--agents", "8191"])
+    lines = said.splitlines()
+    want("the verdict on fewer agents", (status, lines[1], lines[-2:], complained), (1, "agents 8191", ["differs paths 8192 8191", "solves no"], ""))
+    want("their visits", [it for it in lines if it[:5] == "visit"], [f"visit {n} 0 {x},{y}" for n, (x, y) in enumerate(cells[:-1])])
     remove("many", "tasks", "closed_5_5", "closed_128_64")
 
 

@@ -2,7 +2,7 @@
 
 On a map that is closed everywhere a verdict lists each cell of each path as a visit.
 """
-from .edited_paths import put_closed
+from .edited_paths import put_closed, verdict_by
 from .faulty_paths import FAULTS_BY_AGENT, FAULTS_BY_SESSION, FAULTS_BY_TIME, FRONTS, NO_CELLS, NO_PATHS
 from .running import is_fault, is_run, put, remove
 
@@ -100,8 +100,8 @@ def texts_of_paths_by_time():
 def are_refused(rows):
     for text, form, why in rows:
         put("told", text)
-        if why == "no paths":
-            is_run(words_of("m", form), b"", (1, "no paths\nsolves no\n", ""))
+        if verdict_by(why):
+            is_run(words_of("m", form), b"", (1, f"{verdict_by(why)}solves no\n", ""))
         else:
             is_fault(words_of("m", form), f"paths: {why}")
     remove("told")

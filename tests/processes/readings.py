@@ -20,18 +20,23 @@ LACAM_LISTS = "time starts 0,0 2,1 goals 2,0 0,1 agents 2 path 0,0 1,0 2,0 2,0 p
 LENIENT_LISTS = ["", "", "", " starts 0,2047 goals 7,2047", " starts 0,2047", " goals 7,2047", " agents 1"]
 
 
-def are_read(rows):
-    """The texts, each with the word of its reader, are read as those."""
-    put("texts.txt", b"".join(b"%s %d\n%s" % (word.encode(), len(text), text) for word, text, _ in rows))
+def told_of(texts):
+    """What the program tells of texts, each with the word of its reader, and its status."""
+    put("texts.txt", b"".join(b"%s %d\n%s" % (word.encode(), len(text), text) for word, text in texts))
     if not os.access(Program.readings, os.X_OK):
         raise Wrong(f"there is no program {Program.readings}: `rt ci` builds it")
     ran = subprocess.run([Program.readings], capture_output=True, timeout=PATIENCE)
     remove("texts.txt")
-    said, at = ran.stdout.decode(), 0
+    return ran.stdout.decode(), ran.returncode
+
+
+def are_read(rows):
+    """The texts, each with the word of its reader, are read as those."""
+    (said, status), at = told_of([it[:2] for it in rows]), 0
     for word, text, right in rows:
         want(f"what {text[:1000]!r} tells as {word}", said[at : at + len(right) + 1], f"{right}\n")
         at += len(right) + 1
-    want("the status, and what is told behind all", (ran.returncode, said[at:]), (0, ""))
+    want("the status, and what is told behind all", (status, said[at:]), (0, ""))
 
 
 def listed(name, cells):
@@ -155,11 +160,11 @@ def longest_journals_upgraded():
 
 
 def lists_of_words():
-    """Each list of words of tests/words.txt is read as it says, all 494 of them."""
+    """Each list of words of tests/words.txt is read as it says, all 508 of them."""
     with open(f"{TOP}/tests/words.txt") as file:
         rows = [line.split(" => ", 1) for line in file.read().split("\n") if " => " in line]
     are_read([("words", words.encode(), right) for words, right in rows])
-    want("how many lists there are", len(rows), 494)
+    want("how many lists there are", len(rows), 508)
 
 
 def tests():

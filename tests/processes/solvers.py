@@ -23,7 +23,8 @@ def is_answered(field, example):
     status, printed = int(example.value("answer")), example.wanted("answer")
     wanted = (2, "", f"mapf_desk: {printed}") if status == 2 else (status, printed, "")
     status, said, complained = run(["check", "--map", "field", "--paths", "paths", *words])
-    want(f"the answer to {example.name}", (status, REPORT.sub("", said), complained), wanted)
+    told = said if words == ["--only"] else REPORT.sub("", said)
+    want(f"the answer to {example.name}", (status, told, complained), wanted)
     remove("field", "tasks", "paths")
 
 

@@ -19,6 +19,7 @@ FILES = {
     "mixed": b"# ten lines are accepted, three refused, four bad\n\nbegin\nwatch map\nagent 5 1,0 1,0\ncommit\nversion\nreport\ndistance 5 0,0\n"
              b"solves vertex\ncancel\ndrop 9\npath 5 0,0\ndistance 9 0,0\nfly\npath x\nwatch map\nbegin\ncancel",
     "none_at_all": b"",
+    "twice": b"agents=1\nagents=1\n",
     "long": b"agent 0 0,0 0,0\n" + b"\n" * 1000000,
     "map_octile": b"type tile\n",
     "map_height": b"type octile\nheight x\nwidth 3\nmap\n...\n",
