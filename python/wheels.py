@@ -1,4 +1,4 @@
-"""Packs mapf_desk as a wheel for Linux on x86-64, for pip, with nothing but Python itself. tools/library puts the library into it first."""
+"""Packs mapf_desk as a wheel for Linux on x86-64, for pip, with nothing but Python itself: with the library that tools/library made, or else the released one."""
 import base64
 import hashlib
 import zipfile
@@ -7,13 +7,15 @@ from pathlib import Path
 HERE = Path(__file__).resolve().parent
 NAME, VERSION, TAG = "mapf_desk", "1.0", "py3-none-linux_x86_64"
 INFO = f"{NAME}-{VERSION}.dist-info"
-FILES = ("__init__.py", "checks.py", "desks.py", "exports.py", "reports.py", "py.typed", "libmapf_desk.so")
+FILES = ("__init__.py", "checks.py", "desks.py", "exports.py", "reports.py", "py.typed")
+LIBRARY = "libmapf_desk.so"
 
 
 def build_wheel(wheel_directory, config_settings=None, metadata_directory=None):
     """Makes the wheel in a folder, and gives its name."""
     name = f"{NAME}-{VERSION}-{TAG}.whl"
     parts = {f"{NAME}/{it}": (HERE / NAME / it).read_bytes() for it in FILES}
+    parts[f"{NAME}/{LIBRARY}"] = next(filter(Path.exists, (HERE / NAME / LIBRARY, HERE.parent / "release" / LIBRARY))).read_bytes()
     parts[f"{INFO}/METADATA"] = f"Metadata-Version: 2.1\nName: {NAME}\nVersion: {VERSION}\nRequires-Python: >=3.9\n".encode()
     parts[f"{INFO}/WHEEL"] = f"Wheel-Version: 1.0\nGenerator: {NAME}\nRoot-Is-Purelib: false\nTag: {TAG}\n".encode()
     rows = [f"{it},sha256={digest(text)},{len(text)}" for it, text in parts.items()]

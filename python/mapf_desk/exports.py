@@ -23,7 +23,10 @@ class Conflict(ctypes.Structure):
 STATUSES = ("done", "closed", "out of memory", "no such number", "unknown-agent", "out-of-map", "empty-path", "not-from-start", "not-a-step")
 STATUSES += ("too-long", "journal-full", "no way", "refused")
 
-_LIBRARY = ctypes.CDLL(str(Path(__file__).with_name("libmapf_desk.so")))
+# In the package where it was installed or tools/library made it, else as it is released.
+_HERE = Path(__file__).resolve()
+_PLACES = (_HERE.with_name("libmapf_desk.so"), _HERE.parent.parent.parent / "release/libmapf_desk.so")
+_LIBRARY = ctypes.CDLL(str(next(filter(Path.exists, _PLACES), _PLACES[0])))
 _HANDLE, _NUMBER, _LENGTH = ctypes.POINTER(Handle), ctypes.c_uint32, ctypes.c_size_t
 _TEXT = (ctypes.c_char_p, _LENGTH)
 

@@ -61,6 +61,8 @@ def page_runs(page, links=("demo", "docs", "tests"), files=()):
         os.makedirs(f"{folder}/release")
         for name in ("desk", "release/mapf_desk"):
             os.symlink(Program.path, f"{folder}/{name}")
+        for name in glob.glob(f"{TOP}/library/out/*"):
+            os.symlink(name, f"{folder}/release/{os.path.basename(name)}")
         script = "".join(f"{command}\necho '{MARK} {number}'\n" for number, (command, _) in enumerate(commands))
         how = {"cwd": folder, "text": True, "timeout": PATIENCE, "stdout": subprocess.PIPE, "stderr": subprocess.STDOUT}
         ran = subprocess.run(["bash"], input=script, env={**os.environ, "PYTHONDONTWRITEBYTECODE": "1"}, **how)
