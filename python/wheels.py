@@ -15,7 +15,8 @@ def build_wheel(wheel_directory, config_settings=None, metadata_directory=None):
     """Makes the wheel in a folder, and gives its name."""
     name = f"{NAME}-{VERSION}-{TAG}.whl"
     parts = {f"{NAME}/{it}": (HERE / NAME / it).read_bytes() for it in FILES}
-    parts[f"{NAME}/{LIBRARY}"] = next(filter(Path.exists, (HERE / NAME / LIBRARY, HERE.parent / "release" / LIBRARY))).read_bytes()
+    places = (HERE / NAME / LIBRARY, HERE.parent / "release" / LIBRARY)
+    parts[f"{NAME}/{LIBRARY}"] = next(filter(Path.exists, places), places[0]).read_bytes()
     parts[f"{INFO}/METADATA"] = f"Metadata-Version: 2.1\nName: {NAME}\nVersion: {VERSION}\nRequires-Python: >=3.9\n".encode()
     parts[f"{INFO}/WHEEL"] = f"Wheel-Version: 1.0\nGenerator: {NAME}\nRoot-Is-Purelib: false\nTag: {TAG}\n".encode()
     rows = [f"{it},sha256={digest(text)},{len(text)}" for it, text in parts.items()]
