@@ -63,7 +63,7 @@ not : {P : Type 0} → Decided P → Decided (P → ⊥)
 not (inl holds) = inr (λ never. never holds)
 not (inr never) = inl never
 
-same_or_not : (a b : Option Point) → Decided (a ≡ b)
+pub same_or_not : (a b : Option Point) → Decided (a ≡ b)
 same_or_not None None = inl refl
 same_or_not None (Some b) = inr (λ is. none-some b is)
 same_or_not (Some a) None = inr (λ is. none-some a (sym is))

@@ -32,10 +32,10 @@ use Rattle.scene_edits.proofs.Jumps.{jump_or_steps}
 use Rattle.scene_edits.proofs.Deciding.{in_or_not}
 
 -- where there is no fault at all the first finds none, and neither does the second
-no_first : (first second : EditFault → Type 0) → ((fault : EditFault) → (first otherwise second) fault → ⊥) → (fault : EditFault) → first fault → ⊥
+pub no_first : (first second : EditFault → Type 0) → ((fault : EditFault) → (first otherwise second) fault → ⊥) → (fault : EditFault) → first fault → ⊥
 no_first first second none fault told = none fault (inl told)
 
-no_second : (first second : EditFault → Type 0) → ((fault : EditFault) → (first otherwise second) fault → ⊥) → (fault : EditFault) → second fault → ⊥
+pub no_second : (first second : EditFault → Type 0) → ((fault : EditFault) → (first otherwise second) fault → ⊥) → (fault : EditFault) → second fault → ⊥
 no_second first second none fault told = none fault (inr (no_first first second none, told))
 
 -- the agent is known

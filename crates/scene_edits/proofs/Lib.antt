@@ -12,6 +12,10 @@ pub mod EditsInOrder
 pub mod RowEnds
 pub mod OneAnswers
 pub mod Returning
+pub mod JoinedChanges
+pub mod ReturnedRows
+pub mod Turning
+pub mod WayBack
 pub mod FlippedCells
 pub mod RowsBefore
 pub mod KeptRows

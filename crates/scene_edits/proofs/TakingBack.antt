@@ -64,10 +64,10 @@ set-twice [] i flag was = refl
 set-twice (first ∷ flags) zero flag was = ap (λ b. b ∷ flags) (sym (was (omega arith)))
 set-twice (first ∷ flags) (suc i) flag was = ap (λ (l : List Bool). first ∷ l) (set-twice flags i flag (λ within. was (omega arith)))
 
-closed_flag : (grid : Chart) (cell : Point) → IsClosed grid cell → get_or grid.flags (flag_index grid.size cell) false ≡ false
+pub closed_flag : (grid : Chart) (cell : Point) → IsClosed grid cell → get_or grid.flags (flag_index grid.size cell) false ≡ false
 closed_flag grid cell closed = grind (arith, nat_tests, common_steps, gets)
 
-open_flag : (grid : Chart) (cell : Point) → IsOpen grid cell → get_or grid.flags (flag_index grid.size cell) false ≡ true
+pub open_flag : (grid : Chart) (cell : Point) → IsOpen grid cell → get_or grid.flags (flag_index grid.size cell) false ≡ true
 open_flag grid cell is_open = get_or_from_slice_get grid.flags (flag_index grid.size cell) true false is_open.1
 
 with_cell-same : (grid : Chart) (cell : Point) (flag : Bool) → get_or grid.flags (flag_index grid.size cell) false ≡ flag → with_cell grid cell flag ≡ grid

@@ -8,6 +8,7 @@ pub mod InOrder
 pub mod Answers
 pub mod Board
 pub mod Undone
+pub mod Reverted
 pub mod Tasks
 pub mod Laws
 pub mod ChangedBy

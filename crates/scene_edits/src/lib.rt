@@ -3,10 +3,12 @@
 //!
 //! `edits` and `changes` are data. `agent_edits`, `path_edits` and `cell_edits` make one edit on the
 //! parts of a scene (`boards`), `in_order` makes a list of them, and `undoing` takes back those before
-//! one that is refused. `differences` finds where two tracks part (`first_difference`), `tasks` makes a
-//! scene of a scenario's tasks. Of the changes that a list of edits told, `flipped_cells` finds the
-//! cells whose state they changed, and `named_agents` each agent that they name, the row that it had,
-//! and the time below which that row's path is known to be as it is now (`taking_back`).
+//! one that is refused. Edits that are made for a while are `reversible`: `reverting` takes them back and
+//! tells what that changes, in a table with room for all rows (`spare`). `differences` finds where two
+//! tracks part (`first_difference`), `tasks` makes a scene of a scenario's tasks. Of the changes that a
+//! list of edits told, `flipped_cells` finds the cells whose state they changed, and `named_agents` each
+//! agent that they name, the row that it had, and the time below which that row's path is known to be
+//! as it is now (`taking_back`).
 #![tactic(auto)]
 
 mod agent_edits;
@@ -20,8 +22,11 @@ mod in_order;
 mod laws;
 mod named_agents;
 mod path_edits;
+mod reversible;
+mod reverting;
 mod rows;
 mod scenes;
+mod spare;
 mod taking_back;
 mod tasks;
 mod undoing;
@@ -35,5 +40,6 @@ pub use laws::{
     one_answer, one_answer_to_all, one_change, one_fault_or_none, one_path,
 };
 pub use named_agents::{Former, FormerRow, formers};
+pub use reversible::Reversible;
 pub use scenes::{MOST_AGENTS, Scene};
 pub use tasks::TaskFault;
