@@ -4,6 +4,7 @@
 mod laws;
 mod paths;
 mod plans;
+mod room;
 mod tracks;
 
 pub use laws::{limit_of_paths, one_table};

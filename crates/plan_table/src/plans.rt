@@ -20,7 +20,7 @@ pub struct Row {
 /// The rows of agents, by agent.
 #[derive(Debug)]
 pub struct Plans {
-    rows: Vec<(Agent, Row)>,
+    pub(crate) rows: Vec<(Agent, Row)>,
 }
 
 impl Drop for Plans {
