@@ -95,7 +95,7 @@ impl Desk {
 
 // The books of the scene that edits with those changes made of the one before: none where none stood,
 // or where they find no memory to go along. The next call that needs them then makes them anew.
-fn followed(books: Option<Books>, changes: &[Change], scene: &Scene) -> Option<Books>
+pub(crate) fn followed(books: Option<Books>, changes: &[Change], scene: &Scene) -> Option<Books>
     requires { (before : SceneState) × ChangedBy before changes.now scene.now × WhereBooksStand before books }
     ensures { WhereBooksStand scene.now result }
 {

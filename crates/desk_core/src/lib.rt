@@ -5,7 +5,8 @@
 //! `specs/Kept.antt` is the invariant that says what they are where they stand. A call takes a part
 //! out, uses it, and puts it back. A commit applies its edits (`src/accepting.rt`), and the books then
 //! follow the changes: where they find no memory the commit stands all the same, and the next call that
-//! needs books makes them anew. `stale` of `desk_commits` decides by the `stamps`, `asking` has the
+//! needs books makes them anew. A trial (`asking/trials`) makes its edits, asks, and takes them back; the
+//! books follow both ways. `stale` of `desk_commits` decides by the `stamps`, `asking` has the
 //! questions as types, `questions` asks the books, `driving` has runs of calls, `replaying` journals.
 //! What a commit and a journal are, and when one is stale, is in `desk_commits`.
 #![tactic(auto)]

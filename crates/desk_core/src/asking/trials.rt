@@ -1,14 +1,19 @@
 //! What a commit would be answered, and what would then be answered of the desk.
-ghost use Rattle.std.specs.Prelude.{◌≡◌, ◌++◌, ◌∷◌, [], List};
-ghost use Rattle.desk_commits.specs.Commits.{Tries};
+ghost use Rattle.std.specs.Prelude.{◌≡◌, ◌++◌, ◌∷◌, [], None, List, IfOk, IfErr};
+ghost use Rattle.scene_edits.specs.Scene.{SceneState};
+ghost use Rattle.scene_edits.specs.ChangedBy.{ChangedBy};
+ghost use Rattle.desk_commits.specs.Commits.{IsCurrent, Accepts, Refuses, Tries};
 ghost use Rattle.desk_commits.specs.Entries.{Entry};
-ghost use Rattle.desk_core.specs.Kept.{IsKeptDesk};
+ghost use Rattle.desk_commits.specs.State.{grown};
+ghost use Rattle.desk_core.specs.Kept.{IsKeptDesk, WhereBooksStand};
 
 use super::Question;
+use crate::accepting::followed;
 use crate::desks::Desk;
 use desk_commits::{Commit, Refusal, Stamps};
+use grid_cells::OutOfMemory;
 use live_report::Books;
-use scene_edits::Scene;
+use scene_edits::{EditsFault, Reversible, Scene};
 use std::mem::replace;
 
 /// The trial of a commit: the version that it would make, and what would then be answered to the
@@ -52,43 +57,75 @@ impl Desk {
         let Ok(copy) = commit.copy(self.alloc) else {
             return Err(Refusal::OutOfMemory);
         };
-        let Ok(scene) = self.scene.copy() else {
-            return Err(Refusal::OutOfMemory);
-        };
-        let books = self.books.take();
         let stamps = self.stamps.take();
-        match self.accept(copy) {
-            Ok(version) => {
+        match self.accept_reversibly(copy) {
+            Ok(changes) => {
+                let version = self.version();
                 let answer = question.put(self);
-                self.take_back(scene, books, stamps);
+                self.take_back(changes, stamps);
                 Ok((version, answer))
             }
-            Err((refusal, _copy)) => {
-                self.keep(books, stamps);
+            Err(refusal) => {
+                drop(replace(&mut self.stamps, stamps));
                 Err(refusal)
             }
         }
     }
 
-    // Takes the last entry back: that scene is the one before it.
-    fn take_back(&mut self, scene: Scene, books: Option<Books>, stamps: Option<Stamps>)
-        requires { (journal : List Entry) × (entry : Entry) × (self.old.journal ≡ journal ++ entry ∷ [])
-            × IsKeptDesk scene journal self.old.limit stamps books }
-        ensures { (journal : List Entry) (entry : Entry) → self.old.journal ≡ journal ++ entry ∷ []
-            → self.new ≡ record { scene = scene; journal = journal; limit = self.old.limit } }
+    // Applies the edits of a commit that is current, and puts it into the journal, in such a way that it can be taken back. No stamps
+    // stand then.
+    fn accept_reversibly(&mut self, commit: Commit) -> Result<Reversible, Refusal>
+        requires { IsCurrent self.old commit }
+        ensures refused { IfErr result (λ refusal. Refuses self.old commit refusal × (self.new ≡ self.old)) }
+        ensures accepted { IfOk result (λ changes. Accepts self.old commit × (self.new ≡ grown self.old commit)
+            × ChangedBy self.old.scene changes self.new.scene) }
+    {
+        if self.journal.reserve(1).is_err() {
+            return Err(Refusal::OutOfMemory);
+        }
+        let _grid = self.scene.grid();
+        match self.scene.apply_reversibly(commit.edits()) {
+            Ok(changes) => {
+                let books = followed(self.books.take(), changes.items(), &self.scene);
+                drop(replace(&mut self.books, books));
+                drop(self.stamps.take());
+                match self.journal.push(commit) {
+                    Ok(()) => Ok(changes),
+                    Err(_) => unreachable!(),
+                }
+            }
+            Err(EditsFault::Faulty { index, why }) => Err(Refusal::Faulty { index, why }),
+            Err(EditsFault::OutOfMemory) => Err(Refusal::OutOfMemory),
+        }
+    }
+
+    // Takes back the last entry, whose edits made those changes. The stamps are those of the journal before it.
+    fn take_back(&mut self, changes: Reversible, stamps: Option<Stamps>)
+        requires { (scene : SceneState) × (journal : List Entry) × (entry : Entry) × (self.old.journal ≡ journal ++ entry ∷ [])
+            × ChangedBy scene changes self.old.scene × IsKeptDesk scene journal self.old.limit stamps None }
+        ensures { (scene : SceneState) (journal : List Entry) (entry : Entry) → self.old.journal ≡ journal ++ entry ∷ []
+            → ChangedBy scene changes self.old.scene → self.new ≡ record { scene = scene; journal = journal; limit = self.old.limit } }
     {
         drop(self.journal.pop());
-        drop(replace(&mut self.scene, scene));
+        let books = reverted(self.books.take(), changes, &mut self.scene);
         drop(replace(&mut self.books, books));
         drop(replace(&mut self.stamps, stamps));
     }
+}
 
-    // Keeps these, which are those of its scene and its journal, in place of what it kept.
-    fn keep(&mut self, books: Option<Books>, stamps: Option<Stamps>)
-        requires { IsKeptDesk self.old.scene self.old.journal self.old.limit stamps books }
-        ensures { self.new ≡ self.old }
-    {
-        drop(replace(&mut self.books, books));
-        drop(replace(&mut self.stamps, stamps));
+// Takes the changes back in the scene, and answers the books of the scene before them: none where none stood, or where they find no
+// memory to go along.
+fn reverted(books: Option<Books>, changes: Reversible, scene: &mut Scene) -> Option<Books>
+    requires changed { (before : SceneState) × ChangedBy before changes scene.old }
+    requires stand { WhereBooksStand scene.old books }
+    ensures back { (before : SceneState) → ChangedBy before changes scene.old → scene.new ≡ before }
+    ensures stand { WhereBooksStand scene.new result }
+{
+    match scene.revert(changes) {
+        Ok(turned) => followed(books, turned.items(), scene),
+        Err(OutOfMemory) => {
+            drop(books);
+            None
+        }
     }
 }
