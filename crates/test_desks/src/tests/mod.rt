@@ -14,3 +14,4 @@ mod rows;
 mod runs;
 mod scenes;
 mod shared;
+mod trials;
