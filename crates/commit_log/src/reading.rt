@@ -25,6 +25,9 @@ pub enum ReadFault {
     OutOfMemory,
 }
 
+/// How long the words of a commit line can be: `commit `, 20 digits, a space, a check.
+const LONGEST: usize = 44;
+
 // The first line of a text, without its line feed, and the text behind it.
 fn first_line(text: &[u8]) -> Option<(&[u8], &[u8])>
     ensures { MatchOption result (is_one_line text.now ≡ true)
@@ -43,7 +46,7 @@ fn is_commit_line(
 ) -> Result<bool, AllocError>
     ensures { IfOk result (λ is. IsTrue is ↔ (line.now ≡ commit_words number check.now)) }
 {
-    let mut due = Vec::new(alloc);
+    let mut due = Vec::with_capacity(alloc, LONGEST)?;
     push_commit_words(&mut due, number, check)?;
     Ok(line == due.as_slice())
 }
