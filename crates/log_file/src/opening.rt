@@ -52,12 +52,17 @@ pub fn open_log<R: Files<File = File>>(
     }
 }
 
-// The bytes of a file; none if they are more than so many.
+// The bytes of a file; none if they are more than so many, before any is read where its length says so.
 fn read_all(file: &mut File, alloc: Global, most: u64) -> Done<Option<Vec<u8>>> {
-    if !file.metadata()?.is_file() {
+    let known = file.metadata()?;
+    if !known.is_file() {
         return Err(Error::new(ErrorKind::InvalidInput, "not a file"));
     }
-    let mut bytes = Vec::new(alloc);
+    let length = known.len();
+    if length > most {
+        return Ok(None);
+    }
+    let mut bytes = Vec::with_capacity(alloc, length as usize)?;
     let count = file.take(most.saturating_add(1)).read_to_end(&mut bytes)?;
     if count as u64 > most {
         return Ok(None);
