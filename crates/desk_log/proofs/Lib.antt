@@ -2,3 +2,5 @@ pub mod Bodies
 pub mod Growth
 pub mod Logging
 pub mod Found
+pub mod Spelled
+pub mod Whole

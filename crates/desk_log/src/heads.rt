@@ -10,8 +10,8 @@ pub fn is_log(text: &[u8]) -> bool
     text.starts_with(b"log ")
 }
 
-// What stands behind that front of a text, if it has that.
-fn behind<'t>(text: &'t [u8], front: &[u8]) -> Option<&'t [u8]>
+/// What stands behind that front of a text, if it has that.
+pub(crate) fn behind<'t>(text: &'t [u8], front: &[u8]) -> Option<&'t [u8]>
     ensures { MatchOption result ((rest : List ℕ) → text.now ≢ front.now ++ rest) (λ rest. text.now ≡ front.now ++ rest.now) }
 {
     text.strip_prefix(front)

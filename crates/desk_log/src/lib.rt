@@ -1,12 +1,16 @@
 //! The log of a desk: its accepted commits as they stand in a log, each before it is answered.
 //!
 //! `reading` reads a log as the journal that its entries make, `heads` looks at its head and `tears`
-//! at what stands behind the last whole entry; `keeping` keeps a desk's entries in a log.
+//! at what stands behind the last whole entry; `entries` knows an entry that is spelled as it is written
+//! by its `edits` and `numbers`, at little cost; `keeping` keeps a desk's entries in a log.
 #![tactic(auto)]
 
+mod edits;
+mod entries;
 mod faults;
 mod heads;
 mod keeping;
+mod numbers;
 mod reading;
 mod tears;
 

@@ -6,6 +6,7 @@ ghost use Rattle.journal_text.specs.Lines.{end_words};
 ghost use Rattle.journal_text.specs.Fitting.{IsEntryOf};
 ghost use Rattle.desk_log.specs.Reading.{heading_text, IsRead};
 
+use crate::entries::is_plain_entry;
 use crate::faults::LogFault;
 use crate::heads::bad_head_line;
 use crate::tears::{count_lines, look_at_tear};
@@ -51,29 +52,43 @@ fn put_end(journal: &mut Vec<u8>, count: u64) -> Result<(), AllocError>
     journal.extend_from_slice(b"\n")
 }
 
-// Looks whether what stands before a commit line is an entry, behind that many lines of the log.
-fn look_at_entry(alloc: Global, entry: &[u8], lines: usize) -> Result<(), LogFault>
+// What stands before the rest of a text.
+fn before<'t>(text: &'t [u8], rest: &[u8]) -> &'t [u8] {
+    text.get(..text.len().saturating_sub(rest.len()))
+        .unwrap_or(text)
+}
+
+// Looks whether what stands before a commit line is an entry, behind a front of the log. Few entries
+// need the second look.
+fn look_at_entry(alloc: Global, entry: &[u8], front: &[u8]) -> Result<(), LogFault>
     ensures { OnOk result ((e : Entry) × IsEntryOf entry.now e) }
 {
+    if is_plain_entry(entry) {
+        return Ok(());
+    }
     match fit_entry(alloc, entry) {
         Ok(Fit::Whole) => Ok(()),
         Ok(Fit::Begun) => Err(LogFault::BadLine {
-            line: lines.saturating_add(count_lines(entry)).saturating_add(1),
+            line: count_lines(front)
+                .saturating_add(count_lines(entry))
+                .saturating_add(1),
         }),
         Ok(Fit::Bad { line }) => Err(LogFault::BadLine {
-            line: lines.saturating_add(line),
+            line: count_lines(front).saturating_add(line),
         }),
         Err(_) => Err(LogFault::OutOfMemory),
     }
 }
 
-// The fault of a text behind that many lines, at which no entry is read.
-fn fault_of(text: &[u8], lines: usize, why: ReadFault) -> LogFault {
+// The fault of a text behind a front of the log, at which no entry is read.
+fn fault_of(text: &[u8], front: &[u8], why: ReadFault) -> LogFault {
     match why {
         ReadFault::Damaged { at } => {
             let before = text.get(..at).unwrap_or(text);
-            let line = lines.saturating_add(count_lines(before)).saturating_add(1);
-            LogFault::BadLine { line }
+            let lines = count_lines(front).saturating_add(count_lines(before));
+            LogFault::BadLine {
+                line: lines.saturating_add(1),
+            }
         }
         ReadFault::OutOfMemory => LogFault::OutOfMemory,
     }
@@ -94,7 +109,7 @@ pub fn read_log(alloc: Global, text: &[u8]) -> Result<LogRead, LogFault>
         });
     };
     let mut journal = heading(alloc, head.mode)?;
-    let (mut rest, mut check, mut count, mut lines) = (head.rest, head.check, 0u64, 3usize);
+    let (mut rest, mut check, mut count) = (head.rest, head.check, 0u64);
     'entries: loop {
         match next_entry(alloc, rest, count + 1, &check) {
             Ok(Some(found)) => {
@@ -103,22 +118,22 @@ pub fn read_log(alloc: Global, text: &[u8]) -> Result<LogRead, LogFault>
                     check: sealed,
                     rest: behind,
                 } = found;
-                look_at_entry(alloc, entry, lines)?;
+                look_at_entry(alloc, entry, before(text, rest))?;
                 if count >= u64::from(MOST_ENTRIES) {
                     return Err(LogFault::BadLine {
-                        line: lines.saturating_add(1),
+                        line: count_lines(before(text, rest)).saturating_add(1),
                     });
                 }
                 journal.extend_from_slice(entry)?;
-                lines = lines.saturating_add(count_lines(entry)).saturating_add(1);
                 count += 1;
                 check = sealed;
                 rest = behind;
             }
             Ok(None) => break,
-            Err(why) => return Err(fault_of(rest, lines, why)),
+            Err(why) => return Err(fault_of(rest, before(text, rest), why)),
         }
     }
+    let lines = count_lines(before(text, rest));
     look_at_tear(alloc, rest, count + 1, &check, lines)?;
     put_end(&mut journal, count)?;
     Ok(LogRead {

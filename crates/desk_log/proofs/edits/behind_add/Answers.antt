@@ -1,0 +1,12 @@
+use Rattle.std.proofs.Common.{◌≡◌, ◌++◌, ◌∷◌, [], List, ℕ, map, codes, decimal, sym, ap, ◌∙◌, arith}
+use Rattle.scene_edits.specs.declared.edits.Edit.TheVariants.{Add}
+use Rattle.desk_report.specs.LineText.{cell_text}
+use Rattle.desk_log.proofs.Spelled.{line_is}
+use Rattle.desk_log.proofs.edits.behind_add.Goals as goal
+
+pub returns : goal.returns
+returns c = (
+  Add c.in_ok-agent.agent c.in_ok-two.ensures.0 c.in_ok-end.ensures.0,
+  (omega (arith, c.in_ok-agent.ensures.0, c.from.ensures), c.in_ok-two.ensures.1, c.in_ok-end.ensures.1),
+  c.in_ok-name.ensures ∙ ap (λ (t : List ℕ). codes "agent" ++ t) (c.in_ok-agent.ensures.1 ∙ ap (λ (t : List ℕ). 32 ∷ (decimal c.in_ok-agent.agent ++ t)) (c.in_ok-two.ensures.2 ∙ ap (λ (t : List ℕ). 32 ∷ (cell_text c.in_ok-two.ensures.0 ++ t)) (c.in_ok-end.ensures.2 ∙ ap (λ (t : List ℕ). 32 ∷ (cell_text c.in_ok-end.ensures.0 ++ t)) (c.in_ok-rest.ensures)))) ∙ sym (line_is (codes "agent") (decimal c.in_ok-agent.agent ∷ cell_text c.in_ok-two.ensures.0 ∷ cell_text c.in_ok-end.ensures.0 ∷ []) c.in_ok-rest.rest.now),
+)
