@@ -1,3 +1,4 @@
 pub mod LineLemmas
 pub mod CellLemmas
 pub mod RowLemmas
+pub mod PlaceLemmas

@@ -1,11 +1,10 @@
--- The lines `key=value` before the paths, as LaCAM's and PIBT's programs print them.
--- Of these, `starts=`, `goals=` and `agents=` are read, and no other key.
-use Rattle.std.specs.Prelude.{ℕ, Option, Some, None, Result, Ok, Err, List, codes, is_some, if◌then◌else◌}
+-- The lines before the paths, of which LaCAM's and PIBT's programs print `key=value`.
+-- Of these, `starts=`, `goals=` and `agents=` are read, and `solved=0`: the solver found no paths.
+use Rattle.std.specs.Prelude.{ℕ, true, false, Option, Some, None, Result, Ok, Err, List, codes, bytes_eq, is_some, if◌then◌else◌}
 use Rattle.std.specs.Option.{option_map_or}
 use Rattle.bench_reader.specs.Words.{number_of}
 use Rattle.grid_cells.specs.Cell.{Point}
 use Rattle.path_files.specs.Answers.{and_then}
-use Rattle.path_files.specs.Forms.{is_told}
 use Rattle.path_files.specs.Lines.{behind, behind_blanks}
 use Rattle.path_files.specs.Rows.{row_in_line}
 use Rattle.path_files.specs.declared.faults.PathsFault.{PathsFault}
@@ -13,7 +12,7 @@ use Rattle.path_files.specs.declared.faults.PathsFault.TheVariants.{RepeatedList
 use Rattle.path_files.specs.declared.heads.Head.{Head}
 
 abbrev pub no_head : Head
-no_head = record { starts = None; goals = None; agents = None }
+no_head = record { starts = None; goals = None; agents = None; unsolved = false }
 
 -- a list of that line, where the head doesn't have it yet
 abbrev pub list_of : Option (List Point) → ℕ → List ℕ → Result (List Point) PathsFault
@@ -38,4 +37,4 @@ with_line head line bytes =
     option_map_or (with_starts head line) (behind (codes "starts=") bytes)
     (option_map_or (with_goals head line) (behind (codes "goals=") bytes)
     (option_map_or (with_agents head line) (behind (codes "agents=") bytes)
-    (if is_told bytes then Ok head else Err (BadHeader line))))
+    (if bytes_eq bytes (codes "solved=0") then Ok (record head { unsolved = true }) else Ok head)))

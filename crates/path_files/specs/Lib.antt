@@ -8,4 +8,8 @@ pub mod Times
 pub mod Agents
 pub mod Sessions
 pub mod Told
+pub mod Moves
+pub mod Columns
 pub mod Texts
+pub mod Orders
+pub mod Costs

@@ -1,21 +1,20 @@
-ghost use Rattle.std.specs.Prelude.{◌≡◌, ◌<◌, OnOk};
-ghost use Rattle.std.specs.Option.{option_copied};
+ghost use Rattle.std.specs.Prelude.{◌≡◌, ◌<◌, None, Some, MatchOption, IfOk};
 ghost use Rattle.scene_edits.specs.declared.scenes.TheConstants.{MOST_AGENTS};
-ghost use Rattle.path_files.specs.Agents.{cells_behind, path_fault, path_behind, path_at};
+ghost use Rattle.path_files.specs.Agents.{agent_told, path_fault, path_behind, path_of, path_at};
 ghost use Rattle.path_files.specs.Answers.{IsRead};
 
 use crate::cells::{Notation, cells_of};
 use crate::faults::PathsFault;
-use crate::lines::{behind, behind_blanks, labelled};
+use crate::lines::{behind, numbered};
 use grid_cells::{Cell, List};
 use scene_edits::MOST_AGENTS;
 use std::alloc::Global;
 
-// The cells behind `Agent`, the agent and the colon, where the line begins with them.
-fn cells_behind(agent: u32, line: &[u8]) -> Option<&[u8]>
-    ensures { option_copied result ≡ cells_behind agent line.now }
+// The agent, and what stands behind `Agent`, its number and the colon, where the line begins with them.
+fn agent_told(line: &[u8]) -> Option<(u32, &[u8])>
+    ensures { MatchOption result (agent_told line.now ≡ None) (λ r. agent_told line.now ≡ Some (r.0, r.1.now)) }
 {
-    Some(behind_blanks(labelled(agent as usize, behind(b"Agent ", line)?)?))
+    numbered(behind(b"Agent ", line)?)
 }
 
 /// The fault of a path of so many cells.
@@ -40,21 +39,34 @@ fn path_behind(alloc: Global, line: usize, cells: &[u8]) -> Result<List<Cell>, P
     }
 }
 
-/// The path in the line of that agent.
-pub(crate) fn path_at(
+// The path of that agent, whose cells stand there.
+fn path_of(
     alloc: Global,
     agent: u32,
     line: usize,
-    bytes: &[u8],
-) -> Result<List<Cell>, PathsFault>
-    ensures is { IsRead (path_at agent line bytes.now) result }
-    ensures bound { OnOk result (agent < MOST_AGENTS) }
+    cells: &[u8],
+) -> Result<(u32, List<Cell>), PathsFault>
+    ensures is { IsRead (path_of agent line cells.now) result }
+    ensures bound { IfOk result (λ path. path.0 < MOST_AGENTS) }
 {
-    let Some(cells) = cells_behind(agent, bytes) else {
-        return Err(PathsFault::BadAgent { line });
-    };
     if agent >= MOST_AGENTS {
         return Err(PathsFault::TooManyAgents { line });
     }
-    path_behind(alloc, line, cells)
+    let path = path_behind(alloc, line, cells)?;
+    Ok((agent, path))
+}
+
+/// The agent of the line, and its path.
+pub(crate) fn path_at(
+    alloc: Global,
+    line: usize,
+    bytes: &[u8],
+) -> Result<(u32, List<Cell>), PathsFault>
+    ensures is { IsRead (path_at line bytes.now) result }
+    ensures bound { IfOk result (λ path. path.0 < MOST_AGENTS) }
+{
+    match agent_told(bytes) {
+        Some((agent, cells)) => path_of(alloc, agent, line, cells),
+        None => Err(PathsFault::BadAgent { line }),
+    }
 }

@@ -1,11 +1,11 @@
 ghost use Rattle.std.specs.Prelude.{◌≡◌, ◌⊎◌, ◌<◌, [], ◌∷◌, ◌++◌, length, Some, None, MatchOption, IfSome, OnOk, IfErr};
 ghost use Rattle.grid_cells.specs.declared.sizes.TheConstants.{MOST_SIDE};
 ghost use Rattle.path_files.specs.declared.faults.PathsFault.TheVariants.{BadCell, OutOfMemory};
-ghost use Rattle.path_files.specs.Cells.{join_of, ordered, cell_between, cell_in, parts_of, cells_listed, IsBadCell};
+ghost use Rattle.path_files.specs.Cells.{join_of, behind_join, ordered, cell_between, cell_in, parts_of, cells_listed, IsBadCell};
 ghost use Rattle.path_files.specs.Answers.{IsRead};
 
 use crate::faults::PathsFault;
-use crate::lines::{behind, cut};
+use crate::lines::{behind, behind_blanks, cut, trimmed};
 use grid_cells::{Cell, List};
 use session_lines::place_of;
 use std::alloc::Global;
@@ -45,14 +45,29 @@ fn cell_of(notation: Notation, pair: &[u8]) -> Option<Cell>
     ensures { result ≡ cell_between notation pair.now }
 {
     let (first, second) = cut(pair, b',')?;
-    ordered(notation, place_of(first)?, place_of(second)?)
+    ordered(
+        notation,
+        place_of(trimmed(first))?,
+        place_of(trimmed(second))?,
+    )
+}
+
+// What stands behind blanks, the front and blanks; the front may be missing.
+fn behind_join<'a>(front: &[u8], part: &'a [u8]) -> &'a [u8]
+    ensures { result.now ≡ behind_join front.now part.now }
+{
+    let written = behind_blanks(part);
+    match behind(front, written) {
+        Some(rest) => behind_blanks(rest),
+        None => written,
+    }
 }
 
 // The cell of a part that ends before its `)`: the front, `(` and the pair.
 fn cell_in(notation: Notation, front: &[u8], part: &[u8]) -> Option<Cell>
     ensures { result ≡ cell_in notation front.now part.now }
 {
-    cell_of(notation, behind(b"(", behind(front, part)?)?)
+    cell_of(notation, behind(b"(", behind_join(front, part))?)
 }
 
 // What stands before the first `)`, and behind it.
@@ -104,7 +119,7 @@ pub(crate) fn cells_of(
         front = join_of(notation);
         rest = below;
     }
-    if rest.is_empty() || rest == front {
+    if behind_join(front, rest).is_empty() {
         Ok(List::new(cells))
     } else {
         Err(PathsFault::BadCell {

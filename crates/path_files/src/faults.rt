@@ -4,20 +4,20 @@ use std::fmt;
 /// Why a text is no file of paths. Lines count from 1, blank ones too; cells of a line from 0.
 #[derive(Clone, Copy)]
 pub enum PathsFault {
-    /// The first line that isn't blank begins no form.
+    /// No line begins a form; this is the first one that isn't blank and no remark.
     NoForm { line: usize },
-    /// Before `solution=` stands a line that isn't `key=value`, or `agents=` without a number.
+    /// `agents=` without a number.
     BadHeader { line: usize },
     /// A second line `starts=`, `goals=` or `agents=`.
     RepeatedList { line: usize },
-    /// The text is over before `solution=`.
+    /// The text is over before `solution=` and before its first time.
     MissingSolution,
-    /// The line doesn't begin with the next time and a colon.
+    /// The line doesn't begin with the next time and a colon, and times come behind it.
     BadTime { line: usize },
-    /// The line is of another agent than the next one, or of none: by agent it doesn't begin with
-    /// `Agent`, a space, the next agent and a colon.
+    /// The line is of an agent that has a path already, or of none, and agents come behind it: by agent
+    /// it doesn't begin with `Agent`, a space, a number and a colon.
     BadAgent { line: usize },
-    /// The line is neither a remark nor a line `path AGENT CELL..` of a session.
+    /// The line is no line `path AGENT CELL..` of a session.
     BadPath { line: usize },
     /// What stands there is no cell, or isn't parted from the one before as the form says, or is
     /// more than may stand at the end.
@@ -26,9 +26,17 @@ pub enum PathsFault {
     NoCells { line: usize },
     /// Another number of cells than in the first line of a time.
     CellCount { line: usize },
-    /// The line is of more than `MOST_AGENTS` agents, or of the agent behind them.
+    /// The line is of more than `MOST_AGENTS` agents, or of one whose number isn't below that.
     TooManyAgents { line: usize },
-    /// The text is over before its first path.
+    /// What stands there is no move; moves count from 0.
+    BadMove { line: usize, time: usize },
+    /// A quote isn't closed.
+    OpenQuote,
+    /// The paths are moves, and there is no scenario that says where agents start.
+    NoStarts,
+    /// The agent has no path, and one with a greater number has.
+    MissingAgent { agent: usize },
+    /// The text has no path, or says that the solver found none.
     NoPaths,
     /// There was no memory.
     OutOfMemory,
@@ -49,6 +57,10 @@ impl PathsFault {
             PathsFault::NoCells { line } => ("no cells", Some(line)),
             PathsFault::CellCount { line } => ("cell count", Some(line)),
             PathsFault::TooManyAgents { line } => ("too many agents", Some(line)),
+            PathsFault::BadMove { line, .. } => ("bad move", Some(line)),
+            PathsFault::OpenQuote => ("open quote", None),
+            PathsFault::NoStarts => ("moves need --scen", None),
+            PathsFault::MissingAgent { .. } => ("missing agent", None),
             PathsFault::NoPaths => ("no paths", None),
             PathsFault::OutOfMemory => ("out of memory", None),
         }
@@ -59,6 +71,12 @@ impl fmt::Display for PathsFault {
     fn fmt<W: fmt::Write>(&self, f: &mut fmt::Formatter<W>) -> fmt::Result {
         if let PathsFault::BadCell { line, cell } = self {
             return write!(f, "bad cell {cell} in line {line}");
+        }
+        if let PathsFault::BadMove { line, time } = self {
+            return write!(f, "bad move {time} in line {line}");
+        }
+        if let PathsFault::MissingAgent { agent } = self {
+            return write!(f, "missing agent {agent}");
         }
         match self.told() {
             (what, Some(line)) => write!(f, "{what} in line {line}"),

@@ -1,4 +1,4 @@
-ghost use Rattle.std.specs.Prelude.{◌≡◌};
+ghost use Rattle.std.specs.Prelude.{◌≡◌, true};
 ghost use Rattle.path_files.specs.Heads.{with_line, list_of, with_starts, with_goals, with_agents};
 ghost use Rattle.path_files.specs.Answers.{IsRead};
 
@@ -7,6 +7,7 @@ use crate::lines::{behind, behind_blanks};
 use crate::rows::row_of;
 use bench_reader::number_of;
 use grid_cells::{Cell, List};
+use session_lines::is_word;
 use std::alloc::Global;
 
 /// What a text by time says before its paths.
@@ -15,6 +16,8 @@ pub(crate) struct Head {
     pub(crate) starts: Option<List<Cell>>,
     pub(crate) goals: Option<List<Cell>>,
     pub(crate) agents: Option<u32>,
+    /// Whether the solver found no paths.
+    pub(crate) unsolved: bool,
 }
 
 // The list of that line, where the head doesn't have it yet.
@@ -41,6 +44,7 @@ fn with_starts(alloc: Global, head: Head, line: usize, text: &[u8]) -> Result<He
         starts: Some(starts),
         goals: head.goals,
         agents: head.agents,
+        unsolved: head.unsolved,
     })
 }
 
@@ -53,6 +57,7 @@ fn with_goals(alloc: Global, head: Head, line: usize, text: &[u8]) -> Result<Hea
         starts: head.starts,
         goals: Some(goals),
         agents: head.agents,
+        unsolved: head.unsolved,
     })
 }
 
@@ -68,12 +73,25 @@ fn with_agents(head: Head, line: usize, text: &[u8]) -> Result<Head, PathsFault>
             starts: head.starts,
             goals: head.goals,
             agents: Some(agents),
+            unsolved: head.unsolved,
         }),
         None => Err(PathsFault::BadHeader { line }),
     }
 }
 
-/// The head with one more line `key=value`.
+// The head, where it says that the solver found no paths.
+fn unsolved(head: Head) -> Head
+    ensures { result ≡ record head { unsolved = true } }
+{
+    Head {
+        starts: head.starts,
+        goals: head.goals,
+        agents: head.agents,
+        unsolved: true,
+    }
+}
+
+/// The head with one more line.
 ///
 /// # Errors
 /// `BadHeader`, `RepeatedList` or the fault of a list; or want of memory.
@@ -91,9 +109,9 @@ pub(crate) fn with_line(
         with_goals(alloc, head, line, cells)
     } else if let Some(number) = behind(b"agents=", bytes) {
         with_agents(head, line, number)
-    } else if bytes.contains(&b'=') {
-        Ok(head)
+    } else if is_word(bytes, b"solved=0") {
+        Ok(unsolved(head))
     } else {
-        Err(PathsFault::BadHeader { line })
+        Ok(head)
     }
 }

@@ -1,8 +1,8 @@
-ghost use Rattle.std.specs.Prelude.{◌≡◌, ◌+◌, ◌^◌, ◌<◌, ◌≤◌, ◌==◌, [], ◌∷◌, length, MatchOption, IfSome};
+ghost use Rattle.std.specs.Prelude.{◌≡◌, ◌+◌, ◌^◌, ◌<◌, ◌≤◌, ◌==◌, None, Some, [], ◌∷◌, length, MatchOption, IfSome};
 ghost use Rattle.std.specs.Option.{option_copied};
 ghost use Rattle.std.specs.List.{position};
 ghost use Rattle.bench_reader.specs.Lines.{lines_of};
-ghost use Rattle.path_files.specs.Lines.{behind_blanks, trimmed, behind, cut, behind_label, written, written_from};
+ghost use Rattle.path_files.specs.Lines.{behind_blanks, trimmed, behind, cut, numbered, is_silent, written, written_from, without_mark};
 
 use bench_reader::{is_blank, is_blank_line, next_line, number_of, row_of};
 
@@ -20,14 +20,32 @@ pub(crate) fn behind_blanks(line: &[u8]) -> &[u8]
     rest
 }
 
-// The line without the blanks at its ends.
-fn trimmed(line: &[u8]) -> &[u8]
+/// The line without the blanks at its ends.
+pub(crate) fn trimmed(line: &[u8]) -> &[u8]
     ensures { result.now ≡ trimmed line.now }
 {
     behind_blanks(row_of(line))
 }
 
-/// The first line of a text that isn't blank, where its lines count from `first`: its number, the
+// Whether the line says nothing: whether it has blanks alone, or is a remark.
+fn is_silent(line: &[u8]) -> bool
+    ensures { result ≡ is_silent line.now }
+{
+    is_blank_line(line) || behind(b"#", behind_blanks(line)).is_some()
+}
+
+/// The text without the mark of its byte order, if it has one.
+pub(crate) fn without_mark(text: &[u8]) -> &[u8]
+    ensures is { result.now ≡ without_mark text.now }
+    ensures shorter { length result.now ≤ length text.now }
+{
+    match behind(b"\xef\xbb\xbf", text) {
+        Some(rest) => rest,
+        None => text,
+    }
+}
+
+/// The first line of a text that says something, where its lines count from `first`: its number, the
 /// line without the blanks at its ends, and the text behind it.
 pub(crate) fn next_written(text: &[u8], first: usize) -> Option<(usize, &[u8], &[u8])>
     requires { first + length text.now < 2 ^ 64 }
@@ -39,7 +57,7 @@ pub(crate) fn next_written(text: &[u8], first: usize) -> Option<(usize, &[u8], &
     let mut rest = text;
     let mut number = first;
     while let Some((line, below)) = next_line(rest) {
-        if !is_blank_line(line) {
+        if !is_silent(line) {
             return Some((number, trimmed(line), below));
         }
         rest = below;
@@ -50,7 +68,8 @@ pub(crate) fn next_written(text: &[u8], first: usize) -> Option<(usize, &[u8], &
 
 /// What stands behind the prefix, where the text begins with it.
 pub(crate) fn behind<'a>(prefix: &[u8], text: &'a [u8]) -> Option<&'a [u8]>
-    ensures { option_copied result ≡ behind prefix.now text.now }
+    ensures is { option_copied result ≡ behind prefix.now text.now }
+    ensures shorter { IfSome result (λ rest. length rest.now ≤ length text.now) }
 {
     text.strip_prefix(prefix)
 }
@@ -70,14 +89,10 @@ pub(crate) fn cut(text: &[u8], mark: u8) -> Option<(&[u8], &[u8])>
     Some((&text[..place], &text[place + 1..]))
 }
 
-/// What stands behind the number and a colon, where the line begins with them.
-pub(crate) fn labelled(number: usize, line: &[u8]) -> Option<&[u8]>
-    ensures { option_copied result ≡ behind_label number line.now }
+/// The number, and what stands behind it and a colon, where the line begins with them.
+pub(crate) fn numbered(line: &[u8]) -> Option<(u32, &[u8])>
+    ensures { MatchOption result (numbered line.now ≡ None) (λ r. numbered line.now ≡ Some (r.0, r.1.now)) }
 {
     let (label, rest) = cut(line, b':')?;
-    if number_of(label)? as usize == number {
-        Some(rest)
-    } else {
-        None
-    }
+    Some((number_of(trimmed(label))?, rest))
 }

@@ -3,7 +3,7 @@ use Rattle.bench_reader.specs.Lines.{lines_of}
 use Rattle.scene_edits.specs.declared.scenes.TheConstants.{MOST_AGENTS}
 use Rattle.path_files.specs.Lines.{written_from}
 use Rattle.path_files.specs.Times.{times_from}
-use Rattle.path_files.proofs.times.read_times.Given as goal
+use Rattle.path_files.proofs.times.read_rows.Given as goal
 
 abbrev pub invariant-loop-line : goal.invariant-loop-line
 invariant-loop-line l = record {
