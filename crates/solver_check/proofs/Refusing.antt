@@ -14,9 +14,9 @@ use Rattle.path_files.specs.Texts.{paths_of}
 use Rattle.path_files.specs.declared.forms.Form.{Form}
 use Rattle.path_files.specs.declared.paths.SolverPaths.{SolverPaths}
 use Rattle.solver_check.specs.Opens.{Opens}
-use Rattle.solver_check.specs.CheckEdits.{edits_of}
+use Rattle.solver_check.specs.CheckEdits.{begun, edits_of}
 use Rattle.solver_check.specs.CheckTimes.{time_of_fault}
-use Rattle.solver_check.specs.CheckFaults.{TellsFault, IsRefused, IsPlanFault, HasRefusal, tasks_taken}
+use Rattle.solver_check.specs.CheckFaults.{TellsFault, IsFirstRefusal, IsRefused, IsPlanFault, HasRefusal, tasks_taken}
 use Rattle.solver_check.specs.declared.checks.faults.CheckFault.{CheckFault}
 use Rattle.solver_check.specs.declared.checks.faults.CheckFault.TheVariants.{Agent, Path}
 
@@ -36,7 +36,7 @@ told-first scene list asked index why edit size fault same on first there told =
     (first-refusal scene list index why edit fault first there (subst (λ (s : Extent). TellsFault s edit why fault) on told))
 
 -- a refusal is told of an agent or of a path
-told-so : (size : Extent) (edit : Edit) (why : EditFault) (fault : CheckFault) (P : CheckFault → Type 0) → TellsFault size edit why fault → ((agent : ℕ) (of : EditFault) → P (Agent agent of)) → ((agent time : ℕ) (of : EditFault) → P (Path agent time of)) → P fault
+pub told-so : (size : Extent) (edit : Edit) (why : EditFault) (fault : CheckFault) (P : CheckFault → Type 0) → TellsFault size edit why fault → ((agent : ℕ) (of : EditFault) → P (Agent agent of)) → ((agent time : ℕ) (of : EditFault) → P (Path agent time of)) → P fault
 told-so size (edits.Add agent start goal) why fault P told agents paths = subst P (sym told) (agents agent why)
 told-so size (edits.Path agent cells) why fault P told agents paths = subst P (sym told) (paths agent (time_of_fault size cells why) why)
 told-so size (edits.Drop agent) why fault P told agents paths = absurd told
@@ -46,10 +46,16 @@ told-so size (edits.Open cell) why fault P told agents paths = absurd told
 told-so size (edits.Close cell) why fault P told agents paths = absurd told
 
 -- the scene opens, and refuses an edit or wants memory
-pub plan_fault : (map : List ℕ) (scen : Option (List ℕ)) (agents : Option ℕ) (mode : Mode) (paths : List ℕ) (form : Option Form) (spelled : SolverPaths) (opened : SceneState) (fault : CheckFault) → paths_of form paths ≡ Ok spelled → Opens map scen (tasks_taken agents spelled) mode opened → IsRefused opened (edits_of (is_none scen) spelled) fault → IsPlanFault map scen agents mode paths form fault
-plan_fault map scen agents mode paths form spelled opened fault reads opens (inl first) =
+pub plan_fault : (map : List ℕ) (scen : Option (List ℕ)) (agents : Option ℕ) (mode : Mode) (paths : List ℕ) (form : Option Form) (spelled read : SolverPaths) (opened : SceneState) (fault : CheckFault) → paths_of (is_none scen) form paths ≡ Ok read → Opens map scen (tasks_taken agents read) mode opened → spelled ≡ begun opened read → IsRefused opened (edits_of (is_none scen) spelled) fault → IsPlanFault map scen agents mode paths form fault
+plan_fault map scen agents mode paths form spelled read opened fault reads opens starts (inl first) =
     told-so opened.grid.size first.first.edit first.why fault (λ f. HasRefusal map scen agents mode paths form f → IsPlanFault map scen agents mode paths form f) first.told
     (λ agent why refusal. refusal)
     (λ agent time why refusal. refusal)
-    (record { spelled = spelled; reads = reads; opened = opened; opens = opens; first = first })
-plan_fault map scen agents mode paths form spelled opened fault reads opens (inr none) = subst (IsPlanFault map scen agents mode paths form) (sym none) tt
+    (record {
+      spelled = read;
+      reads = reads;
+      opened = opened;
+      opens = opens;
+      first = subst (λ (s : SolverPaths). IsFirstRefusal opened (edits_of (is_none scen) s) fault) starts first;
+    })
+plan_fault map scen agents mode paths form spelled read opened fault reads opens starts (inr none) = subst (IsPlanFault map scen agents mode paths form) (sym none) tt

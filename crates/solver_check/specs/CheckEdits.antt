@@ -1,12 +1,27 @@
 -- The edits that a text of paths asks for (this project's choice).
-use Rattle.std.specs.Prelude.{ℕ, ◌+◌, Option, Some, None, Bool, true, false, List, [], ◌∷◌, ◌++◌, length, slice_get, take}
+use Rattle.std.specs.Prelude.{ℕ, ◌+◌, Option, Some, None, Bool, true, false, List, [], ◌∷◌, ◌++◌, length, slice_get, take, if◌then◌else◌}
 use Rattle.std.specs.Option.{option_and_then, option_or}
 use Rattle.grid_cells.specs.Cell.{Point}
 use Rattle.plan_table.specs.Path.{last_index}
-use Rattle.scene_edits.specs.Scene.{SceneState}
+use Rattle.scene_edits.specs.Scene.{SceneState, start_of}
 use Rattle.scene_edits.specs.declared.edits.Edit.{Edit}
 use Rattle.scene_edits.specs.declared.edits.Edit.TheVariants.{Add, Drop, Goal, Path, Tail, Open, Close}
+use Rattle.path_files.specs.Moves.{is_relative, set_out}
 use Rattle.path_files.specs.declared.paths.SolverPaths.{SolverPaths}
+
+-- a path of moves set out from its agent's start, where there is one
+abbrev pub begun_path : Option Point → List Point → List Point
+begun_path (Some start) path = set_out start path
+begun_path None path = path
+
+-- those of the agents from that one on
+abbrev pub begun_from : SceneState → ℕ → List (List Point) → List (List Point)
+begun_from scene agent [] = []
+begun_from scene agent (path ∷ paths) = begun_path (start_of scene agent) path ∷ begun_from scene (agent + 1) paths
+
+-- what a text spells, where paths of moves begin at their agents' starts
+abbrev pub begun : SceneState → SolverPaths → SolverPaths
+begun scene spelled = if is_relative spelled.form then record spelled { paths = begun_from scene 0 spelled.paths } else spelled
 
 -- an agent's cell in a list of the text's where that has one, else the cell of its path at that index
 abbrev pub cell_given : Option (List Point) → ℕ → List Point → ℕ → Option Point

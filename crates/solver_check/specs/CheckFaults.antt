@@ -15,7 +15,7 @@ use Rattle.path_files.specs.declared.paths.SolverPaths.{SolverPaths}
 use Rattle.solver_check.specs.Opens.{Opens, IsOpenFault}
 use Rattle.solver_check.specs.declared.faults.RunFault.{RunFault}
 use Rattle.solver_check.specs.declared.faults.RunFault.TheVariants as run_fault
-use Rattle.solver_check.specs.CheckEdits.{edits_of, edits_within}
+use Rattle.solver_check.specs.CheckEdits.{begun, edits_of, edits_within}
 use Rattle.solver_check.specs.CheckTimes.{time_of_fault}
 use Rattle.solver_check.specs.Unread.{verdict_unread}
 use Rattle.solver_check.specs.Wrongs.{wrongs_of}
@@ -33,8 +33,10 @@ tasks_taken agents spelled = unwrap_or agents (length spelled.paths)
 
 -- what the text of paths spells, and the scene that opens from the map and the tasks
 pub record Spells (map : List ℕ) (scen : Option (List ℕ)) (agents : Option ℕ) (mode : Mode) (paths : List ℕ) (form : Option Form) (spelled : SolverPaths) (opened : SceneState) : Type 0 where
-  pub reads : paths_of form paths ≡ Ok spelled
-  pub opens : Opens map scen (tasks_taken agents spelled) mode opened
+  pub read : SolverPaths
+  pub reads : paths_of (is_none scen) form paths ≡ Ok read
+  pub opens : Opens map scen (tasks_taken agents read) mode opened
+  pub starts : spelled ≡ begun opened read
 
 -- the fault of an agent, or of a path at its time
 abbrev pub TellsFault : Extent → Edit → EditFault → CheckFault → Type 0
@@ -60,20 +62,20 @@ IsRefused scene asked fault = IsFirstRefusal scene asked fault ⊎ (fault ≡ Ou
 -- the text spells paths, and the map and the tasks make no scene
 pub record HasOpenFault (map : List ℕ) (scen : Option (List ℕ)) (agents : Option ℕ) (paths : List ℕ) (form : Option Form) (why : RunFault) : Type 0 where
   pub spelled : SolverPaths
-  pub reads : paths_of form paths ≡ Ok spelled
+  pub reads : paths_of (is_none scen) form paths ≡ Ok spelled
   pub first : IsOpenFault map scen (tasks_taken agents spelled) why
 
 -- the scene opens, and refuses an agent or a path
 pub record HasRefusal (map : List ℕ) (scen : Option (List ℕ)) (agents : Option ℕ) (mode : Mode) (paths : List ℕ) (form : Option Form) (fault : CheckFault) : Type 0 where
   pub spelled : SolverPaths
-  pub reads : paths_of form paths ≡ Ok spelled
+  pub reads : paths_of (is_none scen) form paths ≡ Ok spelled
   pub opened : SceneState
   pub opens : Opens map scen (tasks_taken agents spelled) mode opened
-  pub first : IsFirstRefusal opened (edits_of (is_none scen) spelled) fault
+  pub first : IsFirstRefusal opened (edits_of (is_none scen) (begun opened spelled)) fault
 
 -- the first fault of what a check reads; want of memory may come in place of any
 abbrev pub IsPlanFault : List ℕ → Option (List ℕ) → Option ℕ → Mode → List ℕ → Option Form → CheckFault → Type 0
-IsPlanFault map scen agents mode paths form (Paths why) = paths_of form paths ≡ Err why
+IsPlanFault map scen agents mode paths form (Paths why) = paths_of (is_none scen) form paths ≡ Err why
 IsPlanFault map scen agents mode paths form (Run why) = HasOpenFault map scen agents paths form why
 IsPlanFault map scen agents mode paths form (Agent agent why) = HasRefusal map scen agents mode paths form (Agent agent why)
 IsPlanFault map scen agents mode paths form (Path agent time why) = HasRefusal map scen agents mode paths form (Path agent time why)
@@ -82,7 +84,7 @@ IsPlanFault map scen agents mode paths form OutOfMemory = Unit {0}
 
 -- why neither the text of paths is read nor the scene opened
 abbrev pub IsUnopened : List ℕ → Option (List ℕ) → Option ℕ → List ℕ → Option Form → CheckFault → Type 0
-IsUnopened map scen agents paths form (Paths why) = paths_of form paths ≡ Err why
+IsUnopened map scen agents paths form (Paths why) = paths_of (is_none scen) form paths ≡ Err why
 IsUnopened map scen agents paths form (Run why) = HasOpenFault map scen agents paths form why
 IsUnopened map scen agents paths form (Agent agent why) = ⊥
 IsUnopened map scen agents paths form (Path agent time why) = ⊥
@@ -93,7 +95,7 @@ IsUnopened map scen agents paths form OutOfMemory = Unit {0}
 pub record HasOpenFaultAlone (map : List ℕ) (scen : Option (List ℕ)) (agents : Option ℕ) (paths : List ℕ) (form : Option Form) (why : RunFault) : Type 0 where
   pub unread : PathsFault
   pub verdict : Verdict
-  pub reads : paths_of form paths ≡ Err unread
+  pub reads : paths_of (is_none scen) form paths ≡ Err unread
   pub told : verdict_unread unread ≡ Some verdict
   pub first : IsOpenFault map scen (unwrap_or agents 0) why
 
@@ -107,7 +109,7 @@ pub record IsDisallowed (map : List ℕ) (scen : Option (List ℕ)) (agents : Op
 
 -- why there is no verdict: the first fault of what a check reads, unless a text of paths has a verdict by it
 abbrev pub IsUnjudged : List ℕ → Option (List ℕ) → Option ℕ → Mode → List ℕ → Option Form → CheckFault → Type 0
-IsUnjudged map scen agents mode paths form (Paths why) = (paths_of form paths ≡ Err why) × (verdict_unread why ≡ None)
+IsUnjudged map scen agents mode paths form (Paths why) = (paths_of (is_none scen) form paths ≡ Err why) × (verdict_unread why ≡ None)
 IsUnjudged map scen agents mode paths form (Run why) = HasOpenFault map scen agents paths form why ⊎ HasOpenFaultAlone map scen agents paths form why
 IsUnjudged map scen agents mode paths form (Agent agent why) = IsDisallowed map scen agents mode paths form (Agent agent why)
 IsUnjudged map scen agents mode paths form (Path agent time why) = IsDisallowed map scen agents mode paths form (Path agent time why)

@@ -6,10 +6,15 @@ pub mod Wrongs
 pub mod Differences
 pub mod FindingTexts
 pub mod CheckTexts
+pub mod Counts
+pub mod JsonTexts
+pub mod Turned
+pub mod Stated
 pub mod Unread
 pub mod CheckFaults
 pub mod Verdicts
 pub mod Listings
+pub mod Styles
 pub mod Checks
 pub mod Bounds
 pub mod Inputs

@@ -22,6 +22,10 @@ verdict_unread (faults.BadCell line cell) = None
 verdict_unread (faults.NoCells line) = None
 verdict_unread (faults.CellCount line) = None
 verdict_unread (faults.TooManyAgents line) = None
+verdict_unread (faults.BadMove line time) = None
+verdict_unread faults.OpenQuote = None
+verdict_unread faults.NoStarts = None
+verdict_unread (faults.MissingAgent agent) = None
 verdict_unread faults.OutOfMemory = None
 
 -- the verdict by a fault of a check

@@ -47,7 +47,7 @@ IsOn bare spelled opened kinds (Judged report differences solved) =
 -- this is the verdict on a text that isn't read, and the map and the tasks make a scene
 pub record IsUnread (map : List ℕ) (scen : Option (List ℕ)) (agents : Option ℕ) (mode : Mode) (text : List ℕ) (form : Option Form) (verdict : Verdict) : Type 0 where
   pub fault : PathsFault
-  pub reads : paths_of form text ≡ Err fault
+  pub reads : paths_of (is_none scen) form text ≡ Err fault
   pub told : verdict_unread fault ≡ Some verdict
   pub opened : SceneState
   pub opens : Opens map scen (unwrap_or agents 0) mode opened

@@ -10,7 +10,8 @@
 //! that it makes, `times` the time at which a path is refused; `wrongs` are the paths that aren't any,
 //! `differences` and `counts` where the text differs from the problem, `judging` is the verdict, `unread`
 //! that on texts that aren't read to their end; `listings` leaves out what isn't to be printed; `texts`,
-//! `findings` and `quiet` write it; `faults` has what a verdict or a picture fails by.
+//! `findings` and `quiet` write it, or `json`, in one of the `styles`, and `turning` exchanges a cell's
+//! coordinates; `costs` compares those that the text states; `faults` has what a verdict or a picture fails by.
 #![tactic(auto)]
 
 mod bounds;
@@ -26,7 +27,10 @@ mod shown;
 pub use bounds::{
     BOUNDS, MOST_BYTES, MOST_HOSTED_BYTES, MOST_HOSTED_LINES, MOST_LINES, SEAT_BOUNDS,
 };
-pub use checks::{CheckFault, Listing, planned_scene, run_check};
+pub use checks::{
+    CheckFault, Checked, CostApart, CostsApart, Listing, Style, Totals, costs_apart, planned_scene,
+    run_check, run_check_in,
+};
 pub use faults::{Fault, RunFault};
 pub use heard::Heard;
 pub use hearing::{Hearing, MOST_HEARD};

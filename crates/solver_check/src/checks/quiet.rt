@@ -8,8 +8,8 @@ ghost use Rattle.solver_check.specs.CheckTexts.{count_finished, count_named, kin
 use desk_report::{AgentLine, Kinds, Report, Sink, WriteFailed, put_count, put_totals};
 use mapf_rules::Conflict;
 
-// No kind.
-const NONE: Kinds = Kinds {
+/// No kind.
+pub(crate) const NONE: Kinds = Kinds {
     vertex: false,
     edge: false,
     follow: false,
@@ -17,15 +17,15 @@ const NONE: Kinds = Kinds {
     cycle: false,
 };
 
-// How many of the agents are finished.
-fn count_finished(lines: &[AgentLine]) -> usize
+/// How many of the agents are finished.
+pub(crate) fn count_finished(lines: &[AgentLine]) -> usize
     ensures { result ≡ count_finished lines.now }
 {
     lines.iter().filter(|line| line.finished).count()
 }
 
-// How many of the entries are of a named kind.
-fn count_named(kinds: Kinds, entries: &[Conflict]) -> usize
+/// How many of the entries are of a named kind.
+pub(crate) fn count_named(kinds: Kinds, entries: &[Conflict]) -> usize
     ensures { result ≡ count_named kinds entries.now }
 {
     entries

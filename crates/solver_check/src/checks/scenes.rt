@@ -1,5 +1,5 @@
 //! The scene that a text of paths makes.
-ghost use Rattle.std.specs.Prelude.{◌≡◌, ◌≤◌, length, IfOk, IfErr, OnOk};
+ghost use Rattle.std.specs.Prelude.{◌≡◌, ◌≤◌, length, is_none, IfOk, IfErr, OnOk};
 ghost use Rattle.scene_edits.specs.InOrder.{edited_all, AreAllowed};
 ghost use Rattle.scene_edits.specs.declared.scenes.TheConstants.{MOST_AGENTS};
 ghost use Rattle.solver_check.specs.CheckEdits.{edits_of, edits_within, IsOfPaths, of_agents};
@@ -9,6 +9,7 @@ ghost use Rattle.solver_check.specs.Opens.{bytes_of};
 
 use crate::checks::edits::edits_of;
 use crate::checks::faults::CheckFault;
+use crate::checks::setting_out::begun;
 use crate::checks::times::time_of;
 use crate::scenes::{Problem, scene_of};
 use grid_cells::{List, OutOfMemory, Size};
@@ -99,6 +100,16 @@ pub(crate) struct Opened {
     pub(crate) scene: Scene,
 }
 
+// Whether there is no scenario.
+fn is_bare(problem: Problem<'_>) -> bool
+    ensures { result ≡ is_none (bytes_of problem.entry.scen) }
+{
+    match problem.scen {
+        Some(_) => false,
+        None => true,
+    }
+}
+
 /// What a text of paths spells, and the scene of a problem, with as many agents as there are paths
 /// unless their number is told.
 ///
@@ -115,7 +126,7 @@ pub(crate) fn open(
     ensures few { IfOk result (λ opened. length opened.spelled.paths ≤ MOST_AGENTS) }
     ensures err { IfErr result (IsUnopened problem.entry.map.now (bytes_of problem.entry.scen) problem.entry.agents paths.now form) }
 {
-    let spelled = match read_paths(alloc, paths, form) {
+    let spelled = match read_paths(alloc, paths, form, is_bare(problem)) {
         Ok(spelled) => spelled,
         Err(PathsFault::OutOfMemory) => return Err(CheckFault::OutOfMemory),
         Err(fault) => return Err(CheckFault::Paths(fault)),
@@ -125,11 +136,18 @@ pub(crate) fn open(
         agents: Some(tasks),
         ..problem
     };
-    match scene_of(alloc, counted) {
-        Ok(scene) => Ok(Opened { spelled, scene }),
+    let scene = match scene_of(alloc, counted) {
+        Ok(scene) => scene,
         Err(fault) => {
             drop(spelled);
-            Err(CheckFault::from(fault))
+            return Err(CheckFault::from(fault));
+        }
+    };
+    match begun(alloc, &scene, spelled) {
+        Ok(spelled) => Ok(Opened { spelled, scene }),
+        Err(OutOfMemory) => {
+            drop(scene);
+            Err(CheckFault::OutOfMemory)
         }
     }
 }
