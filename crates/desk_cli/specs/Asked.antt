@@ -1,9 +1,10 @@
 -- What the words ask for, by what the parser found in them (this project's choice).
-use Rattle.std.specs.Prelude.{◌≡◌, ◌≢◌, ◌⊎◌, ℕ, Bool, List, [], Option, Some, None, false, true, option_map, unwrap_or, codes}
+use Rattle.std.specs.Prelude.{◌≡◌, ◌≢◌, ◌⊎◌, ℕ, Bool, List, [], Option, Some, None, false, true, codes, option_map, unwrap_or}
 use Rattle.std.specs.Option.{option_copied}
 use Rattle.session_lines.specs.Kinds.{named_kinds}
 use Rattle.session_lines.specs.declared.versions.LinesVersion.{LinesVersion}
 use Rattle.session_lines.specs.declared.versions.LinesVersion.TheVariants.{One, Two}
+use Rattle.path_files.specs.declared.forms.Form.{Form}
 use Rattle.clap.specs.Matches.{first_value, found_of, has_subcommand, matched_of, one_text, raw_values, subcommand_name_of}
 use Rattle.clap.specs.Simple.{App, HasMatchesOf, subcommand_rows_of}
 use Rattle.clap.specs.Walk.{rows_of}
@@ -12,6 +13,7 @@ use Rattle.clap.specs.declared.parser.matches.Found.{Found}
 use Rattle.desk_cli.specs.Program.{IsProgram}
 use Rattle.desk_cli.specs.Values.{
   file_named,
+  files_behind,
   number_given,
   range_of,
   texts_given,
@@ -19,6 +21,7 @@ use Rattle.desk_cli.specs.Values.{
   is_sync_named,
   mode_named,
   lines_named,
+  form_flipped,
   form_named,
   kinds_named,
 }
@@ -40,6 +43,10 @@ pub record IsFlag (found : Found) (name : List ℕ) (flag : Bool) : Type 0 where
   pub given : one_text found name ≡ Some (codes "true") → flag ≡ true
   pub left_out : one_text found name ≡ Some (codes "false") → flag ≡ false
   pub absent : one_text found name ≡ None → flag ≡ false
+
+-- the form of paths that is named, with its moves flipped or not
+abbrev pub IsForm : Found → Option Form → Type 0
+IsForm found form = (flipped : Bool) × IsFlag found (codes "flip") flipped × (form ≡ form_flipped flipped (form_named (first_value found (codes "form"))))
 
 -- a session's desk, and its version of lines, which is usually that one
 pub record AsksToServe (usual : LinesVersion) (found : Found) (words : ServeWords) : Type 0 where
@@ -83,10 +90,13 @@ pub record AsksToCheck (found : Found) (words : CheckWords) : Type 0 where
   pub agents : words.agents ≡ number_given found (codes "agents")
   pub mode : words.mode ≡ mode_named (first_value found (codes "mode"))
   pub paths : words.paths.now ≡ unwrap_or (option_map file_named (first_value found (codes "paths"))) []
-  pub form : words.form ≡ form_named (first_value found (codes "form"))
+  pub more : texts_in words.more.items ≡ files_behind (texts_given found (codes "paths"))
+  pub form : IsForm found words.form
   pub kinds : words.kinds ≡ kinds_named (option_map raw_values (matched_of found (codes "solves")))
   pub quiet : IsFlag found (codes "quiet") words.quiet
   pub only : IsFlag found (codes "only") words.only
+  pub json : IsFlag found (codes "json") words.is_json
+  pub own_cells : IsFlag found (codes "own-cells") words.own_cells
   pub workers : words.workers ≡ unwrap_or (number_given found (codes "workers")) 4
 
 pub record AsksToDraw (found : Found) (words : DrawWords) : Type 0 where

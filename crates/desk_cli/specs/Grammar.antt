@@ -9,7 +9,7 @@ use Rattle.clap.specs.declared.builder.value_parser.ValueParser.{ValueParser}
 use Rattle.clap.specs.declared.builder.value_parser.ValueParser.TheVariants.{String, Signed, Names}
 use Rattle.desk_cli.specs.declared.arguments.Argument.{Argument}
 use Rattle.desk_cli.specs.declared.arguments.Value.{Value}
-use Rattle.desk_cli.specs.declared.arguments.Value.TheVariants.{Nothing, Text, Number, OneOf, SomeOf, Listed}
+use Rattle.desk_cli.specs.declared.arguments.Value.TheVariants.{Nothing, Text, Number, OneOf, SomeOf, Texts, Listed}
 use Rattle.desk_cli.specs.declared.commands.Word.{Word}
 
 abbrev pub from_one : ℕ → Option ValueRange
@@ -39,6 +39,7 @@ rule_by (Text name) argument = option_rule argument String 1
 rule_by (Number name least greatest) argument = option_rule argument (Signed (pos least) (pos greatest)) 1
 rule_by (OneOf name texts) argument = option_rule argument (Names texts) 1
 rule_by (SomeOf name texts) argument = option_rule argument (Names texts) usize_max
+rule_by (Texts name) argument = option_rule argument String usize_max
 rule_by (Listed name) argument = listed_rule argument
 
 abbrev pub rule_for : Argument → Rule

@@ -55,7 +55,8 @@ word_labels = (
     ∷ (
       codes "check",
       needs (codes "map") ∷ needs (codes "paths") ∷ may (codes "scen") ∷ may (codes "agents") ∷ may (codes "mode") ∷ may (codes "form") ∷
-          may (codes "solves") ∷ may (codes "only") ∷ may (codes "workers") ∷ may (codes "quiet") ∷ may (codes "verbose") ∷ [],
+          may (codes "flip") ∷ may (codes "solves") ∷ may (codes "only") ∷ may (codes "own-cells") ∷ may (codes "json") ∷
+          may (codes "workers") ∷ may (codes "quiet") ∷ may (codes "verbose") ∷ [],
     )
     ∷ (
       codes "draw",

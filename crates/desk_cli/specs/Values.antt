@@ -12,6 +12,7 @@ use Rattle.std.specs.Prelude.{
   Option,
   Some,
   None,
+  drop,
   map,
   option_map,
   option_and_then,
@@ -31,7 +32,7 @@ use Rattle.session_lines.specs.Values.{agent_of, with_both}
 use Rattle.session_lines.specs.declared.versions.LinesVersion.{LinesVersion}
 use Rattle.session_lines.specs.declared.versions.LinesVersion.TheVariants.{One, Two}
 use Rattle.path_files.specs.declared.forms.Form.{Form}
-use Rattle.path_files.specs.declared.forms.Form.TheVariants.{ByTime, ByAgent, BySession}
+use Rattle.path_files.specs.declared.forms.Form.TheVariants.{ByTime, ByAgent, BySession, ByMoves, ByFlippedMoves}
 use Rattle.clap.specs.Matches.{first_value, matched_of, raw_values}
 use Rattle.clap.specs.declared.parser.matches.Found.{Found}
 
@@ -42,6 +43,10 @@ number_given found name = option_and_then number_of (first_value found name)
 -- the file of that name; a dash stands for standard input (as usual on Unix)
 abbrev pub file_named : List ℕ → List ℕ
 file_named name = if bytes_eq name (codes "-") then codes "/dev/stdin" else name
+
+-- the files that stand behind the first
+abbrev pub files_behind : List (List ℕ) → List (List ℕ)
+files_behind names = map file_named (drop 1 names)
 
 -- the texts of references
 abbrev pub texts_in : List (Bor (List ℕ)) → List (List ℕ)
@@ -73,7 +78,14 @@ form_named (Some text) =
     if bytes_eq text (codes "time") then Some ByTime
     else if bytes_eq text (codes "agent") then Some ByAgent
     else if bytes_eq text (codes "session") then Some BySession
+    else if bytes_eq text (codes "moves") then Some ByMoves
     else None
+
+-- that form, where moves are flipped or aren't; flipped without a form, the paths are moves
+abbrev pub form_flipped : Bool → Option Form → Option Form
+form_flipped true None = Some ByFlippedMoves
+form_flipped true (Some ByMoves) = Some ByFlippedMoves
+form_flipped _ form = form
 
 -- the conflicts of the classical problem
 abbrev pub classical : Kinds

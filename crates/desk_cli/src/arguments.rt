@@ -20,6 +20,8 @@ pub(crate) enum Value {
     OneOf(&'static str, &'static [&'static str]),
     /// One or more of those texts.
     SomeOf(&'static str, &'static [&'static str]),
+    /// One text or more, which help calls by that name.
+    Texts(&'static str),
     /// One text or more, which no option names.
     Listed(&'static str),
 }
@@ -109,6 +111,7 @@ pub(crate) fn parsed<'a>(alloc: Global, argument: Argument) -> Result<Arg<'a>, A
         }
         Value::OneOf(name, texts) => valued(alloc, argument, name, texts.into(), 1),
         Value::SomeOf(name, texts) => valued(alloc, argument, name, texts.into(), usize::MAX),
+        Value::Texts(name) => valued(alloc, argument, name, ValueParser::string(), usize::MAX),
         Value::Listed(name) => Ok(listed(alloc, argument, name)),
     }
 }

@@ -1,6 +1,6 @@
 //! The program's words, as data.
 use crate::arguments::Argument;
-use crate::check_options::ONLY;
+use crate::check_options::{FLIP, JSON, ONLY, OWN_CELLS};
 use crate::helping::{
     ABOUT, AUDIT_HELP, CHECK_HELP, DRAW_HELP, DRILL_HELP, HOST_HELP, PAGE_HELP, PROGRAM_HELP,
     SERVE_HELP,
@@ -112,8 +112,11 @@ pub(crate) const WORDS: [Word; 7] = [
             AGENTS_OF_PATHS,
             MODE,
             FORM,
+            FLIP,
             SOLVES,
             ONLY,
+            OWN_CELLS,
+            JSON,
             WORKERS,
             QUIET,
             VERBOSE,

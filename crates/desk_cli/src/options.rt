@@ -114,14 +114,16 @@ pub(crate) const PATHS: Argument = Argument {
 };
 
 pub(crate) const NEEDED_PATHS: Argument = Argument {
+    value: Value::Texts("F"),
     is_needed: true,
+    help: "The paths, as a solver wrote them; of several files each has a line",
     ..PATHS
 };
 
 pub(crate) const FORM: Argument = Argument {
     name: "form",
-    value: Value::OneOf("FORM", &["time", "agent", "session"]),
-    help: "How the paths are written; if it isn't given, their first line says it",
+    value: Value::OneOf("FORM", &["time", "agent", "session", "moves"]),
+    help: "How the paths are written; if it isn't given, their lines say it",
     ..FILE
 };
 

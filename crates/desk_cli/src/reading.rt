@@ -8,8 +8,8 @@ use crate::kinds::{kinds_asked, kinds_given};
 use crate::pages::page_words;
 use crate::ranges::range_of;
 use crate::values::{
-    form_given, is_synced, lines_given, mode_given, number_given, paths_given, text_given,
-    texts_given,
+    form_given, is_synced, lines_given, mode_given, more_paths_given, number_given, paths_given,
+    text_given, texts_given,
 };
 use crate::words::{AuditWords, CheckWords, DrawWords, DrillWords, HostWords, ServeWords, Words};
 use clap::ArgMatches;
@@ -92,21 +92,25 @@ fn host_words(alloc: Global, matches: &ArgMatches<'static>) -> Result<HostWords,
     })
 }
 
-fn check_words(matches: &ArgMatches<'static>) -> CheckWords
-    ensures { AsksToCheck (found_of matches.now) result }
+fn check_words(alloc: Global, matches: &ArgMatches<'static>) -> Result<CheckWords, AllocError>
+    ensures { IfOk result (AsksToCheck (found_of matches.now)) }
 {
-    CheckWords {
+    let more = more_paths_given(alloc, matches)?;
+    Ok(CheckWords {
         map: text_given(matches, "map"),
         scen: matches.get_str("scen"),
         agents: number_given(matches, "agents"),
         mode: mode_given(matches),
         paths: paths_given(matches).unwrap_or(""),
+        more,
         form: form_given(matches),
         kinds: kinds_given(matches),
         quiet: matches.get_flag("quiet"),
         only: matches.get_flag("only"),
+        is_json: matches.get_flag("json"),
+        own_cells: matches.get_flag("own-cells"),
         workers: workers_of(matches),
-    }
+    })
 }
 
 fn draw_words(matches: &ArgMatches<'static>) -> DrawWords
@@ -160,7 +164,7 @@ pub(crate) fn named_words(
     } else if name == "host" {
         Ok(Words::Host(host_words(alloc, inner)?))
     } else if name == "check" {
-        Ok(Words::Check(check_words(inner)))
+        Ok(Words::Check(check_words(alloc, inner)?))
     } else if name == "draw" {
         Ok(Words::Draw(draw_words(inner)))
     } else if name == "page" {

@@ -1,10 +1,13 @@
 //! The values of options, as the parser found them.
-ghost use Rattle.std.specs.Prelude.{◌≡◌, [], IfOk, codes, option_and_then, option_map, unwrap_or};
+ghost use Rattle.std.specs.Prelude.{◌≡◌, [], IfOk, codes, map, option_and_then, option_map, unwrap_or};
 ghost use Rattle.std.specs.Option.{option_copied};
 ghost use Rattle.clap.specs.Matches.{first_value, found_of, matched_of, raw_values};
 ghost use Rattle.bench_reader.specs.Words.{number_of};
+ghost use Rattle.desk_cli.specs.Asked.{IsForm};
 ghost use Rattle.desk_cli.specs.Values.{
   file_named,
+  files_behind,
+  form_flipped,
   form_named,
   is_sync_named,
   lines_named,
@@ -45,6 +48,30 @@ pub(crate) fn paths_given(matches: &ArgMatches<'static>) -> Option<&'static str>
     match matches.get_str("paths") {
         Some(name) => Some(file_named(name)),
         None => None,
+    }
+}
+
+// The files of those names.
+fn files_named(alloc: Global, names: &[&'static str]) -> Result<Vec<&'static str>, AllocError>
+    ensures { IfOk result (λ files. texts_in files.items ≡ map file_named (texts_in names.now)) }
+{
+    let mut files = Vec::new(alloc);
+    for name in names {
+        files.push(file_named(name))?;
+    }
+    Ok(files)
+}
+
+/// The files of the paths behind the first.
+pub(crate) fn more_paths_given(
+    alloc: Global,
+    matches: &ArgMatches<'static>,
+) -> Result<Vec<&'static str>, AllocError>
+    ensures { IfOk result (λ files. texts_in files.items ≡ files_behind (texts_given (found_of matches.now) (codes "paths"))) }
+{
+    match matches.get_strs("paths") {
+        Some([_first, later @ ..]) => files_named(alloc, later),
+        _ => Ok(Vec::new(alloc)),
     }
 }
 
@@ -138,14 +165,29 @@ fn form_named(text: Option<&str>) -> Option<Form>
         Some(Form::ByAgent)
     } else if text == "session" {
         Some(Form::BySession)
+    } else if text == "moves" {
+        Some(Form::ByMoves)
     } else {
         None
     }
 }
 
-/// The form of a file of paths, if it is named.
-pub(crate) fn form_given(matches: &ArgMatches<'static>) -> Option<Form>
-    ensures { result ≡ form_named (first_value (found_of matches.now) (codes "form")) }
+// That form, where moves are flipped or aren't; without a form, flipped paths are moves.
+fn form_flipped(flipped: bool, form: Option<Form>) -> Option<Form>
+    ensures { result ≡ form_flipped flipped form }
 {
-    form_named(matches.get_str("form"))
+    match form {
+        None | Some(Form::ByMoves) if flipped => Some(Form::ByFlippedMoves),
+        form => form,
+    }
+}
+
+/// The form of a file of paths, if it is named, or if its moves are flipped.
+pub(crate) fn form_given(matches: &ArgMatches<'static>) -> Option<Form>
+    ensures { IsForm (found_of matches.now) result }
+{
+    form_flipped(
+        matches.get_flag("flip"),
+        form_named(matches.get_str("form")),
+    )
 }

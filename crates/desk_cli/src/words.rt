@@ -109,8 +109,10 @@ pub struct CheckWords {
     /// How many agents the scenario gives, 0 to 8,192; without it, as many as there are paths.
     pub agents: Option<u32>,
     pub mode: Mode,
-    /// The file of the paths.
+    /// The file of the paths; the first, where several are named.
     pub paths: &'static str,
+    /// The files of paths behind it.
+    pub more: Vec<&'static str>,
     /// How the paths are written; without it, their first line tells it.
     pub form: Option<Form>,
     /// The conflicts that count.
@@ -119,6 +121,10 @@ pub struct CheckWords {
     pub quiet: bool,
     /// Whether only the conflicts that count are listed.
     pub only: bool,
+    /// Whether the verdict is one JSON object, and else lines.
+    pub is_json: bool,
+    /// Whether cells are in the order of coordinates of the file of paths, and else column and row.
+    pub own_cells: bool,
     /// How many threads make the report, 1 to 64.
     pub workers: u32,
 }
