@@ -3,6 +3,7 @@ ghost use Rattle.std.specs.Prelude.{◌≡◌, ◌≤◌, [], string_len, unwrap
 ghost use Rattle.desk_io.specs.FaultyLines.{line_in_map, line_in_paths, line_in_scen};
 ghost use Rattle.solver_check.specs.Opens.{bytes_of};
 
+use crate::expectations::expected;
 use crate::faulty_paths::{cells_of, ends_of};
 use bench_reader::{MapFault, ScenFault};
 use desk_commits::{Refusal, ReplayFault};
@@ -81,7 +82,7 @@ impl Detailed for CheckFault {
     fn more(&self, alloc: Global, texts: Texts<'_>) -> Option<String> {
         match self {
             CheckFault::Run(fault) => fault.more(alloc, texts),
-            CheckFault::Paths(why) => line_of(alloc, texts.journal, paths_line(*why)),
+            CheckFault::Paths(why) => line_of_paths(alloc, texts.journal, *why),
             CheckFault::Agent { agent, .. } => ends_of(alloc, texts, *agent),
             CheckFault::Path { agent, time, why } => cells_of(alloc, texts, *agent, *time, *why),
             _ => None,
@@ -101,10 +102,21 @@ fn paths_line(why: PathsFault) -> Option<usize>
         | PathsFault::BadAgent { line }
         | PathsFault::BadPath { line }
         | PathsFault::BadCell { line, .. }
+        | PathsFault::BadMove { line, .. }
         | PathsFault::NoCells { line }
         | PathsFault::CellCount { line }
         | PathsFault::TooManyAgents { line } => Some(line),
         _ => None,
+    }
+}
+
+// The line that a fault of a file of paths is about, and what should stand there.
+fn line_of_paths(alloc: Global, text: Option<&[u8]>, why: PathsFault) -> Option<String> {
+    let mut shown = line_of(alloc, text, paths_line(why))?;
+    let expected = expected(why);
+    match write!(shown, " (expected {expected})") {
+        Ok(()) => Some(shown),
+        Err(_) => None,
     }
 }
 

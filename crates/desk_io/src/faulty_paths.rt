@@ -1,5 +1,5 @@
 //! What more is known of a solver's path that isn't taken: the cells for which it isn't.
-ghost use Rattle.std.specs.Prelude.{◌≡◌, [], Ok, IfSome, unwrap_or};
+ghost use Rattle.std.specs.Prelude.{◌≡◌, [], Ok, IfSome, is_none, unwrap_or};
 ghost use Rattle.path_files.specs.Texts.{paths_of};
 ghost use Rattle.solver_check.specs.Opens.{bytes_of};
 ghost use Rattle.desk_io.specs.Starts.{IsStartOf};
@@ -7,7 +7,7 @@ ghost use Rattle.desk_io.specs.Starts.{IsStartOf};
 use crate::details::Texts;
 use bench_reader::{read_map, read_scen};
 use grid_cells::{Agent, Cell};
-use path_files::{Form, SolverPaths, read_paths};
+use path_files::{Form, SolverPaths, is_relative, read_paths, set_out};
 use scene_edits::EditFault;
 use std::alloc::Global;
 use std::fmt;
@@ -22,16 +22,18 @@ impl fmt::Display for Spelled {
         match form {
             Form::ByTime => write!(f, "({},{})", cell.x(), cell.y()),
             Form::ByAgent => write!(f, "({},{})", cell.y(), cell.x()),
-            Form::BySession => write!(f, "{},{}", cell.x(), cell.y()),
+            Form::BySession | Form::ByMoves | Form::ByFlippedMoves => {
+                write!(f, "{},{}", cell.x(), cell.y())
+            }
         }
     }
 }
 
 // The paths of the texts.
 fn spelled_by(alloc: Global, texts: Texts<'_>) -> Option<SolverPaths>
-    ensures { IfSome result (λ paths. paths_of texts.entry.form (unwrap_or (bytes_of texts.entry.journal) []) ≡ Ok paths) }
+    ensures { IfSome result (λ paths. paths_of (is_none texts.entry.scen) texts.entry.form (unwrap_or (bytes_of texts.entry.journal) []) ≡ Ok paths) }
 {
-    read_paths(alloc, texts.journal?, texts.form).ok()
+    read_paths(alloc, texts.journal?, texts.form, texts.scen.is_none()).ok()
 }
 
 /// Between which cells the agent's path makes no step at that time, where it begins and should, which
@@ -50,6 +52,9 @@ pub(crate) fn cells_of(
     let shown = match (why, paths.get(agent.number() as usize)) {
         (EditFault::UnknownAgent, _) => {
             format!(in alloc; "paths: {}, agents: {}", paths.len(), agent.number()).ok()
+        }
+        (_, Some(cells)) if is_relative(form) => {
+            shown_moves(alloc, form, cells.items(), start, time, why)
         }
         (_, Some(cells)) => shown_cells(alloc, form, cells.items(), start, time, why),
         (_, None) => None,
@@ -79,6 +84,21 @@ fn shown_cells(
         EditFault::OutOfMap => format!(in alloc; "{cell}").ok(),
         _ => None,
     }
+}
+
+// The same of a path of moves, which is set out from the agent's start.
+fn shown_moves(
+    alloc: Global,
+    form: Form,
+    cells: &[Cell],
+    start: Option<Cell>,
+    time: usize,
+    why: EditFault,
+) -> Option<String> {
+    let begun = set_out(alloc, start?, cells).ok()?;
+    let shown = shown_cells(alloc, form, begun.items(), start, time, why);
+    drop(begun);
+    shown
 }
 
 /// Where the text of paths has the agent start, and where its goal is.

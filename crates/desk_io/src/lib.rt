@@ -15,6 +15,7 @@
 
 mod details;
 mod doors;
+mod expectations;
 mod faulty_paths;
 mod files;
 mod finishing;
