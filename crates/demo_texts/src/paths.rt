@@ -12,6 +12,10 @@ pub fn form_of(word: &str) -> Option<Form> {
         Some(Form::ByAgent)
     } else if word == "session" {
         Some(Form::BySession)
+    } else if word == "moves" {
+        Some(Form::ByMoves)
+    } else if word == "flipped" {
+        Some(Form::ByFlippedMoves)
     } else {
         None
     }
@@ -22,6 +26,8 @@ fn name_of(form: Form) -> &'static str {
         Form::ByTime => "time",
         Form::ByAgent => "agent",
         Form::BySession => "session",
+        Form::ByMoves => "moves",
+        Form::ByFlippedMoves => "flipped",
     }
 }
 
@@ -66,7 +72,7 @@ pub fn put_paths(
     text: &[u8],
     form: Option<Form>,
 ) -> Result<(), AllocError> {
-    match read_paths(alloc, text, form) {
+    match read_paths(alloc, text, form, false) {
         Ok(read) => {
             let put = put_read(told, &read);
             drop(read);

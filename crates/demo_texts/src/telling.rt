@@ -117,6 +117,9 @@ fn put_check(text: &mut String, words: &CheckWords) -> Result<(), AllocError> {
     text.push_str("check")?;
     put_file(text, "map", Some(words.map))?;
     put_file(text, "paths", Some(words.paths))?;
+    for file in words.more.as_slice() {
+        put_file(text, "more", Some(file))?;
+    }
     put_file(text, "scen", words.scen)?;
     put_given(text, "agents", words.agents)?;
     put_mode(text, words.mode)?;
@@ -128,6 +131,12 @@ fn put_check(text: &mut String, words: &CheckWords) -> Result<(), AllocError> {
     }
     if words.only {
         text.push_str(" only")?;
+    }
+    if words.is_json {
+        text.push_str(" json")?;
+    }
+    if words.own_cells {
+        text.push_str(" own-cells")?;
     }
     Ok(())
 }

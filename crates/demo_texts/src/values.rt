@@ -30,6 +30,8 @@ pub fn put_form(text: &mut String, form: Option<Form>) -> Result<(), AllocError>
         Some(Form::ByTime) => text.push_str(" form=time"),
         Some(Form::ByAgent) => text.push_str(" form=agent"),
         Some(Form::BySession) => text.push_str(" form=session"),
+        Some(Form::ByMoves) => text.push_str(" form=moves"),
+        Some(Form::ByFlippedMoves) => text.push_str(" form=flipped"),
     }
 }
 
