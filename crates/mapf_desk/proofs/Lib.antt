@@ -3,3 +3,5 @@ mod Unsent
 mod Planners
 mod LogDesk
 mod LogSession
+pub mod FilledRows
+pub mod RowsOf

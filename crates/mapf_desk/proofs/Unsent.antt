@@ -12,10 +12,11 @@ use Rattle.desk_pages.specs.declared.pages.Page.{Page}
 use Rattle.single_runs.specs.PageRuns.{Pages}
 use Rattle.path_files.specs.declared.forms.Form.{Form}
 use Rattle.solver_check.specs.Opens.{bytes_of}
-use Rattle.solver_check.specs.Checks.{Checks, IsCheckFault}
+use Rattle.solver_check.specs.Checks.{ChecksIn, IsCheckFault}
 use Rattle.solver_check.specs.Listings.{listing_of}
 use Rattle.solver_check.specs.declared.faults.RunFault.{RunFault}
 use Rattle.solver_check.specs.declared.faults.RunFault.TheVariants.{WriteFailed}
+use Rattle.solver_check.specs.declared.checks.costs.Checked.{Checked}
 use Rattle.solver_check.specs.declared.checks.faults.CheckFault.{CheckFault}
 use Rattle.solver_check.specs.declared.checks.faults.CheckFault.TheVariants.{Run}
 use Rattle.single_runs.specs.Audits.{Audits, FailsAudit}
@@ -24,7 +25,7 @@ use Rattle.shared_runs.specs.DrillFaults.{FailsDrill}
 use Rattle.shared_runs.specs.Drills.{Drills, inputs_of}
 use Rattle.mapf_desk.specs.Drilled.{IsUndrilled}
 use Rattle.mapf_desk.specs.Words.{courses_in, courses_of}
-use Rattle.mapf_desk.specs.Runs.{IsPageFor, IsUnaudited, IsUnchecked, IsUndrawn, IsUnpaged}
+use Rattle.mapf_desk.specs.Runs.{IsPageFor, IsUnaudited, IsUnchecked, IsUndrawn, IsUnpaged, style_asked}
 
 -- a fault stays, and comes else only to a run that was done
 unsent : {T E : Type 0} (Done : T → Type 0) (Fails Is : E → Type 0) (late : E) (ended result : Result T E) → IfOk ended Done → IfErr ended Fails → IfErr ended (λ fault. result ≡ Err fault) → OnOk ended (IfErr result (λ fault. fault ≡ late)) → ((done : T) → Done done → (fault : E) → fault ≡ late → Is fault) → ((fault : E) → Fails fault → Is fault) → IfErr result Is
@@ -39,9 +40,9 @@ unaudited words map scen journal held0 held1 ended result is fails same sent =
     (λ done audits fault why. record { held0 = held0; held1 = held1; why = inr (inr (why, record { held0 = held0; held1 = held1; audits = audits })) })
     (λ fault why. record { held0 = held0; held1 = held1; why = inr (inl why) })
 
-pub unchecked : (words : CheckWords) (form : Option Form) (map scen paths held0 held1 : Option (List ℕ)) (ended result : Result Bool CheckFault) → IfOk ended (Checks (unwrap_or map []) scen words.agents words.mode (unwrap_or paths []) form words.kinds (listing_of words.quiet words.only) held0 held1) → IfErr ended (IsCheckFault (unwrap_or map []) scen words.agents words.mode (unwrap_or paths []) form) → IfErr ended (λ fault. result ≡ Err fault) → OnOk ended (IfErr result (λ fault. fault ≡ Run WriteFailed)) → IfErr result (IsUnchecked words form map scen paths)
+pub unchecked : (words : CheckWords) (form : Option Form) (map scen paths held0 held1 : Option (List ℕ)) (ended result : Result Checked CheckFault) → IfOk ended (ChecksIn (unwrap_or map []) scen words.agents words.mode (unwrap_or paths []) form words.kinds (listing_of words.quiet words.only) (style_asked words) held0 held1) → IfErr ended (IsCheckFault (unwrap_or map []) scen words.agents words.mode (unwrap_or paths []) form) → IfErr ended (λ fault. result ≡ Err fault) → OnOk ended (IfErr result (λ fault. fault ≡ Run WriteFailed)) → IfErr result (IsUnchecked words form map scen paths)
 unchecked words form map scen paths held0 held1 ended result is fails same sent =
-    unsent (Checks (unwrap_or map []) scen words.agents words.mode (unwrap_or paths []) form words.kinds (listing_of words.quiet words.only) held0 held1)
+    unsent (ChecksIn (unwrap_or map []) scen words.agents words.mode (unwrap_or paths []) form words.kinds (listing_of words.quiet words.only) (style_asked words) held0 held1)
     (IsCheckFault (unwrap_or map []) scen words.agents words.mode (unwrap_or paths []) form)
     (IsUnchecked words form map scen paths) (Run WriteFailed) ended result is fails same sent
     (λ solved checks fault why. record { why = inr (why, solved, record { held0 = held0; held1 = held1; checks = checks }) })

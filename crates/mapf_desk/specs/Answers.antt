@@ -8,13 +8,14 @@ use Rattle.mapf_desk.specs.Ends.{unsaid}
 use Rattle.mapf_desk.specs.Files.{OfFiles}
 use Rattle.mapf_desk.specs.Logged.{HasServed}
 use Rattle.mapf_desk.specs.Hosted.{HasHosted}
-use Rattle.mapf_desk.specs.Runs.{HasAudited, HasChecked, HasDrawn, HasPaged}
+use Rattle.mapf_desk.specs.Rows.{HasCheckedPaths}
+use Rattle.mapf_desk.specs.Runs.{HasAudited, HasDrawn, HasPaged}
 use Rattle.mapf_desk.specs.Drilled.{HasDrilled, OfScripts}
 use Rattle.mapf_desk.specs.Statuses.{answered}
 use Rattle.mapf_desk.specs.declared.statuses.RunEnd.{RunEnd}
 use Rattle.mapf_desk.specs.declared.statuses.RunEnd.TheVariants.{Yes}
 
--- the run of the words was done over the texts of their files, each in its place. A check ends with its verdict, a drill with whether the reports are
+-- the run of the words was done over the texts of their files, each in its place. A check ends with its verdict, or the worst of several, a drill with whether the reports are
 -- the same, hosting with that or a session's fault, and what asks no question well
 abbrev pub Ends : Words → RunEnd → Type 0
 Ends Version end = end ≡ Yes
@@ -25,9 +26,7 @@ Ends (Audit words) end =
 Ends (Drill words) end =
     (same : Bool) × (end ≡ answered same) × OfScripts untold words (λ map scen scripts. HasDrilled words map scen scripts same)
 Ends (Host words) end = HasHosted untold unsaid words end
-Ends (Check words) end =
-    (solved : Bool) × (end ≡ answered solved)
-    × OfFiles untold (Some words.map.now) (option_copied words.scen) None (Some words.paths.now) (λ map scen paths. HasChecked words words.form map scen paths solved)
+Ends (Check words) end = HasCheckedPaths untold words words.more.items end
 Ends (Draw words) end =
     (end ≡ Yes) × OfFiles untold (Some words.map.now) (option_copied words.scen) (option_copied words.journal) (option_copied words.paths) (HasDrawn words)
 Ends (Page words) end =

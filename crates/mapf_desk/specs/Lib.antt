@@ -4,6 +4,7 @@ pub mod Names
 pub mod Files
 pub mod Words
 pub mod Runs
+pub mod Rows
 pub mod Ends
 pub mod Drilled
 pub mod Hosted

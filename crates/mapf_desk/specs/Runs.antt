@@ -3,15 +3,17 @@ use Rattle.std.specs.Prelude.{◌≡◌, ◌⊎◌, ℕ, List, [], Option, None,
 use Rattle.std.specs.Borrow.{Bor}
 use Rattle.std.specs.Option.{option_copied}
 use Rattle.solver_check.specs.Opens.{bytes_of}
-use Rattle.solver_check.specs.Checks.{Checks, IsCheckFault}
+use Rattle.solver_check.specs.Checks.{ChecksIn, IsCheckFault}
 use Rattle.solver_check.specs.Listings.{listing_of}
 use Rattle.solver_check.specs.declared.faults.Fault.{Fault}
 use Rattle.solver_check.specs.declared.faults.Fault.TheVariants.{AgentsWithoutScen}
 use Rattle.solver_check.specs.declared.faults.Fault.TheVariants as desk
 use Rattle.solver_check.specs.declared.faults.RunFault.{RunFault}
 use Rattle.solver_check.specs.declared.faults.RunFault.TheVariants.{OutOfMemory, WriteFailed}
+use Rattle.solver_check.specs.declared.checks.costs.Checked.{Checked}
 use Rattle.solver_check.specs.declared.checks.faults.CheckFault.{CheckFault}
 use Rattle.solver_check.specs.declared.checks.faults.CheckFault.TheVariants as check
+use Rattle.solver_check.specs.declared.checks.styles.Style.{Style}
 use Rattle.path_files.specs.declared.forms.Form.{Form}
 use Rattle.single_runs.specs.Audits.{Audits, FailsAudit}
 use Rattle.single_runs.specs.Draws.{Draws, FailsDraw}
@@ -39,16 +41,26 @@ pub record IsUnaudited (words : AuditWords) (map scen journal : Option (List ℕ
   pub held1 : Option (List ℕ)
   pub why : (fault ≡ OutOfMemory) ⊎ FailsAudit (unwrap_or map []) scen words.agents words.mode journal held0 held1 fault ⊎ ((fault ≡ WriteFailed) × HasAudited words map scen journal)
 
--- the paths of the texts were checked, with that answer
-pub record HasChecked (words : CheckWords) (form : Option Form) (map scen paths : Option (List ℕ)) (solved : Bool) : Type 0 where
+-- how the words have a verdict written
+abbrev pub style_asked : CheckWords → Style
+style_asked words = record { is_json = words.is_json; own_cells = words.own_cells }
+
+-- the paths of the texts were checked, and that is what it came to
+pub record HasChecked (words : CheckWords) (form : Option Form) (map scen paths : Option (List ℕ)) (checked : Checked) : Type 0 where
   pub held0 : Option (List ℕ)
   pub held1 : Option (List ℕ)
-  pub checks : Checks (unwrap_or map []) scen words.agents words.mode (unwrap_or paths []) form words.kinds (listing_of words.quiet words.only) held0 held1 solved
+  pub checks : ChecksIn (unwrap_or map []) scen words.agents words.mode (unwrap_or paths []) form words.kinds (listing_of words.quiet words.only) (style_asked words) held0 held1 checked
+
+-- with that answer
+pub record HasSolved (words : CheckWords) (form : Option Form) (map scen paths : Option (List ℕ)) (solved : Bool) : Type 0 where
+  pub checked : Checked
+  pub comes_to : HasChecked words form map scen paths checked
+  pub is : solved ≡ checked.solved
 
 -- the texts, memory or the writer failed the check; or it came to its end, and could not be sent
 pub record IsUnchecked (words : CheckWords) (form : Option Form) (map scen paths : Option (List ℕ)) (fault : CheckFault) : Type 0 where
   pub why : IsCheckFault (unwrap_or map []) scen words.agents words.mode (unwrap_or paths []) form fault
-      ⊎ ((fault ≡ check.Run WriteFailed) × (solved : Bool) × HasChecked words form map scen paths solved)
+      ⊎ ((fault ≡ check.Run WriteFailed) × (checked : Checked) × HasChecked words form map scen paths checked)
 
 -- the scene of the texts was drawn
 pub record HasDrawn (words : DrawWords) (map scen journal : Option (List ℕ)) : Type 0 where

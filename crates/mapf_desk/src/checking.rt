@@ -1,17 +1,22 @@
 //! The word `check`.
-ghost use Rattle.std.specs.Prelude.{◌≡◌, [], None, Some, Err, IfErr, IfOk, unwrap_or};
+ghost use Rattle.std.specs.Prelude.{◌≡◌, [], None, Some, Err, IfErr, IfOk, true, unwrap_or};
+ghost use Rattle.path_files.specs.Costs.{costs_of};
 ghost use Rattle.std.specs.Option.{option_copied};
-ghost use Rattle.solver_check.specs.Checks.{Checks, IsCheckFault};
+ghost use Rattle.solver_check.specs.Checks.{ChecksIn, IsCheckFault};
 ghost use Rattle.solver_check.specs.Listings.{listing_of};
 ghost use Rattle.solver_check.specs.Opens.{bytes_of};
+ghost use Rattle.solver_check.specs.Stated.{costs_apart, is_nothing_apart};
 ghost use Rattle.mapf_desk.specs.Files.{OfFiles};
-ghost use Rattle.mapf_desk.specs.Runs.{FailsOver, HasChecked, IsUnchecked, LacksTasks};
+ghost use Rattle.mapf_desk.specs.Runs.{FailsOver, HasChecked, HasSolved, IsUnchecked, LacksTasks, style_asked};
 
 use crate::faults::ProgramFault;
 use desk_cli::CheckWords;
 use desk_io::{Folder, More, Noting, Texts, bytes_in, finish, problem_of, read_from, tell_stage};
 use desk_report::{Sink, Spout};
-use solver_check::{CheckFault, Fault, InThreads, Listing, run_check};
+use path_files::costs_of;
+use solver_check::{
+    CheckFault, Checked, Fault, InThreads, Listing, Style, costs_apart, run_check_in,
+};
 use std::alloc::Global;
 use std::io;
 use std::io::BufWriter;
@@ -33,7 +38,7 @@ pub fn check_files<R: AllocGlobal + Print + Eprint + Threads + Wait, F: Folder>(
 ) -> Result<bool, ProgramFault>
     ensures asked { LacksTasks words.now.agents words.now.scen → result ≡ Err (ProgramFault.Desk Fault.AgentsWithoutScen) }
     ensures checked { IfOk result (λ solved. OfFiles (F.holds folder.now) (Some words.now.map.now) (option_copied words.now.scen)
-        None (Some words.now.paths.now) (λ map scen paths. HasChecked words.now words.now.form map scen paths solved)) }
+        None (Some words.now.paths.now) (λ map scen paths. HasSolved words.now words.now.form map scen paths solved)) }
     ensures refused { IfErr result (FailsOver (LacksTasks words.now.agents words.now.scen) (F.holds folder.now) (Some words.now.map.now)
         (option_copied words.now.scen) None (Some words.now.paths.now) (IsUnchecked words.now words.now.form)) }
 {
@@ -52,10 +57,23 @@ pub fn check_files<R: AllocGlobal + Print + Eprint + Threads + Wait, F: Folder>(
         ..named.texts()
     };
     let checked = check_texts(rt, texts, words, more);
+    if let Ok(checked) = &checked {
+        note_costs(rt.alloc(), bytes_in(texts.journal), *checked, more);
+    }
     drop(named);
     match checked {
-        Ok(solved) => Ok(solved),
+        Ok(checked) => Ok(checked.solved),
         Err(fault) => Err(ProgramFault::Check(fault)),
+    }
+}
+
+// Notes the costs that the text of paths states otherwise than the report has them.
+fn note_costs(alloc: Global, paths: &[u8], checked: Checked, more: &mut More)
+    ensures { is_nothing_apart (costs_apart (costs_of paths.now) checked.totals) ≡ true → more.new ≡ more.old }
+{
+    let apart = costs_apart(costs_of(paths), checked.totals);
+    if !apart.is_none() {
+        more.note(format!(in alloc; "{apart}").ok());
     }
 }
 
@@ -65,7 +83,7 @@ fn check_texts<R: AllocGlobal + Print + Threads + Wait>(
     texts: Texts<'_>,
     words: &CheckWords,
     more: &mut More,
-) -> Result<bool, CheckFault>
+) -> Result<Checked, CheckFault>
     ensures checked { IfOk result (HasChecked words.now texts.entry.form (bytes_of texts.entry.map) (bytes_of texts.entry.scen)
         (bytes_of texts.entry.journal)) }
     ensures refused { IfErr result (IsUnchecked words.now texts.entry.form (bytes_of texts.entry.map) (bytes_of texts.entry.scen)
@@ -80,6 +98,16 @@ fn check_texts<R: AllocGlobal + Print + Threads + Wait>(
     finish(alloc, ended, texts, writer, more)
 }
 
+/// How the words have a verdict written.
+pub(crate) fn style_asked(words: &CheckWords) -> Style
+    ensures { result ≡ style_asked words.now }
+{
+    Style {
+        is_json: words.is_json,
+        own_cells: words.own_cells,
+    }
+}
+
 // Writes and answers whether the paths of the texts solve the problem of the texts and the words.
 fn check_onto<T: Threads + Wait, W: Sink>(
     rt: &T,
@@ -87,14 +115,14 @@ fn check_onto<T: Threads + Wait, W: Sink>(
     texts: Texts<'_>,
     words: &CheckWords,
     writer: &mut W,
-) -> Result<bool, CheckFault>
-    ensures checked { IfOk result (Checks (unwrap_or (bytes_of texts.entry.map) []) (bytes_of texts.entry.scen) words.now.agents words.now.mode
+) -> Result<Checked, CheckFault>
+    ensures checked { IfOk result (ChecksIn (unwrap_or (bytes_of texts.entry.map) []) (bytes_of texts.entry.scen) words.now.agents words.now.mode
         (unwrap_or (bytes_of texts.entry.journal) []) texts.entry.form words.now.kinds (listing_of words.now.quiet words.now.only)
-        (W.held writer.old) (W.held writer.new)) }
+        (style_asked words.now) (W.held writer.old) (W.held writer.new)) }
     ensures refused { IfErr result (IsCheckFault (unwrap_or (bytes_of texts.entry.map) []) (bytes_of texts.entry.scen) words.now.agents words.now.mode
         (unwrap_or (bytes_of texts.entry.journal) []) texts.entry.form) }
 {
-    run_check(
+    run_check_in(
         &InThreads::new(rt, words.workers.clamp(1, 64)),
         alloc,
         problem_of(texts, words.agents, words.mode),
@@ -102,6 +130,7 @@ fn check_onto<T: Threads + Wait, W: Sink>(
         texts.form,
         words.kinds,
         Listing::of(words.quiet, words.only),
+        style_asked(words),
         writer,
     )
 }

@@ -1,11 +1,9 @@
 //! The program: a desk that serves a planner's session over files and standard streams, audits, drills
 //! planners that share it, checks paths that a solver wrote, draws pictures, makes pages that play plans.
 //!
-//! Each word but `version` has a file: `serving`, `auditing`, `drilling`, `hosting`, `checking`,
-//! `drawing`, `paging`. `reading` reads and holds a session's files, `saving` saves in the one that is
-//! held; `logging` keeps commits in one of the `logs`, by `log_opening`, `log_resuming`, `log_sitting`;
-//! `closing` ends a session, `opening` opens the desk that planners share, `seating` hosts them;
-//! `hosted`, `statuses` and `faults` have what a run and the program end with.
+//! Each word but `version` has a file: `serving`, `auditing`, `drilling`, `hosting`, `checking` (of several files `checking_each`,
+//! `checking_row`, `check_rows`), `drawing`, `paging`. `reading`, `saving` read and save files; `logging` keeps commits
+//! in `logs`, by `log_opening`, `log_resuming`, `log_sitting`; `closing`, `opening`, `seating`, `hosted`, `statuses`, `faults`: a run's two ends.
 #![tactic(auto)]
 
 ghost use Rattle.std.specs.Prelude.{◌≡◌, ◌≢◌, ◌⊎◌, IfErr, IfOk};
@@ -15,7 +13,10 @@ ghost use Rattle.mapf_desk.specs.Questions.{IsQuestion};
 ghost use Rattle.mapf_desk.specs.Statuses.{run_status};
 
 mod auditing;
+mod check_rows;
 mod checking;
+mod checking_each;
+mod checking_row;
 mod closing;
 mod drawing;
 mod drilling;
@@ -36,7 +37,7 @@ mod serving;
 mod statuses;
 
 use auditing::audit_files;
-use checking::check_files;
+use checking_each::check_paths;
 use desk_cli::{Asked, VERSION, Words, read_words};
 use desk_io::{FAULT, More, Steady, System, fill_standard, tell, tell_more, tell_served};
 use drawing::draw_files;
@@ -102,10 +103,7 @@ fn obey<
             Err(fault) => Err(ProgramFault::Desk(fault)),
         },
         Words::Host(host) => host_files(rt, runtime, host, stages || verbose, more),
-        Words::Check(check) => match check_files(rt, files, check, stages, more) {
-            Ok(solved) => Ok(answered(solved)),
-            Err(fault) => Err(fault),
-        },
+        Words::Check(check) => check_paths(rt, &System(runtime), check, stages, more),
         Words::Draw(draw) => match draw_files(rt, files, draw, stages, more) {
             Ok(()) => Ok(RunEnd::Yes),
             Err(fault) => Err(fault),
