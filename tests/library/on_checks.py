@@ -78,7 +78,7 @@ def random_case(seed, ground, changed):
 
 def cases(ground, changed):
     field, *rows = examples()
-    yield from (of_row(field, it) for it in rows)
+    yield from (it for it in (of_row(field, row) for row in rows) if it.form in FORMS)
     yield from (random_case(seed, ground, changed) for seed in range(RANDOM))
     most = "".join(f"path {agent} {agent % 5},{agent // 5 % 4}\n" for agent in range(300))
     yield Case(ground.encode(), None, None, most.encode())  # more than 65,536 bytes are printed

@@ -4,6 +4,7 @@ What many files are checked for, and in what time and room, is in fleets.py.
 """
 from .faulty_checks import FAULTS, OTHER_FAULTS, WRONG
 from .running import TOP, is_fault, is_run, put, remove, run, want
+from .telling import expected
 from .texts import ARRIVED, EMPTY, LEFT, RESTING, STAYED
 
 DEMO = f"{TOP}/demo/corridor"
@@ -61,6 +62,9 @@ WORKED = [
     ("ring_that_counts_among_others", "--map field --solves vertex cycle vertex edge", RING, TURNED, "no"),
     ("ring_counted", "--map field --quiet", RING, quiet(4, 4, 5, (0, 0, 4, 0, 1), 0, (4, 1, 4, 0)), "yes"),
     ("counted_whatever_is_listed", "--map field --quiet --only", RING, quiet(4, 4, 5, (0, 0, 4, 0, 1), 0, (4, 1, 4, 0)), "yes"),
+    ("cells_as_the_file_has_them", "--map field --own-cells", TOGETHER, CROSSED.replace("1,0", "0,1"), "no"),
+    ("cells_by_time_as_ever", "--map field --own-cells", SWAP, SWAPPED, "no"),
+    ("cells_of_a_session_as_ever", "--map field --own-cells --only", RING, unlisted(TURNED), "yes"),
     ("parked_by_session", "--map m", COMES, STAYED, "no"),
     ("parked_listed_as_vertex", "--map m --only", COMES, STAYED.replace("conflicts 2", "conflicts 1").replace("follow 0 1 0 1,0\n", ""), "no"),
     ("parked_that_does_not_count", "--map m --mode stay --solves swap", COMES, STAYED, "yes"),
@@ -125,13 +129,13 @@ def are_wrong():
 
 
 def are_faults():
-    """Each fault of a text of paths is told in one line, and with --verbose its line, or how many there are, in a second one; nothing is printed."""
+    """Each fault of a text of paths is told in one line, and with --verbose in a second one its line and what was expected; nothing is printed."""
     for words, paths, text, told in FAULTS:
         put("faulty", paths)
         all_words = ["check", *words.split(), "--paths", "faulty"]
         is_fault(all_words, f"paths: {text}")
         line = f"line {text.split()[-1]}: " if " in line " in text else ""
-        is_fault([*all_words, "-v"], f"paths: {text}" if told is None else f"paths: {text}\n  {line}{told}")
+        is_fault([*all_words, "-v"], f"paths: {text}" if told is None else f"paths: {text}\n  {line}{told}{expected(text)}")
     remove("faulty")
 
 

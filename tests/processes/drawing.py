@@ -7,6 +7,7 @@ from .fleets import Fleet, verdict
 from .plain import ASKED
 from .pictures import SVG, are_marked, drawn, group, reported, routes, title
 from .running import TOP, Wrong, bytes_of, is_answered, is_fault, processor_time, put, remove, run, second, want
+from .telling import expected
 
 DEMO = f"{TOP}/demo"
 MOST_SECONDS = 4  # of four processors together
@@ -17,18 +18,25 @@ MORE = [
     ("--map map_letter", "map: bad letter in row 0, column 1", "line 5: .x."),
     ("--map m --journal journal_line", "journal: bad line 3", "line 3: entry 00 0 0 1"),
     ("--map m --journal j", "journal: entry 1 refused", "faulty 0 unknown-agent: entry 0 0 0 1;path 0 0,0 1,0 2,0;"),
-    ("--map m --paths bad_path", "paths: bad path in line 1", "line 1: path 0 x"),
+    ("--map m --paths bad_path", "paths: bad path in line 1", "line 1: path 0 x (expected path AGENT X,Y X,Y ..)"),
     ("--map none", "can't read none", "No such file or directory (os error 2)"),
+    ("--map m --scen s --paths jumps", "paths: agent 0 at time 3: out-of-map", "3,0"),
+    ("--map m --paths jumps", "paths: moves need --scen", None),
 ]
 
 
-def faults():
-    put("bad_path", b"path 0 x\n")
+def are_faults(word):
+    """The faults of a picture, or a page, in their order, and nothing on standard output."""
+    put("bad_path", b"path 0 x\n"), put("jumps", b"rrr\n")
     for words, text in DRAWING_FAULTS:
-        is_fault(["draw", *words.split()], text)
+        is_fault([word, *words.split()], text)
     for words, text, more in MORE:
-        is_fault(["draw", *words.split(), "-v"], f"{text}\n  {more}")
-    remove("bad_path")
+        is_fault([word, *words.split(), "-v"], text if more is None else f"{text}\n  {more}")
+    remove("bad_path", "jumps")
+
+
+def faults():
+    are_faults("draw")
 
 
 def wrong_paths():
@@ -38,7 +46,8 @@ def wrong_paths():
         put("faulty", paths)
         for word in ("draw", "page"):
             is_fault([word, *words.split(), "--paths", "faulty"], f"paths: {text}")
-            is_fault([word, *words.split(), "--paths", "faulty", "-v"], f"paths: {text}" if cells is None else f"paths: {text}\n  {cells}")
+            more = "" if cells is None else f"\n  {cells}{expected(text)}"
+            is_fault([word, *words.split(), "--paths", "faulty", "-v"], f"paths: {text}{more}")
     remove("field", "tasks", "faulty")
 
 

@@ -119,7 +119,7 @@ def hostile_texts():
     """Files of each form that are cut off anywhere, or of which bytes are changed; devices and other files."""
     chance = random.Random(8)
     whole = [b"starts=(0,0),(2,0),\nsolution=\n0:(0,0),(2,0),\n1:(1,0),(2,0),\n", b"Agent 0: (0,0)->(0,1)->\nAgent 1:(0,2)->\n",
-             b"# two\npath 0 0,0 1,0\npath 1 2,0\n"]
+             b"# two\npath 0 0,0 1,0\npath 1 2,0\n", b"rrw\nU,l\n", b'id,solution_plan\n1,"r,u"\n']
     for text in whole:
         for end in range(len(text)):
             is_lawful(text[:end], chance.choice([[], ["--scen", "s"], ["--quiet"], ["--form", "agent"]]))

@@ -3,11 +3,10 @@ import html
 import random
 
 from .chances import wandering
-from .drawing import MORE
-from .faulty_checks import DRAWING_FAULTS
+from .drawing import are_faults
 from .fleets import Fleet
 from .plain import ASKED, Scene, line_of, shown
-from .running import TOP, Wrong, bytes_of, is_fault, processor_time, put, remove, run, second, want
+from .running import TOP, Wrong, bytes_of, processor_time, put, remove, run, second, want
 
 DEMO = f"{TOP}/demo"
 MOST_SECONDS = 4  # of four processors together
@@ -83,13 +82,7 @@ def forms_of_paths():
 
 
 def faults():
-    """The faults of `draw`, in its order, and nothing on standard output."""
-    put("bad_path", b"path 0 x\n")
-    for words, text in DRAWING_FAULTS:
-        is_fault(["page", *words.split()], text)
-    for words, text, more in MORE:
-        is_fault(["page", *words.split(), "-v"], f"{text}\n  {more}")
-    remove("bad_path")
+    are_faults("page")
     with open("/dev/full", "w") as full:
         status, _, complained = run(["page", "--map", "m"], stdout=full)
     want("what page says where nothing is taken", (status, complained), (2, "mapf_desk: write failed\n"))

@@ -14,6 +14,7 @@ from .plain_paths import read_paths
 from .plain_texts import read_journal, read_scen
 from .plain_words import Fault, lines_of, words_of
 from .running import PATIENCE, TOP, Program, Wrong, put, remove, want
+from .solvers import MOVES, WRITTEN
 
 LACAM_LISTS = "time starts 0,0 2,1 goals 2,0 0,1 agents 2 path 0,0 1,0 2,0 2,0 path 2,1 2,1 1,1 0,1"
 # What each text of LENIENT tells before its path.
@@ -69,6 +70,10 @@ def files_of_paths_as_lists():
     are_read([(asked, text, right) for form, text, right in rows for asked in ("any", form)])
 
 
+def files_of_paths_as_people_write_them():
+    are_read(MOVES + WRITTEN)
+
+
 def lists_of_edited_files_of_paths():
     chance = random.Random(29)
     edits = Edits(chance, edited_paths.LIKELY)
@@ -82,7 +87,7 @@ def lists_of_fronts_of_files_of_paths():
 
 def lists_of_texts_of_one_byte():
     kinds = compare_lists([(bytes([byte]), form) for byte in range(256) for form in edited_paths.FORMS])
-    want("what is read", [it for it in kinds if it.startswith("read")], [])
+    want("what is read", [it for it in kinds if it.startswith("read")], ["read by moves"] * len(b"udlrwUDLRW"))
 
 
 # By each form: a text of so many agents in one cell, and of an agent that stays there so many times.
@@ -90,11 +95,13 @@ AGENTS = {
     "time": lambda count: b"solution=\n0:" + b"(3,4)," * count,
     "agent": lambda count: b"".join(b"Agent %d: (4,3)->\n" % it for it in range(count)),
     "session": lambda count: b"".join(b"path %d 3,4\n" % it for it in range(count)),
+    "moves": lambda count: b"W\n" * count,
 }
 STAYING = {
     "time": lambda count: b"solution=\n" + b"".join(b"%d:(3,4)\n" % it for it in range(count)),
     "agent": lambda count: b"Agent 0:" + b"(4,3)->" * count,
     "session": lambda count: b"path 0" + b" 3,4" * count,
+    "moves": lambda count: b"w" * (count - 1),
 }
 
 
@@ -102,14 +109,15 @@ def lists_of_ten_thousand_agents():
     """There may be 8,192 agents, of whom each has one cell, and no more: the line of the next is refused."""
     are_read([("any", b"starts=" + b"(3,4)," * 10000, "too many agents in line 1")])
     for form, text in AGENTS.items():
-        fault = f"too many agents in line {2 if form == 'time' else 8193}"
-        are_read([("any", text(8192), form + " path 3,4" * 8192), ("any", text(8193), fault), ("any", text(10000), fault)])
+        fault, path = f"too many agents in line {2 if form == 'time' else 8193}", " path 0,0 0,0" if form == "moves" else " path 3,4"
+        are_read([("any", text(8192), form + path * 8192), ("any", text(8193), fault), ("any", text(10000), fault)])
 
 
 def lists_of_longest_paths():
     """One agent's path is read with more cells than it may have, which are 131,072."""
     for form, text in STAYING.items():
-        are_read([("any", text(count), f"{form} path" + " 3,4" * count) for count in (131072, 131073)])
+        cell = " 0,0" if form == "moves" else " 3,4"
+        are_read([("any", text(count), f"{form} path" + cell * count) for count in (131072, 131073)])
 
 
 def read_buckets(text):
@@ -160,15 +168,15 @@ def longest_journals_upgraded():
 
 
 def lists_of_words():
-    """Each list of words of tests/words.txt is read as it says, all 508 of them."""
+    """Each list of words of tests/words.txt is read as it says, all 593 of them."""
     with open(f"{TOP}/tests/words.txt") as file:
         rows = [line.split(" => ", 1) for line in file.read().split("\n") if " => " in line]
     are_read([("words", words.encode(), right) for words, right in rows])
-    want("how many lists there are", len(rows), 508)
+    want("how many lists there are", len(rows), 593)
 
 
 def tests():
-    for test in (files_of_paths_as_lists, lists_of_edited_files_of_paths, lists_of_fronts_of_files_of_paths, lists_of_texts_of_one_byte,
-                 lists_of_ten_thousand_agents, lists_of_longest_paths, buckets_of_edited_scenarios, journals_upgraded_as_they_are_read,
-                 longest_journals_upgraded, lists_of_words):
+    for test in (files_of_paths_as_lists, files_of_paths_as_people_write_them, lists_of_edited_files_of_paths, lists_of_fronts_of_files_of_paths,
+                 lists_of_texts_of_one_byte, lists_of_ten_thousand_agents, lists_of_longest_paths, buckets_of_edited_scenarios,
+                 journals_upgraded_as_they_are_read, longest_journals_upgraded, lists_of_words):
         yield test.__name__, test

@@ -1,4 +1,4 @@
-"""What --verbose adds on standard error, and what is told there on a terminal."""
+"""What --verbose adds on standard error, and what is told there on a terminal, and of stated costs."""
 import os
 import pty
 
@@ -31,8 +31,56 @@ REASONS = [
     ("check --map m --paths none", "No such file or directory (os error 2)"),
     ("check --map map_letter --paths p", "line 5: .x."),
     ("check --map m --scen scen_fields --paths p", "line 2: 0 m 3 1 0 0 2 0"),
-    ("check --map m --paths one", "line 1: agent 0 0,0 0,0"),
+    ("check --map m --paths one", "line 1: agent 0 0,0 0,0 (expected 0:(X,Y),.., Agent 0: (ROW,COLUMN)->.., path 0 X,Y .. or moves udlrw)"),
     ("audit --map m --journal j", "faulty 0 unknown-agent: entry 0 0 0 1;path 0 0,0 1,0 2,0;"),
+]
+
+# What should stand where a line of paths has a fault, by the first two words of that.
+EXPECTED = {
+    "no form": "0:(X,Y),.., Agent 0: (ROW,COLUMN)->.., path 0 X,Y .. or moves udlrw",
+    "bad header": "a number of agents",
+    "repeated list": "that once",
+    "bad time": "the next time T, as T:(X,Y),(X,Y),..",
+    "bad agent": "Agent N: (ROW,COLUMN)->.., each N once",
+    "bad path": "path AGENT X,Y X,Y ..",
+    "bad cell": "a cell, as (3,0)",
+    "bad move": "u, d, l, r or w",
+    "no cells": "a cell at least", "cell count": "as many cells as at time 0", "too many": "8192 agents at most",
+}
+# Words, the paths, and the second line.
+EXPECTATIONS = [
+    ("--map m", b"\n\nhello, you\xff\n\n", f"line 3: hello, you? (expected {EXPECTED['no form']})"),
+    ("--map m", b"agents=two\nsolution=\n0:(0,0)\n", "line 1: agents=two (expected a number of agents)"),
+    ("--map m", b"solution=\n1:(0,0)\n", "line 2: 1:(0,0) (expected the next time T, as T:(X,Y),(X,Y),..)"),
+    ("--map m", b"Agent 0 (1 --> 1): (0,0)->\n", "line 1: Agent 0 (1 --> 1): (0,0)-> (expected Agent N: (ROW,COLUMN)->.., each N once)"),
+    ("--map m", b"path 0 0,0\npath 1 0;0\n", "line 2: path 1 0;0 (expected path AGENT X,Y X,Y ..)"),
+    ("--map m", b"0:(0,0);(1,0)\n", "line 1: 0:(0,0);(1,0) (expected a cell, as (3,0))"),
+    ("--map m --scen s", b"rr\nrxr\n", "line 2: rxr (expected u, d, l, r or w)"),
+    ("--map m", b"path 0\n", "line 1: path 0 (expected a cell at least)"),
+    ("--map m", b"0:(0,0)\n1:(0,0),(1,0)\n", "line 2: 1:(0,0),(1,0) (expected as many cells as at time 0)"),
+    ("--map m", b"Agent 8192: (0,0)->\n", "line 1: Agent 8192: (0,0)-> (expected 8192 agents at most)"),
+    ("--map m", b"path 0 " + b"x" * 500, f"line 1: path 0 {'x' * 385} (expected path AGENT X,Y X,Y ..)"),
+]
+
+# Words of a check, the costs before the paths, and the notes: the paths are of one agent, of sum 2 and makespan 2.
+NOTES = [
+    ("", b"soc=5\n", "note: soc=5 but sum is 2\n"),
+    ("", b"makespan=3\n", "note: makespan=3 but makespan is 2\n"),
+    ("", b"soc=0\nsoc_lb=2\nmakespan=4294967295\nmakespan_lb=7\n", "note: soc=0 but sum is 2\nnote: makespan=4294967295 but makespan is 2\n"),
+    ("--json", b"agents=1\r\n\r\n soc= 3\r\n# a remark\nmakespan=2\n", "note: soc=3 but sum is 2\n"),
+    ("-v --quiet --solves edge", b"makespan=1\nsoc=1\n", "note: soc=1 but sum is 2\nnote: makespan=1 but makespan is 2\n"),
+    ("", b"soc=2\nmakespan=02\n", ""),
+    ("", b"soc=\nmakespan=none\nmsoc=9\nSOC=9\nsum_of_loss=9\n", ""),
+]
+PLANS = {"by_time": b"solution=\n0:(0,0)\n1:(1,0)\n2:(2,0)\n", "rows_alone": b"0:(0,0)\n1:(1,0)\n2:(2,0)\n", "by_agent": b"Agent 0: (0,0)->(0,1)->(0,2)\n"}
+# Words, whole files, and the notes: without a report there are none.
+NOTED = [
+    ("--map m --scen s", b"soc=1\nmakespan=1\nsolution=\n0:(0,0)\n1:(1,0)\n", "note: soc=1 but sum is none\nnote: makespan=1 but makespan is none\n"),
+    ("--map m --scen s --agents 1", b"soc=9\nagents=2\nsolution=\n0:(0,0)\n1:(1,0)\n2:(2,0)\n", "note: soc=9 but sum is 2\n"),
+    ("--map m", b"soc=9\nsolution=\n0:(0,0)\n1:(2,0)\n", ""),
+    ("--map m", b"soc=9\nsolved=0\nsolution=\n", ""),
+    ("--map m", b"soc=9\nagents=1\nagents=1\n", ""),
+    ("--map m", b"solution=\n0:(0,0)\nsoc=9\nmakespan=9\n", ""),
 ]
 
 # Words whose fault has nothing more to tell.
@@ -46,6 +94,34 @@ def is_reason(words, more):
     for flag in ("--verbose", "-v"):
         for all_words in ([*words[:1], flag, *words[1:]], [flag, *words]):
             want("what it does", run(all_words), (plain[0], plain[1], plain[2] + more))
+
+
+def expected(text):
+    """What --verbose says should stand where a text of paths has that fault; nothing where the fault names no line."""
+    return "" if " in line " not in text else f" (expected {EXPECTED[' '.join(text.split()[:2])]})"
+
+
+def expectations():
+    """The second line of --verbose, whole, once for each of its expectations."""
+    for words, paths, line in EXPECTATIONS:
+        put("faulty", paths)
+        told = run(["check", *words.split(), "--paths", "faulty", "-v"])[2].partition("\n")[2]
+        want(f"what is told of {paths[:100]!r}", told, f"  {line}\n")
+    remove("faulty")
+
+
+def notes():
+    """Costs in the head of a file that aren't those of the report are told on standard error; nothing else changes by them."""
+    for name, plan in PLANS.items():
+        put("plan", plan)
+        for words, head, right in NOTES:
+            put("stated", head + plan)
+            status, said, _ = run(["check", "--map", "m", *words.split(), "--paths", "plan"])
+            want(f"the check of {head!r} {name}", run(["check", "--map", "m", *words.split(), "--paths", "stated"]), (status, said, right))
+    for words, text, right in NOTED:
+        put("stated", text)
+        want(f"what is told of {text!r}", run(["check", *words.split(), "--paths", "stated"])[2], right)
+    remove("plan", "stated")
 
 
 def faults_without_more():
@@ -118,5 +194,6 @@ def stages():
 def tests():
     for words, more in REASONS:
         yield f"reason: {words}", lambda words=words, more=more: is_reason(words.split(), f"  {more}\n")
-    for test in (faults_without_more, scripts_counted, scripts_counted_behind_a_fault, counts_of_no_script, reasons_of_a_full_device, stages):
+    yield "verdict_notes", notes
+    for test in (expectations, faults_without_more, scripts_counted, scripts_counted_behind_a_fault, counts_of_no_script, reasons_of_a_full_device, stages):
         yield test.__name__, test
