@@ -58,8 +58,9 @@ def main():
         print(f"there is no program {Program.path}: ./desk --prove builds it\n0 passed, {len(tests)} failed")
         return 1
     signal.signal(signal.SIGALRM, stopped)
-    # A shell that starts this in the background has its programs ignore SIGINT, nohup has them ignore SIGHUP.
+    # A shell that starts this in the background has its programs ignore SIGINT and SIGQUIT, nohup has them ignore SIGHUP.
     signal.signal(signal.SIGINT, signal.default_int_handler)
+    signal.signal(signal.SIGQUIT, signal.SIG_DFL)
     signal.signal(signal.SIGHUP, signal.SIG_DFL)
     with tempfile.TemporaryDirectory() as folder:
         os.chdir(folder)
