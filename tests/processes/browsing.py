@@ -9,7 +9,7 @@ import time
 import urllib.error
 import urllib.request
 
-from .running import PATIENCE, Wrong, want
+from .running import PATIENCE, TRIES, Wrong, want
 
 NEEDED = ("chromium", "chromedriver")  # of Debian's packages chromium and chromium-driver
 KEYS = {"left": "\ue012", "right": "\ue014", "home": "\ue011", "end": "\ue010", "escape": "\ue00c", "space": " ", "shift": "\ue008", "down": "\ue015",
@@ -22,10 +22,28 @@ def missing():
     return [it for it in NEEDED if shutil.which(it) is None]
 
 
+def wanted(width, height):
+    """What the driver is asked for: a window of that size."""
+    words = ["--headless=new", "--no-sandbox", "--disable-gpu", "--disable-dev-shm-usage", "--hide-scrollbars", f"--window-size={width},{height}"]
+    options = {"args": words, "binary": shutil.which("chromium")}
+    return {"alwaysMatch": {"browserName": "chrome", "goog:chromeOptions": options, "goog:loggingPrefs": {"browser": "ALL"}}}
+
+
 class Browser:
     """One window of a browser, without a screen and without a graphics card."""
 
     def __init__(self, width=1400, height=900):
+        for number in range(1, TRIES + 1):
+            self.start_driver()
+            try:
+                self.at += "/" + self.ask("POST", "", {"capabilities": wanted(width, height)})["sessionId"]
+                return
+            except BaseException as why:
+                self.driver.kill()
+                if number == TRIES or not isinstance(why, (Wrong, OSError)):
+                    raise
+
+    def start_driver(self):
         self.driver = subprocess.Popen(["chromedriver", "--port=0"], stdout=subprocess.PIPE, stderr=subprocess.DEVNULL, text=True)
         said = ""
         while "successfully on port" not in said:
@@ -35,14 +53,6 @@ class Browser:
             said += line
         port = re.findall(r"on port (\d+)", said)[-1]
         self.at = f"http://127.0.0.1:{port}/session"
-        words = ["--headless=new", "--no-sandbox", "--disable-gpu", "--disable-dev-shm-usage", "--hide-scrollbars", f"--window-size={width},{height}"]
-        options = {"args": words, "binary": shutil.which("chromium")}
-        wanted = {"alwaysMatch": {"browserName": "chrome", "goog:chromeOptions": options, "goog:loggingPrefs": {"browser": "ALL"}}}
-        try:
-            self.at += "/" + self.ask("POST", "", {"capabilities": wanted})["sessionId"]
-        except BaseException:
-            self.driver.kill()
-            raise
 
     def __enter__(self):
         return self
