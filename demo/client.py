@@ -2,8 +2,8 @@
 """Drives a live desk from a program: client.py DESK MAP, as client.py ./desk demo/corridor.map
 
 It sends a line, reads its answer, and goes on by what it read. Each line is answered by one line, but for blank lines
-and remarks, which have no answer, and `report` and `try`, whose answers end with the line `end`, unless refused. The
-classes below need nothing else: copy them.
+and remarks, which have no answer, and `report`, `changes` and `try`, whose answers end with the line `end`, unless refused.
+The classes below need nothing else: copy them.
 """
 import re
 import subprocess
@@ -17,14 +17,14 @@ class Session:
         self.lines, self.answers = lines, answers
 
     def ask(self, line):
-        """The answer to a line; of `report`, `report AGENT..` and `try`, all its lines. None of a blank line or a remark."""
+        """The answer to a line; of `report`, `changes` and `try`, all its lines. None of a blank line or a remark."""
         self.lines.write(line + "\n")
         self.lines.flush()
         word = re.split("[ \t\r]+", line.strip(" \t\r"))[0]
         if not word or word.startswith("#"):
             return None
         answer = [self.hear()]
-        if word not in ("report", "try"):
+        if word not in ("report", "changes", "try"):
             return answer[0]
         while answer[-1] != "end" and answer[0].startswith(("version ", "would ")):
             answer.append(self.hear())

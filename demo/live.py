@@ -1,0 +1,173 @@
+#!/usr/bin/env python3
+"""Shows a host in browsers while it runs: live.py [--port N] [--solves KINDS] DESK host ..
+
+    live.py --solves 'vertex swap' ./desk host --map demo/corridor.map east west
+
+It starts `DESK host ..` with a planner more, whose seat it takes, and tells on standard error where it shows what the desk
+has: the page of `DESK page`, with live.js in its script. It commits nothing. Standard input, output and the status are
+those of the host; it ends with the host, once the other sessions are over, or by Ctrl-C, which ends the host too.
+"""
+import argparse
+import http.server
+import os
+import re
+import signal
+import subprocess
+import sys
+import tempfile
+import threading
+import time
+
+sys.dont_write_bytecode = True
+
+from client import Seat
+from watcher import EMPTY, Watcher, event_of
+
+HERE = os.path.dirname(os.path.abspath(__file__))
+PAGE_OPTIONS = ("--map", "--scen", "--agents", "--mode", "--journal")  # of the host's, those that `page` takes too
+LAST_CALL = "  begin();\n}());"  # of page/page.js
+REST = 0.15  # seconds between two looks, and two events to a browser
+
+
+class Browser(http.server.BaseHTTPRequestHandler):
+    """A browser's question, in a thread of its own, and what all of them are shown: the page, and the latest picture."""
+
+    timeout = 30  # seconds that a browser may leave unread what it is sent
+    page, picture = b"", EMPTY
+
+    def do_GET(self):
+        is_here = self.headers.get("Host", "").split(":")[0] in ("127.0.0.1", "localhost")
+        answer = {"/": self.send_page, "/changes": self.send_changes}.get(self.path)
+        try:
+            answer() if is_here and answer else self.send_error(204)
+        except OSError:
+            pass  # it has gone, or doesn't read
+
+    def send_head(self, kind):
+        self.send_response(200)
+        self.send_header("Content-Type", kind)
+        self.send_header("Cache-Control", "no-store")
+        self.end_headers()
+
+    def send_page(self):
+        self.send_head("text/html; charset=utf-8")
+        self.wfile.write(self.page)
+
+    def send_changes(self):
+        """The latest picture as often as the browser takes one; where there is none, a remark, which tells whether it's still there."""
+        self.send_head("text/event-stream")
+        shown = EMPTY
+        while shown.over is None:
+            picture = Browser.picture
+            self.wfile.write(b":\n\n" if picture is shown else event_of(shown, picture))
+            shown = picture
+            time.sleep(REST)
+
+    def log_message(self, *_):
+        pass
+
+
+def parted(words):
+    """The words of `host` that `page` takes too, and the planners' names."""
+    kept, names, words = [], [], iter(words)
+    for word in words:
+        if word == "--":
+            names += words
+        elif not word.startswith("-"):
+            names.append(word)
+        elif word not in ("-v", "--verbose"):
+            option = [word] if "=" in word else [word, next(words, "")]
+            kept += option if option[0].split("=")[0] in PAGE_OPTIONS else []
+    return kept, names
+
+
+def page_of(desk, words):
+    """The page that `page` makes, with live.js at the end of its script, and how many columns and rows its map has."""
+    ran = subprocess.run([desk, "page", *words], stdout=subprocess.PIPE, encoding="utf-8")
+    if ran.returncode:
+        sys.exit(ran.returncode)
+    rows, columns = re.search(r"id='scene'[^>]*>type octile\nheight (\d+)\nwidth (\d+)\n", ran.stdout).groups()
+    with open(f"{HERE}/live.js", encoding="ascii") as file:
+        script = file.read()
+    head, call, tail = ran.stdout.replace("\n  const horizon = ", "\n  let horizon = ", 1).rpartition(LAST_CALL)
+    return (head + script + call + tail).encode(), (int(columns), int(rows))
+
+
+def listen(host, names, are_over):
+    """Passes on what the host reports until it ends, and sees by it when the sessions of those names are over."""
+    shown = lambda name: "".join(chr(it) if 32 <= it < 127 else " " if it == 9 else "?" for it in os.fsencode(name))
+    running = [f"mapf_desk: {shown(it)}: " for it in names]
+    for line in host.stderr:
+        print(line, end="", file=sys.stderr, flush=True)
+        if not line.endswith((": has come\n", ": hasn't come yet\n")):
+            running = [it for it in running if not line.startswith(it)]
+        if not running:
+            are_over.set()
+
+
+def follow(name, size, are_over):
+    """Sits at the seat of that name, and takes pictures until the other sessions are over, or the host is."""
+    try:
+        seat = Seat(name)
+        watcher = Watcher(seat, size)
+        Browser.picture = watcher.look()
+        while not are_over.is_set():
+            if seat.ask(f"wait {watcher.version} 1") != f"version {watcher.version}":
+                Browser.picture = watcher.look()
+                time.sleep(REST)
+        Browser.picture = watcher.look()
+        seat.close()
+    except (EOFError, OSError):
+        pass
+
+
+def hosted(desk, words, names, size):
+    """Runs the host until it ends, and takes pictures of what its desk has; gives its status."""
+    are_over, why = threading.Event(), "live.py has ended"
+    with tempfile.TemporaryDirectory() as folder:
+        name = f"{folder}/live"
+        os.mkfifo(f"{name}.in"), os.mkfifo(f"{name}.out")
+        following = threading.Thread(target=follow, args=(name, size, are_over), daemon=True)
+        host = subprocess.Popen([desk, "-v", *words, name], stderr=subprocess.PIPE, text=True, errors="replace")
+        try:
+            following.start()
+            listen(host, ["operator", *names], are_over)
+            status = host.wait()
+            why = f"the host has ended with status {status}" if status >= 0 else f"the host was killed by signal {-status}"
+            return status if status >= 0 else 128 - status
+        finally:
+            host.terminate()
+            host.wait()
+            following.join(1)
+            Browser.picture = Browser.picture._replace(over=why)
+            time.sleep(3 * REST)
+
+
+def main():
+    parser = argparse.ArgumentParser(usage="live.py [--port N] [--solves KINDS] DESK host ..")
+    parser.add_argument("--port", type=int, default=0)
+    parser.add_argument("--solves", default="vertex swap")
+    parser.add_argument("desk")
+    parser.add_argument("words", nargs=argparse.REMAINDER)
+    told = parser.parse_args()
+    if told.words[:1] != ["host"] or re.search("--lines[ =]1( |$)", " ".join(told.words)):
+        parser.error("it runs `host`, with lines of version 2")
+    words, names = parted(told.words[1:])
+    signal.signal(signal.SIGTERM, lambda *_: sys.exit(143))
+    try:
+        Browser.page, size = page_of(told.desk, [*words, "--solves", *told.solves.split()])
+        with http.server.ThreadingHTTPServer(("127.0.0.1", told.port), Browser) as server:
+            threading.Thread(target=server.serve_forever, daemon=True).start()
+            print(f"live.py: http://127.0.0.1:{server.server_port}/", file=sys.stderr, flush=True)
+            try:
+                return hosted(told.desk, told.words, names, size)
+            finally:
+                server.shutdown()
+    except KeyboardInterrupt:
+        return 130
+    except (OSError, OverflowError) as why:
+        sys.exit(f"live.py: {why}")
+
+
+if __name__ == "__main__":
+    sys.exit(main())
