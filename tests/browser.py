@@ -1,5 +1,5 @@
 #!/usr/bin/env python3
-"""Drives the pages of `mapf_desk page` in a browser, as a person would: clicks, keys, the wheel, fields.
+"""Drives the pages of `mapf_desk page` and of demo/live.py in a browser, as a person would: clicks, keys, the wheel, fields.
 
 browser.py [PROGRAM [TEST..]]     the program that `rt ci` or `./desk --prove` built where none is named; those tests alone
 It takes Debian's packages chromium and chromium-driver; where they aren't there it says so and leaves the tests out, or with
@@ -12,7 +12,7 @@ import tempfile
 
 sys.dont_write_bytecode = True
 
-from processes import browsing, viewing
+from processes import browsing, living, viewing
 from processes.running import PATIENCE, TOP, Program
 from program import passes, stopped, tell
 
@@ -20,7 +20,7 @@ from program import passes, stopped, tell
 def main():
     Program.path = os.path.abspath(sys.argv[1] if len(sys.argv) > 1 else Program.path)
     wanted = sys.argv[2:]
-    tests = [it for it in viewing.views() if not wanted or it[0] in wanted]
+    tests = [it for it in (*viewing.views(), *living.views()) if not wanted or it[0] in wanted]
     lacking = browsing.missing()
     if lacking:
         failed = len(tests) if os.environ.get("NO_BROWSER") == "failed" else 0

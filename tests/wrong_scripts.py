@@ -1,20 +1,23 @@
 #!/usr/bin/env python3
-"""Has wrong scripts show pages, each with the test of tests/browser.py that is to refuse it.
+"""Has wrong scripts show pages and hosts, each with the test of tests/browser.py that is to refuse it.
 
 wrong_scripts.py [PROGRAM [NAME..]]     the program that `rt ci` or `./desk --prove` built where none is named; those scripts alone
-Each is page/page.js with a text exchanged that stands there once. The last line is 'N passed, M failed'; status 1 where one failed.
+Each is page/page.js, or a file of demo/live.py, with a text exchanged that stands there once. The last line is 'N passed, M failed'; status 1 where one failed.
 """
 import os
+import shutil
 import subprocess
 import sys
 import tempfile
 
 sys.dont_write_bytecode = True
 
-from processes import browsing, viewing
+from processes import browsing, living, viewing
 from processes.running import TOP, Program
 
 PATIENCE = "10"  # seconds that something on a page may take
+PAGE = "page/page.js"
+LONGER = "60"  # where a second is measured too
 
 # A name, the text that stands in the script, what stands in its place, and the test that refuses it.
 SCRIPTS = [
@@ -52,38 +55,62 @@ SCRIPTS = [
      "from ' + agent.goal.join(',')", 'page_picks_agents'),
 ]
 
+# The same of the files by which demo/live.py shows a host, each row with its file.
+LIVE_SCRIPTS = [
+    ('demo/live.js', 'what_went_stays', 'pieces[name] = pieces[name].filter((piece, at) => !went.has(at));',
+     '', 'live_follows_commits'),
+    ('demo/live.js', 'counts_of_before', 'tellCosts, tellCounts, tellChosen',
+     'tellCosts, tellChosen', 'live_follows_commits'),
+    ('demo/live.js', 'back_to_the_start', 'showTime(state.now);',
+     'goTo(0);', 'live_keeps_the_view'),
+    ('demo/live.js', 'an_agent_as_it_was', 'scene.byNumber.get(picked.number) || null',
+     'picked', 'live_keeps_the_view'),
+    ('demo/live.js', 'no_end', 'if (news.over !== null) { tellEnd(news.over); }',
+     '', 'live_tells_the_end'),
+    ('demo/watcher.py', 'map_of_the_start', 'if edited != self.edited:',
+     'if self.edited is None:', 'live_follows_commits'),
+    ('demo/live.py', 'one_browser_alone', 'http.server.ThreadingHTTPServer',
+     'http.server.HTTPServer', 'live_two_browsers'),
+    ('demo/live.py', 'who_has_gone_stays', 'self.wfile.write(b":\\n\\n" if picture is shown else event_of(shown, picture))',
+     'picture is shown or self.wfile.write(event_of(shown, picture))', 'live_two_browsers'),
+    ('demo/live.py', 'host_left_behind', 'host.terminate()',
+     'pass', 'live_tells_the_end'),
+]
 
-def said(program, test, file):
-    """The last line of that test of tests/browser.py, with the script of the file."""
+
+def said(program, test, env):
+    """The last line of that test of tests/browser.py, with that in the environment."""
     words = [sys.executable, f"{TOP}/tests/browser.py", program, test]
-    env = {**os.environ, viewing.SCRIPT: file, "PATIENCE": PATIENCE}
-    lines = subprocess.run(words, capture_output=True, text=True, env=env).stdout.splitlines()
+    lines = subprocess.run(words, capture_output=True, text=True, env={**os.environ, **env}).stdout.splitlines()
     return lines[-1] if lines else ""
 
 
-def fault(program, script, row, file):
-    """Why the wrong script isn't refused as it is to be; none where it is."""
+def fault(program, room, file, row):
+    """Why the wrong script, in that place of the room, isn't refused as it is to be; none where it is."""
     _, old, new, test = row
+    with open(f"{TOP}/{file}", encoding="ascii") as right:
+        script = right.read()
     if script.count(old) != 1:
-        return f"page/page.js has {script.count(old)} times {old!r}"
-    with open(file, "w", encoding="ascii") as out:
+        return f"{file} has {script.count(old)} times {old!r}"
+    for folder in ("demo", "page"):
+        shutil.copytree(f"{TOP}/{folder}", f"{room}/{folder}", dirs_exist_ok=True)
+    with open(f"{room}/{file}", "w", encoding="ascii") as out:
         out.write(script.replace(old, new))
-    last = said(program, test, file)
+    is_page = file == PAGE
+    last = said(program, test, {viewing.SCRIPT: f"{room}/{file}", "PATIENCE": PATIENCE} if is_page else {living.DEMO: room, "PATIENCE": LONGER})
     return None if last == "0 passed, 1 failed" else f"{test} says {last}"
 
 
 def main():
     program = os.path.abspath(sys.argv[1] if len(sys.argv) > 1 else Program.path)
-    rows = [it for it in SCRIPTS if not sys.argv[2:] or it[0] in sys.argv[2:]]
+    rows = [it for it in [*((PAGE, it) for it in SCRIPTS), *((it[0], it[1:]) for it in LIVE_SCRIPTS)] if not sys.argv[2:] or it[1][0] in sys.argv[2:]]
     if browsing.missing():
         print(f"left out: {len(rows)} wrong scripts of pages, since there is no browser here\n0 passed, 0 failed")
         return 0
-    with open(f"{TOP}/page/page.js", encoding="ascii") as file:
-        script = file.read()
     failed = 0
-    with tempfile.NamedTemporaryFile(suffix=".js") as room:
-        for row in rows:
-            why = fault(program, script, row, room.name)
+    with tempfile.TemporaryDirectory() as room:
+        for file, row in rows:
+            why = fault(program, room, file, row)
             failed += why is not None
             print(f"{row[0]}: {why or 'refused by ' + row[3]}", flush=True)
     print(f"{len(rows) - failed} passed, {failed} failed")

@@ -76,7 +76,10 @@ class Browser:
             raise Wrong(f"the browser refuses {path}: {json.load(why)['value'].get('message', '')[:300]}") from None
 
     def open(self, file):
-        self.ask("POST", "/url", {"url": f"file://{os.path.abspath(file)}"})
+        self.go(f"file://{os.path.abspath(file)}")
+
+    def go(self, url):
+        self.ask("POST", "/url", {"url": url})
         want("what the page complains of", self.complaints(), [])
 
     def complaints(self):

@@ -1,0 +1,341 @@
+"""`demo/live.py`: while planners commit, pages in browsers show what they committed, as a plain scene (plain.py) has it."""
+import importlib.util
+import os
+import random
+import signal
+import socket
+import subprocess
+import sys
+import threading
+import time
+
+from .browsing import Browser
+from .chances import some_edit, walk
+from .hosting import Seat
+from .pages import text_of
+from .plain import Scene, line_of
+from .plain_questions import answer, changes
+from .running import PATIENCE, STARTED, TOP, Program, Wrong, put, remove, second, want
+from .viewing import HEADS, is_drawn, view
+
+DEMO = "LIVE_DEMO"  # in the environment the folder whose demo/ is run in place of the repository's
+LIVE = f"{os.environ.get(DEMO, TOP)}/demo/live.py"
+NAMES = ["north", "east", "south", "west"]
+COMMITS, BURST = 40, 150
+SHOWN = (*HEADS, "unfinished")
+TOTALS = ("sum", "makespan", "bounds", "gap")
+SEEN = """
+const text = (id) => document.getElementById(id).textContent;
+const [kinds, totals] = arguments;
+return ['live', 'scene', 'report', 'verdict', 'about', 'listed', ...kinds.map((it) => 'count-' + it), ...totals.map((it) => 'total-' + it)].map(text);"""
+
+
+def right(scene, version):
+    """What a page is to show of the scene, by the plain program: both texts, the verdict, how many there are of each, the totals."""
+    report = scene.report()
+    lines = report.splitlines()
+    counts = {it: sum(line.split()[0] == it for line in lines) for it in HEADS}
+    counts["unfinished"] = sum(" goal no " in it for it in lines)
+    wrong = [it for it in ("vertex", "parked", "swap", "visit", "unfinished") if counts[it]]
+    verdict = "\u2717 does not solve (vertex, swap)" if wrong else "\u2713 solves (vertex, swap)"
+    about = f"{len(scene.agents)} agents, {scene.size[0]} x {scene.size[1]} cells, mode stay"
+    listed = f"{sum(counts[it] for it in wrong)} of {sum(counts.values())}"
+    totals = [it.split()[1] for it in lines[-5:-1]]
+    return [f"\u25cf live, version {version}", text_of(scene), report, verdict, about, listed, *(str(counts[it]) for it in SHOWN), *totals]
+
+
+def a_while():
+    """A second; on a machine that does more than it can at once so much longer."""
+    return second() * max(1, os.getloadavg()[0] / os.cpu_count())
+
+
+class Live:
+    """A host that live.py runs and shows, for four planners."""
+
+    def __init__(self, scene, *words, names=NAMES):
+        put("live_map", scene.text().encode())
+        self.names, self.scene, self.version = names, scene, 0
+        self.leave()
+        for name in names:
+            os.mkfifo(f"{name}.in"), os.mkfifo(f"{name}.out")
+        words = [sys.executable, "-B", LIVE, *words, Program.path, "host", "--map", "live_map", *names]
+        self.process = subprocess.Popen(words, stdin=subprocess.DEVNULL, stdout=subprocess.PIPE, stderr=subprocess.PIPE, text=True)
+        STARTED.add(self.process)
+        told = self.process.stderr.readline()
+        if not told.startswith("live.py: http://127.0.0.1:"):
+            raise Wrong(f"live.py tells {told!r}")
+        self.url = told.split()[1]
+
+    def __enter__(self):
+        self.seats = [Seat(name) for name in self.names]
+        return self
+
+    def __exit__(self, *_):
+        if self.process.poll() is None:
+            self.process.terminate()
+            self.process.wait()
+        self.leave()
+
+    def leave(self):
+        for name in self.names:
+            remove(f"{name}.in", f"{name}.out")
+
+    def commit(self, planner, edit):
+        """A planner commits an edit, which is lawful."""
+        self.version += 1
+        self.seats[planner].ask(line_of(edit)[:-1].encode(), b"version %d" % self.version)
+        self.scene.make(edit)
+
+    def is_shown(self, *browsers):
+        """Each browser shows the scene within a second."""
+        began, wanted = time.monotonic(), right(self.scene, self.version)
+        for browser in browsers:
+            while (found := browser.script(SEEN, SHOWN, TOTALS)) != wanted:
+                if time.monotonic() - began > a_while():
+                    for seen, it in zip(found, wanted):
+                        want("what is shown a second later", seen, it)
+
+    def shows_its_version(self, browser):
+        browser.until(f"it shows version {self.version}", lambda: browser.text("#live") == f"\u25cf live, version {self.version}")
+
+    def hosts(self):
+        """The host's process."""
+        with open(f"/proc/{self.process.pid}/task/{self.process.pid}/children") as file:
+            return [int(it) for it in file.read().split()]
+
+    def costs(self):
+        """How many threads live.py has, and files open."""
+        return [len(os.listdir(f"/proc/{self.process.pid}/{it}")) for it in ("task", "fd")]
+
+    def ends(self, status, out):
+        said, _ = self.process.communicate(timeout=PATIENCE)
+        want("the end", (self.process.returncode, said), (status, out))
+
+
+def lawful(chance, scene):
+    """An edit that the scene can have."""
+    while scene.fault(edit := some_edit(chance, scene, chance.randrange(5))):
+        pass
+    return edit
+
+
+def follows_commits():
+    """Four planners commit in turn: the page shows each commit within a second, whatever it edits; its closed cells are drawn."""
+    chance, kinds = random.Random(82), set()
+    with Live(Scene(3, 2, "stay")) as live, Browser() as browser:
+        browser.go(live.url)
+        live.is_shown(browser)
+        for number in range(COMMITS):
+            edit = lawful(chance, live.scene)
+            live.commit(number % 4, edit)
+            live.is_shown(browser)
+            kinds |= {edit[0], *(it.split()[0] for it in live.scene.report().splitlines())}
+            if edit[0] in ("open", "close"):
+                want(f"whether {edit[1]} is drawn as a wall", is_drawn(browser, "--wall", edit[1], 0.47), edit[1] in live.scene.closed)
+        want("what the page complains of", browser.complaints(), [])
+        for seat in live.seats:
+            seat.close()
+        live.ends(0, "audit same\n")
+    want("what was met", {"open", "close", "drop", "agent", "goal", "tail", "path", *HEADS} - {"cycle"} - kinds, set())
+
+
+def follows_bursts():
+    """Four planners commit as fast as they can, each for its agent: a page shows what they come to within a second."""
+    chance = random.Random(79)
+    with Live(Scene(8, 5, "stay")) as live, Browser() as browser:
+        browser.go(live.url)
+        for agent in range(4):
+            live.commit(agent, ("agent", agent, (0, agent), (7, agent)))
+        edits = [[("path", agent, *walk(chance, (8, 5), (0, agent), 30)) for _ in range(BURST)] for agent in range(4)]
+        planners = [threading.Thread(target=commit_all, args=(live.seats[agent], edits[agent])) for agent in range(4)]
+        for it in planners:
+            it.start()
+        for it in planners:
+            it.join()
+        for own in edits:
+            live.scene.make(own[-1])
+        live.version += 4 * BURST
+        live.is_shown(browser)
+
+
+def commit_all(seat, edits):
+    for edit in edits:
+        seat.send(line_of(edit).encode())
+        if not seat.hear().startswith(b"version "):
+            return
+
+
+def unread():
+    """Browsers that ask what changes and don't read it, megabytes of it, hold up neither planners nor another browser; closed, they cost nothing."""
+    with Live(Scene(2, 1, "stay")) as live, Browser() as browser:
+        browser.go(live.url)
+        live.commit(0, ("agent", 0, (0, 0), (1, 0)))
+        live.shows_its_version(browser)
+        alone, deaf = live.costs(), [socket.socket() for _ in range(3)]
+        for it in deaf:
+            it.setsockopt(socket.SOL_SOCKET, socket.SO_RCVBUF, 4096)
+            it.connect(("127.0.0.1", int(live.url.split(":")[2][:-1])))
+            it.sendall(b"GET /changes HTTP/1.1\r\nHost: 127.0.0.1\r\n\r\n")
+        browser.until("they cost something", lambda: live.costs() > alone)
+        for number in range(16):
+            path = [(0, 0), *[(1, 0), (0, 0)] * (50_000 + number), (1, 0)]
+            live.commit(number % 4, ("path", 0, *path))
+            began = time.monotonic()
+            live.shows_its_version(browser)
+            want("its end", browser.text("#horizon"), f"of {len(path) - 1}")
+            want("whether it's shown within a second", time.monotonic() - began < a_while(), True)
+        for it in deaf:
+            it.close()
+        browser.until("they cost nothing once they have gone", lambda: live.costs() == alone)
+
+
+def two_browsers():
+    """A browser that comes later shows all, both show what comes then, and one that goes away leaves neither thread nor file behind."""
+    chance = random.Random(67)
+    with Live(Scene(3, 2, "stay")) as live, Browser() as one:
+        one.go(live.url)
+        for number in range(12):
+            live.commit(number % 4, lawful(chance, live.scene))
+        live.is_shown(one)
+        time.sleep(2)
+        alone = live.costs()
+        with Browser() as other:
+            other.go(live.url)
+            live.is_shown(one, other)
+            for number in range(12):
+                live.commit(number % 4, lawful(chance, live.scene))
+                live.is_shown(one, other)
+            want("whether the other costs something", live.costs() > alone, True)
+        one.until("it costs nothing once it has gone", lambda: live.costs() == alone)
+        for number in range(4):
+            live.commit(number, lawful(chance, live.scene))
+            live.is_shown(one)
+        one.go(live.url)
+        live.is_shown(one)
+
+
+def keeps_the_view():
+    """What a person looks at stays when others commit: the time, the view, the agent, the line that is marked, the filters; what is told of them is new."""
+    with Live(Scene(8, 5, "stay")) as live, Browser() as browser:
+        browser.go(live.url)
+        row = lambda y: [(x, y) for x in range(8)]
+        for edit in (("agent", 0, (0, 0), (7, 0)), ("path", 0, *row(0)), ("agent", 1, (7, 0), (0, 0)), ("path", 1, *row(0)[::-1])):
+            live.commit(0, edit)
+        live.is_shown(browser)
+        browser.press("+", "+")
+        browser.click("#kind-unfinished")
+        browser.click(".row:nth-child(1)")
+        seen, texts = view(browser), lambda: [browser.text(it) for it in ("#time", "#chosen", "#picked", "#listed")]
+        marked, nobody = "marked at time 3: agent 0, agent 1", "Click an agent, or give its number."
+        want("what is told", texts(), ["3", marked, nobody, "1 of 3"])
+        live.commit(1, ("agent", 2, (0, 3), (7, 3)))
+        live.shows_its_version(browser)
+        want("what is told with one more", texts(), ["3", marked, nobody, "1 of 4"])
+        browser.write("#agent", "1")
+        browser.write("#from", "3")
+        want("what is told of one", texts(), ["3", "", "agent 1 is at 4,0 at time 3\nfrom 7,0 to its goal 0,0\nsettles at 7, bound 7, gap 0", "1 of 4"])
+        live.commit(2, ("path", 1, *row(0)[:4:-1], (5, 1), (4, 1), *row(0)[4::-1]))
+        live.commit(3, ("close", (7, 4)))
+        live.shows_its_version(browser)
+        want("what is told now", texts(), ["3", "", "agent 1 is at 5,1 at time 3\nfrom 7,0 to its goal 0,0\nsettles at 9, bound 7, gap 2", "0 of 2"])
+        want("the view", view(browser), seen)
+        live.commit(0, ("drop", 1))
+        live.shows_its_version(browser)
+        want("what is told without it", texts(), ["3", "", nobody, "0 of 1"])
+        want("what the page complains of", browser.complaints(), [])
+
+
+def tells_the_end():
+    """The page says how the host ended, and keeps what it has: in order, killed, or with live.py, which leaves no process and no pipe."""
+    chance = random.Random(71)
+    for how, status, out, why in (("close", 0, "audit same\n", "the host has ended with status 0"), ("kill", 137, "", "the host was killed by signal 9"),
+                                  ("interrupt", 130, "", "live.py has ended"), ("terminate", 143, "", "live.py has ended")):
+        with Live(Scene(3, 2, "stay")) as live, Browser() as browser:
+            browser.go(live.url)
+            for number in range(6):
+                live.commit(number % 4, lawful(chance, live.scene))
+            live.is_shown(browser)
+            [host] = live.hosts()
+            with open(f"/proc/{host}/cmdline") as words:
+                pipes = os.path.dirname(words.read().split("\0")[-2])
+            if how == "close":
+                for seat in live.seats:
+                    seat.close()
+            elif how == "kill":
+                os.kill(host, signal.SIGKILL)
+            else:
+                live.process.send_signal(signal.SIGINT if how == "interrupt" else signal.SIGTERM)
+            live.ends(status, out)
+            browser.until("the page says so", lambda: browser.text("#live") == f"\u25a0 {why}, at version {live.version}")
+            want("what it shows", browser.script(SEEN, SHOWN, TOTALS)[1:], right(live.scene, live.version)[1:])
+            want("what is left", (os.path.exists(f"/proc/{host}"), os.path.exists(pipes)), (False, False))
+
+
+def views():
+    for test in (follows_commits, follows_bursts, unread, two_browsers, keeps_the_view, tells_the_end):
+        yield f"live_{test.__name__}", test
+
+
+class PlainSeat:
+    """A seat at a plain scene, whose desk can tell changes."""
+
+    def __init__(self, scene):
+        self.versions, self.answers, self.asked = [scene.copy()], [], []
+        self.lines = self
+
+    def write(self, lines):
+        self.answers += [it for line in lines.splitlines() for it in self.ask(line)]
+
+    def flush(self):
+        pass
+
+    def hear(self):
+        return self.answers.pop(0)
+
+    def ask(self, line):
+        scene, version = self.versions[-1], len(self.versions) - 1
+        kind, *words = line.split()
+        self.asked.append(kind)
+        if kind == "changes":
+            return [f"version {version}", *changes(self.versions[int(words[0])], int(words[0]), scene)]
+        if kind in ("begin", "watch", "drop", "try"):
+            return ["refused faulty 0 unknown-agent"]
+        question = [kind, *(tuple(map(int, it.split(","))) if "," in it else int(it) for it in words)]
+        return [f"version {version}"] if kind == "version" else answer(scene, version, question)
+
+
+def keeps_by_changes():
+    """Where a desk tells what changed, by a plain program, live.py asks its report once, and has the right one ever after."""
+    asked = importlib.util.spec_from_file_location("watcher", f"{TOP}/demo/watcher.py")
+    watching = importlib.util.module_from_spec(asked)
+    asked.loader.exec_module(watching)
+    chance = random.Random(73)
+    seat = PlainSeat(Scene(3, 2, "stay"))
+    watcher = watching.Watcher(seat, (3, 2))
+    for _ in range(300):
+        scene = seat.versions[-1].copy()
+        for _ in range(chance.randint(1, 3)):
+            scene.make(lawful(chance, scene))
+        seat.versions.append(scene)
+        picture = watcher.look()
+        want("the report", "\n".join([*picture.report, ""]), scene.report())
+        want("the version", picture.version, len(seat.versions) - 1)
+    want("how often it asks for the report", seat.asked.count("report"), 1)
+
+
+def called_wrongly():
+    """Words that aren't live.py's are told; a fault of the host's words is the host's."""
+    for words, complaint in (([], "usage: live.py [--port N] [--solves KINDS] DESK host ..\n"), ([Program.path, "serve"], "it runs `host`"),
+                             ([Program.path, "host", "--lines", "1", "a"], "with lines of version 2")):
+        ran = subprocess.run([sys.executable, "-B", LIVE, *words], capture_output=True, timeout=PATIENCE, text=True)
+        want("how it ends", (ran.returncode, ran.stdout, complaint in ran.stderr), (2, "", True))
+    ran = subprocess.run([sys.executable, "-B", LIVE, Program.path, "host", "--map", "gone", "a"], capture_output=True, timeout=PATIENCE, text=True)
+    want("how it ends", (ran.returncode, ran.stdout, ran.stderr), (2, "", "mapf_desk: can't read gone\n"))
+    for words in (["--port", "99999", Program.path, "host", "--map", "m", "a"], ["gone", "host", "--map", "m", "a"]):
+        ran = subprocess.run([sys.executable, "-B", LIVE, *words], capture_output=True, timeout=PATIENCE, text=True)
+        want("how it ends", (ran.returncode, ran.stdout, ran.stderr[:9], ran.stderr.count("\n")), (1, "", "live.py: ", 1))
+
+
+def tests():
+    for test in (keeps_by_changes, called_wrongly):
+        yield f"live_{test.__name__}", test
