@@ -1,5 +1,5 @@
 -- Calls of a desk on numbers: each is a call of the desk (this project's choice).
-use Rattle.std.specs.Prelude.{◌≡◌, ◌+◌, ◌<◌, ◌≤◌, ◌⊎◌, ℕ, Bool, List, [], ◌∷◌, map, All, Option, Result, Ok, Err}
+use Rattle.std.specs.Prelude.{◌≡◌, ◌+◌, ◌<◌, ◌≤◌, ℕ, Bool, List, [], ◌∷◌, map, All, Option, Result, Ok, Err}
 use Rattle.grid_cells.specs.Cell.{Point, point}
 use Rattle.grid_cells.specs.declared.numbers.TheConstants.{MOST_AGENT}
 use Rattle.scene_edits.specs.declared.edits.Edit.TheVariants.{Path}
@@ -17,7 +17,7 @@ use Rattle.desk_c.specs.declared.numbers.CellNumbers.{CellNumbers}
 use Rattle.desk_c.specs.declared.numbers.EntryNumbers.{EntryNumbers}
 use Rattle.desk_c.specs.declared.statuses.Stop.{Stop}
 use Rattle.desk_c.specs.declared.statuses.Stop.TheVariants as stop
-use Rattle.desk_c.specs.declared.statuses.TheConstants.{DONE, OUT_OF_MEMORY}
+use Rattle.desk_c.specs.declared.statuses.TheConstants.{DONE}
 
 -- planner 0's commit of an agent's path alone, made on the desk's version, without watches
 pub record IsPathCommit (desk : DeskState) (agent : ℕ) (path : List CellNumbers) (commit : Entry) : Type 0 where
@@ -93,8 +93,7 @@ TellsDistance desk agent cell (Err (stop.NotAsked why)) = AnswersDistance desk.s
 TellsDistance desk agent cell (Err stop.NoNumber) = AreNumbers agent (cell ∷ []) → ⊥
 TellsDistance desk agent cell (Err other) = ⊥
 
--- the conflicts of a reading are given, or nothing is
+-- the conflicts of a reading are given, or nothing is where there is none
 abbrev pub GivesEntries : Result Reading Stop → ℕ → (room0 room1 : List EntryNumbers) → (count0 count1 : ℕ) → Type 0
-GivesEntries (Ok reading) told room0 room1 count0 count1 =
-    ((told ≡ DONE) × HasFront (map entry_numbers reading.report.conflicts) room0 room1 count1) ⊎ ((told ≡ OUT_OF_MEMORY) × (room1 ≡ room0) × (count1 ≡ count0))
+GivesEntries (Ok reading) told room0 room1 count0 count1 = (told ≡ DONE) × HasFront (map entry_numbers reading.report.conflicts) room0 room1 count1
 GivesEntries (Err why) told room0 room1 count0 count1 = (told ≡ status_of why) × (room1 ≡ room0) × (count1 ≡ count0)

@@ -5,7 +5,7 @@ ghost use Rattle.desk_c.specs.declared.statuses.Stop.TheVariants as stop;
 
 use crate::statuses::Stop;
 use desk_core::Conflict;
-use grid_cells::{Agent, Cell, OutOfMemory};
+use grid_cells::{Agent, Cell};
 use std::alloc::Global;
 
 /// What stands for a number that isn't there.
@@ -152,23 +152,15 @@ fn numbers_of(conflict: &Conflict) -> EntryNumbers
     }
 }
 
-/// The entries as numbers.
-pub(crate) fn all_numbers(
-    alloc: Global,
-    entries: &[Conflict],
-) -> Result<Vec<EntryNumbers>, OutOfMemory>
-    ensures { IfOk result (λ all. all.items ≡ map entry_numbers entries.now) }
+/// Copies the front of the entries that there is room for, as numbers, and gives the count of all.
+pub(crate) fn copy_front(entries: &[Conflict], room: &mut [EntryNumbers], count: &mut usize)
+    ensures { HasFront (map entry_numbers entries.now) room.old room.new count.new }
 {
-    Ok(entries.iter().map(|it| numbers_of(it)).collect(alloc)?)
-}
-
-/// Copies the front of the numbers that there is room for, and gives the count of all.
-pub(crate) fn copy_front(numbers: &[EntryNumbers], room: &mut [EntryNumbers], count: &mut usize)
-    ensures { HasFront numbers.now room.old room.new count.new }
-{
-    let all = numbers.len();
-    let most = if all < room.len() { all } else { room.len() };
-    room[..most].copy_from_slice(&numbers[..most]);
+    let all = entries.len();
+    let most = all.min(room.len());
+    for index in 0..most {
+        room[index] = numbers_of(&entries[index]);
+    }
     *count = all;
 }
 

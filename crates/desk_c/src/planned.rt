@@ -54,7 +54,7 @@ impl State {
             Opening::Refused(_) => CLOSED,
             Opening::Open(it) => {
                 let answer = try_path(alloc, &mut it.desk, agent, path);
-                give_entries(alloc, answer, room, count)
+                give_entries(answer, room, count)
             }
         }
     }
@@ -74,7 +74,7 @@ impl State {
             Opening::Refused(_) => CLOSED,
             Opening::Open(it) => {
                 let answer = entries_of(alloc, &mut it.desk, agent);
-                give_entries(alloc, answer, room, count)
+                give_entries(answer, room, count)
             }
         }
     }

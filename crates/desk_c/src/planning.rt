@@ -3,8 +3,8 @@ ghost use Rattle.std.specs.Prelude.{◌≡◌, ◌∷◌, [], IfOk, IfErr};
 ghost use Rattle.desk_c.specs.Planning.{CommitsPath, GivesEntries, MakesCommit, TellsDistance, TellsEntries, TellsSolves, TriesPath};
 ghost use Rattle.desk_c.specs.declared.statuses.Stop.TheVariants as stop;
 
-use crate::numbers::{CellNumbers, EntryNumbers, all_numbers, cells_of, copy_front};
-use crate::statuses::{DONE, OUT_OF_MEMORY, Stop, status_of};
+use crate::numbers::{CellNumbers, EntryNumbers, cells_of, copy_front};
+use crate::statuses::{DONE, Stop, status_of};
 use desk_commits::{Commit, Reading};
 use desk_core::{Cutting, Desk, Edit, Trial};
 use desk_report::Kinds;
@@ -144,22 +144,17 @@ pub(crate) fn distance(desk: &mut Desk, agent: u32, cell: CellNumbers) -> Result
 
 /// Copies the front of the reading's conflicts that there is room for, and gives the number of all and the status.
 pub(crate) fn give_entries(
-    alloc: Global,
     answer: Result<Reading, Stop>,
     room: &mut [EntryNumbers],
     count: &mut usize,
 ) -> u32
     ensures { GivesEntries answer result room.old room.new count.old count.new }
 {
-    let reading = match answer {
-        Ok(reading) => reading,
-        Err(why) => return status_of(why),
-    };
-    match all_numbers(alloc, reading.report.conflicts.items()) {
-        Ok(numbers) => {
-            copy_front(&numbers, room, count);
+    match answer {
+        Ok(reading) => {
+            copy_front(reading.report.conflicts.items(), room, count);
             DONE
         }
-        Err(OutOfMemory) => OUT_OF_MEMORY,
+        Err(why) => status_of(why),
     }
 }
