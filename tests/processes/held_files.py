@@ -89,6 +89,7 @@ def in_use_by_a_host():
             hosted.operator.ask(ADD, b"version 1\n")
             is_fault([*WORDS, "./kept"], "can't write ./kept: in use", ADD)
             for seat in hosted.seats():
+                seat.ask(b"version", b"version 1")
                 seat.close()
             hosted.ends(0, b"audit same\n", b"")
         want("the file", bytes_of("kept"), ONE_ENTRY)

@@ -36,6 +36,7 @@ def not_saved_by_a_host_where_the_file_became_a_folder():
         hosted.operator.ask(ADD, b"version 1\n")
         os.mkdir("folder")
         for seat in hosted.seats():
+            seat.ask(b"version", b"version 1")
             seat.close()
         hosted.ends(2, b"", b"mapf_desk: can't write folder: the journal is in folder.0.mapf-kept\n")
     want("the journal", bytes_of("folder.0.mapf-kept"), ONE_ENTRY)
