@@ -9,8 +9,9 @@ import time
 import urllib.error
 import urllib.request
 
-from .running import PATIENCE, TRIES, Wrong, want
+from .running import PATIENCE, Wrong, want
 
+TRIES = 3  # to begin a browser, which a busy machine may not reach at once
 NEEDED = ("chromium", "chromedriver")  # of Debian's packages chromium and chromium-driver
 KEYS = {"left": "\ue012", "right": "\ue014", "home": "\ue011", "end": "\ue010", "escape": "\ue00c", "space": " ", "shift": "\ue008", "down": "\ue015",
         "up": "\ue013", "tab": "\ue004"}

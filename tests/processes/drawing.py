@@ -6,7 +6,7 @@ from .faulty_checks import DRAWING_FAULTS, UNDRAWN
 from .fleets import Fleet, verdict
 from .plain import ASKED
 from .pictures import SVG, are_marked, drawn, group, reported, routes, title
-from .running import TOP, bytes_of, in_time, is_answered, is_fault, put, remove, run, want
+from .running import TOP, Wrong, bytes_of, is_answered, is_fault, processor_time, put, remove, run, second, want
 from .telling import expected
 
 DEMO = f"{TOP}/demo"
@@ -131,10 +131,14 @@ def is_small(closed, side):
     lines = [f"agent {n} {it[0][0]},{it[0][1]} {it[-1][0]},{it[-1][1]}\npath {n} " + " ".join(f"{x},{y}" for x, y in it) + "\n" for n, it in enumerate(paths)]
     put("edits", ("journal 2\nmode stay\nentry 0 0 0 2000\n" + "".join(lines) + "end 1\n").encode())
     words = ("--map", "scene", "--journal", "edits")
-    picture, size = in_time(MOST_SECONDS, lambda: drawn(*words))
+    most, began = MOST_SECONDS * second(), processor_time()
+    picture, size = drawn(*words)
+    took = processor_time() - began
     are_marked(picture, reported(*words), paths)
     remove("scene", "edits")
-    want("whether it is small", size <= MOST_BYTES, True)
+    most = max(most, MOST_SECONDS * second())
+    if size > MOST_BYTES or took > most:
+        raise Wrong(f"{size} bytes in {took:.1f} s of {most:.1f}")
 
 
 def large_map():

@@ -6,7 +6,7 @@ from .chances import wandering
 from .drawing import are_faults
 from .fleets import Fleet
 from .plain import ASKED, Scene, line_of, shown
-from .running import TOP, bytes_of, in_time, put, remove, run, want
+from .running import TOP, Wrong, bytes_of, processor_time, put, remove, run, second, want
 
 DEMO = f"{TOP}/demo"
 MOST_SECONDS = 4  # of four processors together
@@ -104,10 +104,13 @@ def large_page():
     chance, side = random.Random(43), 256
     put("scene", (f"type octile\nheight {side}\nwidth {side}\nmap\n" + ("." * side + "\n") * side).encode())
     put("edits", ("journal 2\nmode stay\nentry 0 0 0 2000\n" + "".join(walks(chance, side, 1000, 500)) + "end 1\n").encode())
-    status, page, complained = in_time(MOST_SECONDS, lambda: run(["page", "--map", "scene", "--journal", "edits"]))
+    most, began = MOST_SECONDS * second(), processor_time()
+    status, page, complained = run(["page", "--map", "scene", "--journal", "edits"])
+    took, size = processor_time() - began, len(page.encode())
     remove("scene", "edits")
     want("what page says", (status, complained), (0, ""))
-    want("whether the page is small", len(page.encode()) <= MOST_BYTES, True)
+    if size > MOST_BYTES or took > max(most, MOST_SECONDS * second()):
+        raise Wrong(f"{size} bytes in {took:.1f} s of {most:.1f}")
 
 
 def tests():

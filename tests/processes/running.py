@@ -26,21 +26,6 @@ def second():
     return max(1, time.process_time() - began) * PATIENCE / 60
 
 
-TRIES = 3  # of what may take no longer than so, since other work on the machine can hold up one
-
-
-def in_time(seconds, made):
-    """What is made, where one of some tries takes so many seconds of processor time at most."""
-    took = []
-    for _ in range(TRIES):
-        most, began = seconds * second(), processor_time()
-        answer = made()
-        took.append((processor_time() - began, max(most, seconds * second())))
-        if took[-1][0] <= took[-1][1]:
-            return answer
-    raise Wrong("it takes " + ", ".join(f"{it:.1f} s of {most:.1f}" for it, most in took))
-
-
 class Program:
     """The program that is tried: what `rt ci` or `./desk --prove` built, where no other is named."""
 
