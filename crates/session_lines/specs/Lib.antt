@@ -7,4 +7,5 @@ pub mod Shapes
 pub mod Edits
 pub mod Faults
 pub mod Requests
+pub mod Plain
 pub mod Questions

@@ -1,7 +1,7 @@
 //! The grammar of session lines: their words, and the requests that they stand for.
 //!
 //! `requests` reads a line by its first word (`commands`) and by the words behind it (`edits`, `kinds`,
-//! `shapes`, `cells`, `values`).
+//! `shapes`, `cells`, `plain`, `values`).
 #![tactic(auto)]
 
 mod agents;
@@ -10,6 +10,7 @@ mod commands;
 mod edits;
 mod inquiries;
 mod kinds;
+mod plain;
 mod questions;
 mod requests;
 mod shapes;

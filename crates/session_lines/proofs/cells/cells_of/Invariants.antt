@@ -4,8 +4,8 @@ use Rattle.bench_reader.specs.Words.{words_of}
 use Rattle.session_lines.specs.Cells.{cells_of}
 use Rattle.session_lines.proofs.cells.cells_of.Given as goal
 
-abbrev pub invariant-loop-word : goal.invariant-loop-word
-invariant-loop-word l = cells_of (words_of l.line) ≡ option_map (λ more. l.cells.items ++ more) (cells_of (words_of l.rest))
+abbrev pub invariant-loop-cell : goal.invariant-loop-cell
+invariant-loop-cell l = cells_of (words_of l.line) ≡ option_map (λ more. l.cells.items ++ more) (cells_of (words_of l.rest))
 
-abbrev pub decreases-loop-word : goal.decreases-loop-word
-decreases-loop-word l = length (words_of l.rest)
+abbrev pub decreases-loop-cell : goal.decreases-loop-cell
+decreases-loop-cell l = length (words_of l.rest)
