@@ -1,7 +1,8 @@
 -- A column of a text of comma-separated values (RFC 4180): fields are parted by commas, and one in quotes may have commas and line feeds.
--- What isn't of the column is blank, so that lines keep their numbers; two quotes within a field, which stand for one, are blank too.
+-- What isn't of the column is blank, so that lines keep their numbers, and so are the quotes; but of two within a field, which stand for
+-- one, the second is kept.
 use Rattle.std.specs.Prelude.{ℕ, ◌+◌, ◌==◌, ◌||◌, ◌&&◌, Bool, false, not, Option, Some, None, Result, Ok, Err, List, [], ◌∷◌, ◌++◌, codes, bytes_eq, if◌then◌else◌}
-use Rattle.std.specs.List.{slice_split}
+use Rattle.std.specs.Option.{option_or}
 use Rattle.path_files.specs.Lines.{Line, trimmed}
 use Rattle.path_files.specs.declared.faults.PathsFault.{PathsFault}
 use Rattle.path_files.specs.declared.faults.PathsFault.TheVariants.{OpenQuote}
@@ -11,36 +12,38 @@ use Rattle.path_files.specs.declared.columns.Place.{Place}
 abbrev pub names_plans : List ℕ → Bool
 names_plans field = bytes_eq (trimmed field) (codes "solution_plan") || bytes_eq (trimmed field) (34 ∷ codes "solution_plan" ++ 34 ∷ [])
 
--- the first of these fields that names it, where they count from a first number
-abbrev pub column_from : ℕ → List (List ℕ) → Option ℕ
-column_from number [] = None
-column_from number (field ∷ fields) = if names_plans field then Some number else column_from (number + 1) fields
+-- the field of that number, if it names the column
+abbrev pub column_at : ℕ → List ℕ → Option ℕ
+column_at number field = if names_plans field then Some number else None
 
--- the fields of a head line
-abbrev pub fields_of : List ℕ → List (List ℕ)
-fields_of line = slice_split (λ byte. byte == 44) line
+-- the first field that names it, where the one of that number has this front, and these bytes stand behind; a comma in quotes parts none
+abbrev pub column_from : Bool → ℕ → List ℕ → List ℕ → Option ℕ
+column_from quoted number front [] = column_at number front
+column_from quoted number front (byte ∷ line) =
+    if byte == 44 && not quoted then option_or (column_at number front) (column_from false (number + 1) [] line)
+    else column_from (if byte == 34 then not quoted else quoted) number (front ++ byte ∷ []) line
 
 -- the column of plans in a head line
 abbrev pub column_in : List ℕ → Option ℕ
-column_in line = column_from 0 (fields_of line)
+column_in line = column_from false 0 [] line
 
 -- where a text begins: in its first field, outside quotes
 abbrev pub at_front : Place
-at_front = record { field = 0; quoted = false }
+at_front = record { field = 0; quoted = false; closed = false }
 
 -- where it is behind that byte
 abbrev pub behind_byte : Place → ℕ → Place
 behind_byte place byte =
-    if byte == 34 then record place { quoted = not place.quoted } else
+    if byte == 34 then record place { quoted = not place.quoted; closed = place.quoted } else
     if place.quoted then place else
-    if byte == 44 then record place { field = place.field + 1 } else
-    if byte == 10 then record place { field = 0 } else place
+    if byte == 44 then record place { field = place.field + 1; closed = false } else
+    if byte == 10 then record place { field = 0; closed = false } else record place { closed = false }
 
 -- what is kept of the byte there, for that column
 abbrev pub kept_byte : ℕ → Place → ℕ → ℕ
 kept_byte column place byte =
     if byte == 10 then byte else
-    if byte == 34 then 32 else
+    if byte == 34 && not place.closed then 32 else
     if byte == 44 && not place.quoted then 32 else
     if place.field == column then byte else 32
 

@@ -10,6 +10,12 @@ pub mod Sessions
 pub mod Told
 pub mod Moves
 pub mod Columns
+pub mod Dues
+pub mod Broken
+pub mod Robots
+pub mod ScheduleLines
+pub mod ScheduleSteps
+pub mod Schedules
 pub mod Texts
 pub mod Orders
 pub mod Costs

@@ -14,7 +14,7 @@ use Rattle.path_files.specs.Lines.{Line}
 use Rattle.path_files.specs.declared.faults.PathsFault.{PathsFault}
 use Rattle.path_files.specs.declared.faults.PathsFault.TheVariants.{BadMove, NoPaths, TooManyAgents}
 use Rattle.path_files.specs.declared.forms.Form.{Form}
-use Rattle.path_files.specs.declared.forms.Form.TheVariants.{ByTime, ByAgent, BySession, ByMoves, ByFlippedMoves}
+use Rattle.path_files.specs.declared.forms.Form.TheVariants.{ByTime, ByAgent, BySession, ByMoves, ByFlippedMoves, ByJson, BySchedule}
 use Rattle.path_files.specs.declared.paths.SolverPaths.{SolverPaths}
 
 -- the cell so many columns and rows further, going round
@@ -62,16 +62,16 @@ moves_from flipped line time cell path (byte ∷ bytes) =
     option_map_or (λ by. moves_from flipped line (time + 1) (moved cell by) (path ++ moved cell by ∷ []) bytes)
     (move_of flipped byte) (Err (BadMove line time))
 
--- the path of a row
-abbrev pub path_of_moves : Bool → ℕ → List ℕ → Result (List Point) PathsFault
-path_of_moves flipped line bytes = moves_from flipped line 0 (point 0 0) (point 0 0 ∷ []) bytes
+-- the path of a row from that start
+abbrev pub path_from : Bool → ℕ → Point → List ℕ → Result (List Point) PathsFault
+path_from flipped line start bytes = moves_from flipped line 0 start (start ∷ []) bytes
 
 -- the paths so far, and those of these rows
 abbrev pub rows_from : Bool → List (List Point) → List Line → Result (List (List Point)) PathsFault
 rows_from flipped paths [] = if length paths == 0 then Err NoPaths else Ok paths
 rows_from flipped paths (line ∷ lines) =
     if nat_le MOST_AGENTS (length paths) then Err (TooManyAgents line.number) else
-    and_then (path_of_moves flipped line.number line.bytes) (λ path. rows_from flipped (paths ++ path ∷ []) lines)
+    and_then (path_from flipped line.number (point 0 0) line.bytes) (λ path. rows_from flipped (paths ++ path ∷ []) lines)
 
 -- up is the row behind
 abbrev pub is_flipped : Form → Bool
@@ -90,6 +90,8 @@ is_relative ByAgent = false
 is_relative BySession = false
 is_relative ByMoves = true
 is_relative ByFlippedMoves = true
+is_relative ByJson = false
+is_relative BySchedule = false
 
 -- the path set out from a start
 abbrev pub set_out : Point → List Point → List Point

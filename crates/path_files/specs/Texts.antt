@@ -8,12 +8,14 @@ use Rattle.path_files.specs.Columns.{column_told, kept_of, behind_head}
 use Rattle.path_files.specs.Forms.{form_of}
 use Rattle.path_files.specs.Heads.{no_head}
 use Rattle.path_files.specs.Moves.{by_rows, is_relative}
+use Rattle.path_files.specs.Robots.{by_json}
+use Rattle.path_files.specs.Schedules.{by_schedule}
 use Rattle.path_files.specs.Times.{by_time}
 use Rattle.path_files.specs.Told.{by_told}
 use Rattle.path_files.specs.declared.faults.PathsFault.{PathsFault}
 use Rattle.path_files.specs.declared.faults.PathsFault.TheVariants.{NoStarts}
 use Rattle.path_files.specs.declared.forms.Form.{Form}
-use Rattle.path_files.specs.declared.forms.Form.TheVariants.{ByTime, ByAgent, BySession, ByMoves, ByFlippedMoves}
+use Rattle.path_files.specs.declared.forms.Form.TheVariants.{ByTime, ByAgent, BySession, ByMoves, ByFlippedMoves, ByJson, BySchedule}
 use Rattle.path_files.specs.declared.paths.SolverPaths.{SolverPaths}
 
 -- the lines of a text that say something
@@ -33,6 +35,8 @@ in_form ByAgent text = by_told ByAgent (written_in text)
 in_form BySession text = by_told BySession (written_in text)
 in_form ByMoves text = by_moves ByMoves text
 in_form ByFlippedMoves text = by_moves ByFlippedMoves text
+in_form ByJson text = by_json text
+in_form BySchedule text = by_schedule (written_in text)
 
 -- in the form that is named, else in the one that the lines tell
 abbrev pub in_named_form : Option Form → List ℕ → Result SolverPaths PathsFault

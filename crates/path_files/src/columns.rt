@@ -1,26 +1,28 @@
-ghost use Rattle.std.specs.Prelude.{◌≡◌, ◌+◌, ◌^◌, ◌<◌, ◌≤◌, [], ◌∷◌, IfOk, IfSome, MatchOption, length};
+ghost use Rattle.std.specs.Prelude.{◌≡◌, ◌==◌, ◌+◌, ◌^◌, ◌<◌, ◌≤◌, IfOk, length, not, if◌then◌else◌};
 ghost use Rattle.bench_reader.specs.Lines.{lines_of};
 ghost use Rattle.scene_edits.specs.declared.scenes.TheConstants.{MOST_AGENTS};
 ghost use Rattle.path_files.specs.Answers.{IsRead};
-ghost use Rattle.path_files.specs.Columns.{behind_byte, behind_head, column_in, column_told, fields_of, kept_byte, kept_of, names_plans};
+ghost use Rattle.path_files.specs.Columns.{behind_byte, behind_head, column_in, column_told, kept_byte, kept_of, names_plans};
 ghost use Rattle.path_files.specs.Moves.{by_rows};
 ghost use Rattle.path_files.specs.Lines.{written_from};
 ghost use Rattle.path_files.specs.Texts.{by_moves};
 
 use crate::faults::PathsFault;
 use crate::forms::Form;
-use crate::lines::{cut, next_written, trimmed};
+use crate::lines::{next_written, trimmed};
 use crate::moves::by_rows;
 use crate::paths::SolverPaths;
 use grid_cells::List;
 use session_lines::is_word;
 use std::alloc::Global;
 
-/// Where a text of comma-separated values is: in which field of a record, and whether in quotes.
+/// Where a text of comma-separated values is: in which field of a record, whether in quotes, and whether
+/// behind one that closed them.
 #[derive(Clone, Copy)]
 pub(crate) struct Place {
     pub(crate) field: usize,
     pub(crate) quoted: bool,
+    pub(crate) closed: bool,
 }
 
 // Whether the field names the column of plans.
@@ -31,13 +33,11 @@ fn names_plans(field: &[u8]) -> bool
     is_word(name, b"solution_plan") || is_word(name, b"\"solution_plan\"")
 }
 
-// The first field of a line that has more, and what stands behind its comma.
-fn next_field(line: &[u8]) -> Option<(&[u8], &[u8])>
-    ensures fields { MatchOption result (fields_of line.now ≡ line.now ∷ [])
-        (λ r. fields_of line.now ≡ r.0.now ∷ fields_of r.1.now) }
-    ensures shorter { IfSome result (λ r. length r.1.now < length line.now) }
+// Whether a line goes on in quotes behind that byte.
+fn stays_quoted(quoted: bool, byte: u8) -> bool
+    ensures { result ≡ (if byte == 34 then not quoted else quoted) }
 {
-    cut(line, b',')
+    if byte == b'"' { !quoted } else { quoted }
 }
 
 /// The column of plans in a head line.
@@ -45,18 +45,37 @@ pub(crate) fn column_in(line: &[u8]) -> Option<usize>
     ensures { result ≡ column_in line.now }
 {
     let mut column = 0;
-    let mut rest = line;
-    while let Some((field, below)) = next_field(rest) {
-        if names_plans(field) {
-            return Some(column);
+    let mut front = 0;
+    let mut quoted = false;
+    for (at, byte) in line.iter().enumerate() {
+        if *byte == b',' && !quoted {
+            if names_plans(&line[front..at]) {
+                return Some(column);
+            }
+            column += 1;
+            front = at + 1;
+        } else {
+            quoted = stays_quoted(quoted, *byte);
         }
-        column += 1;
-        rest = below;
     }
-    if names_plans(rest) {
+    if names_plans(&line[front..]) {
         Some(column)
     } else {
         None
+    }
+}
+
+// The field of a record behind that byte, outside quotes.
+fn field_behind(field: usize, byte: u8) -> usize
+    requires { field + 1 < 2 ^ 64 }
+    ensures { result ≡ (if byte == 44 then field + 1 else if byte == 10 then 0 else field) }
+{
+    if byte == b',' {
+        field + 1
+    } else if byte == b'\n' {
+        0
+    } else {
+        field
     }
 }
 
@@ -66,23 +85,21 @@ fn behind_byte(place: Place, byte: u8) -> Place
     ensures is { result ≡ behind_byte place byte }
     ensures near { result.field ≤ place.field + 1 }
 {
-    let Place { field, quoted } = place;
+    let Place { field, quoted, .. } = place;
     if byte == b'"' {
-        Place {
+        return Place {
             field,
             quoted: !quoted,
-        }
-    } else if quoted {
-        place
-    } else if byte == b',' {
-        Place {
-            field: field + 1,
-            quoted,
-        }
-    } else if byte == b'\n' {
-        Place { field: 0, quoted }
-    } else {
-        place
+            closed: quoted,
+        };
+    }
+    if quoted {
+        return place;
+    }
+    Place {
+        field: field_behind(field, byte),
+        quoted,
+        closed: false,
     }
 }
 
@@ -92,7 +109,7 @@ fn kept_byte(column: usize, place: Place, byte: u8) -> u8
 {
     if byte == b'\n' {
         byte
-    } else if byte == b'"' {
+    } else if byte == b'"' && !place.closed {
         b' '
     } else if byte == b',' && !place.quoted {
         b' '
@@ -111,6 +128,7 @@ fn kept_of(alloc: Global, column: usize, text: &[u8]) -> Result<List<u8>, PathsF
     let mut place = Place {
         field: 0,
         quoted: false,
+        closed: false,
     };
     for byte in text {
         kept.push(kept_byte(column, place, *byte))

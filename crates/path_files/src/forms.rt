@@ -1,13 +1,14 @@
 ghost use Rattle.std.specs.Prelude.{◌≡◌, ◌+◌, ◌^◌, ◌<◌, length};
 ghost use Rattle.bench_reader.specs.Lines.{lines_of};
 ghost use Rattle.bench_reader.specs.Words.{words_of};
-ghost use Rattle.path_files.specs.Forms.{is_of_agent, is_of_session, is_of_times, told_by, usual_behind, form_of, is_of_paths, has_paths};
+ghost use Rattle.path_files.specs.Forms.{is_of_agent, is_of_json, is_of_schedule, is_of_session, is_of_times, told_by, usual_behind, form_of, is_of_paths, has_paths};
 ghost use Rattle.path_files.specs.Lines.{written_from};
 
 use crate::columns::column_in;
 use crate::faults::PathsFault;
 use crate::lines::{behind, next_written, numbered};
 use crate::moves::is_of_moves;
+use crate::schedule_lines::{begins_schedule, is_scheduled, is_statistics};
 use bench_reader::next_word;
 use session_lines::is_word;
 
@@ -25,6 +26,10 @@ pub enum Form {
     ByMoves,
     /// The same, where up is the row behind.
     ByFlippedMoves,
+    /// An object of JSON, as the League of Robot Runners and PlanViz write it where robots don't turn.
+    ByJson,
+    /// Each agent's places at all times, as libMultiRobotPlanning writes them in YAML.
+    BySchedule,
 }
 
 // Whether the line is an agent's.
@@ -51,8 +56,15 @@ fn is_of_times(line: &[u8]) -> bool
     is_word(line, b"solution=") || numbered(line).is_some()
 }
 
-// The form that the line tells.
-fn told_by(line: &[u8]) -> Option<Form>
+// Whether the line begins a schedule, or the statistics before it.
+fn is_of_schedule(line: &[u8]) -> bool
+    ensures { result ≡ is_of_schedule line.now }
+{
+    begins_schedule(line) || is_statistics(line)
+}
+
+/// The form that the line tells.
+pub(crate) fn told_by(line: &[u8]) -> Option<Form>
     ensures { result ≡ told_by line.now }
 {
     if is_of_agent(line) {
@@ -61,6 +73,8 @@ fn told_by(line: &[u8]) -> Option<Form>
         Some(Form::BySession)
     } else if is_of_times(line) {
         Some(Form::ByTime)
+    } else if is_of_schedule(line) {
+        Some(Form::BySchedule)
     } else if is_of_moves(line) || column_in(line).is_some() {
         Some(Form::ByMoves)
     } else {
@@ -79,13 +93,23 @@ fn usual_behind(usual: Result<Form, PathsFault>, line: &[u8]) -> Result<Form, Pa
     }
 }
 
+// Whether the line begins an object of JSON.
+fn is_of_json(line: &[u8]) -> bool
+    ensures { result ≡ is_of_json line.now }
+{
+    behind(b"{", line).is_some()
+}
+
 /// The form that the first line tells which tells one, or else a line `key=value`.
 pub(crate) fn form_of(text: &[u8]) -> Result<Form, PathsFault>
     ensures { result ≡ form_of (written_from 1 (lines_of text.now)) }
 {
-    let Some((first, _, _)) = next_written(text, 1) else {
+    let Some((first, begun, _)) = next_written(text, 1) else {
         return Err(PathsFault::NoPaths);
     };
+    if is_of_json(begun) {
+        return Ok(Form::ByJson);
+    }
     let mut usual = Err(PathsFault::NoForm { line: first });
     let mut rest = text;
     let mut number = 1;
@@ -111,6 +135,8 @@ pub(crate) fn is_of_paths(form: Form, line: &[u8]) -> bool
         },
         Form::ByAgent => is_of_agent(line),
         Form::BySession | Form::ByMoves | Form::ByFlippedMoves => true,
+        Form::ByJson => true,
+        Form::BySchedule => is_scheduled(line),
     }
 }
 

@@ -6,7 +6,7 @@ ghost use Rattle.grid_cells.specs.declared.sizes.TheConstants.{MOST_SIDE};
 ghost use Rattle.scene_edits.specs.declared.scenes.TheConstants.{MOST_AGENTS};
 ghost use Rattle.path_files.specs.Answers.{IsRead};
 ghost use Rattle.path_files.specs.Lines.{written_from};
-ghost use Rattle.path_files.specs.Moves.{moved, move_of, is_move, is_between, is_of_row, is_of_moves, path_of_moves, rows_from, is_flipped, by_rows};
+ghost use Rattle.path_files.specs.Moves.{moved, move_of, is_move, is_between, is_of_row, is_of_moves, path_from, rows_from, is_flipped, by_rows};
 
 use crate::faults::PathsFault;
 use crate::forms::Form;
@@ -17,8 +17,8 @@ use grid_cells::{Cell, List, MOST_SIDE, OutOfMemory};
 use scene_edits::MOST_AGENTS;
 use std::alloc::Global;
 
-// The cell in that column and row.
-fn cell(x: u32, y: u32) -> Cell
+/// The cell in that column and row.
+pub(crate) fn cell(x: u32, y: u32) -> Cell
     requires { (x < MOST_SIDE) × (y < MOST_SIDE) }
     ensures { result ≡ point x y }
 {
@@ -97,16 +97,20 @@ pub(crate) fn is_of_moves(line: &[u8]) -> bool
     }
 }
 
-// The path of a row of moves, from the cell 0,0.
-fn path_of_moves(
+/// The path of a row of moves, from that start.
+///
+/// # Errors
+/// `BadMove`, or want of memory.
+pub(crate) fn path_from(
     alloc: Global,
     flipped: bool,
     line: usize,
+    start: Cell,
     bytes: &[u8],
 ) -> Result<List<Cell>, PathsFault>
-    ensures { IsRead (path_of_moves flipped line bytes.now) result }
+    ensures { IsRead (path_from flipped line start bytes.now) result }
 {
-    let mut at = cell(0, 0);
+    let mut at = start;
     let mut path = Vec::new(alloc);
     path.push(at).map_err(|_| PathsFault::OutOfMemory)?;
     let mut time = 0;
@@ -142,7 +146,7 @@ fn read_rows(
         if paths.len() >= MOST_AGENTS as usize {
             return Err(PathsFault::TooManyAgents { line });
         }
-        let path = path_of_moves(alloc, flipped, line, bytes)?;
+        let path = path_from(alloc, flipped, line, cell(0, 0), bytes)?;
         paths.push(path).map_err(|_| PathsFault::OutOfMemory)?;
         rest = below;
         number = line + 1;

@@ -2,6 +2,7 @@ ghost use Rattle.std.specs.Prelude.{◌≡◌};
 ghost use Rattle.path_files.specs.Orders.{has_rows_first, is_row_first};
 
 use crate::forms::{Form, form_of};
+use crate::lines::without_mark;
 
 // Whether a cell of that form is row and column.
 fn is_row_first(form: Form) -> bool
@@ -9,7 +10,9 @@ fn is_row_first(form: Form) -> bool
 {
     match form {
         Form::ByAgent => true,
+        Form::ByJson => true,
         Form::ByTime | Form::BySession | Form::ByMoves | Form::ByFlippedMoves => false,
+        Form::BySchedule => false,
     }
 }
 
@@ -20,7 +23,7 @@ pub fn has_rows_first(text: &[u8], form: Option<Form>) -> bool
 {
     match form {
         Some(form) => is_row_first(form),
-        None => match form_of(text) {
+        None => match form_of(without_mark(text)) {
             Ok(form) => is_row_first(form),
             Err(_) => false,
         },

@@ -8,6 +8,8 @@ use crate::faults::PathsFault;
 use crate::forms::{Form, form_of};
 use crate::lines::without_mark;
 use crate::relative::is_relative;
+use crate::robots::read_json;
+use crate::schedules::read_schedule;
 use crate::times::read_by_time;
 use crate::told::read_told;
 use grid_cells::{Cell, List};
@@ -33,6 +35,8 @@ fn in_form(alloc: Global, form: Form, text: &[u8]) -> Result<SolverPaths, PathsF
         Form::ByTime => read_by_time(alloc, text),
         Form::ByAgent | Form::BySession => read_told(alloc, form, text),
         Form::ByMoves | Form::ByFlippedMoves => read_moves(alloc, form, text),
+        Form::ByJson => read_json(alloc, text),
+        Form::BySchedule => read_schedule(alloc, text),
     }
 }
 

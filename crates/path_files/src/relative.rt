@@ -14,6 +14,8 @@ pub fn is_relative(form: Form) -> bool
     match form {
         Form::ByMoves | Form::ByFlippedMoves => true,
         Form::ByTime | Form::ByAgent | Form::BySession => false,
+        Form::ByJson => false,
+        Form::BySchedule => false,
     }
 }
 

@@ -52,8 +52,11 @@ fn has_path(told: &[Option<List<Cell>>], agent: usize) -> bool
     }
 }
 
-// The paths, and one more, of that line, in its agent's place.
-fn with_path(
+/// The paths, and one more, of that line, in its agent's place.
+///
+/// # Errors
+/// `BadAgent` where it has one; or want of memory.
+pub(crate) fn with_path(
     line: usize,
     told: List<Option<List<Cell>>>,
     agent: usize,
@@ -137,8 +140,11 @@ fn all_from(alloc: Global, told: List<Option<List<Cell>>>) -> Result<List<List<C
     Ok(paths)
 }
 
-// The same, of a text that has to have one.
-fn all_told(
+/// The same, of a text that has to have one.
+///
+/// # Errors
+/// `NoPaths` or `BadAgent`, or `MissingAgent`; or want of memory.
+pub(crate) fn all_told(
     alloc: Global,
     text: &[u8],
     told: List<Option<List<Cell>>>,

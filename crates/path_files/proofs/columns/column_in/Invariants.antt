@@ -1,12 +1,10 @@
-use Rattle.std.proofs.Common.{◌≡◌, ◌+◌, ◌≤◌, length}
-use Rattle.path_files.specs.Columns.{column_from, column_in, fields_of}
+use Rattle.std.proofs.Common.{◌≡◌, ◌-◌, ◌≤◌, drop, take}
+use Rattle.path_files.specs.Columns.{column_from, column_in}
 use Rattle.path_files.proofs.columns.column_in.Given as goal
 
-abbrev pub invariant-loop-field : goal.invariant-loop-field
-invariant-loop-field l = record {
-  so_far : column_in l.line ≡ column_from l.column (fields_of l.rest);
-  room : l.column + length l.rest ≤ length l.line;
+abbrev pub invariant-loop-at : goal.invariant-loop-at
+invariant-loop-at l = record {
+  so_far : column_in l.line ≡ column_from l.quoted l.column (take (l.at - l.front) (drop l.front l.line)) (drop l.at l.line);
+  reached : l.front ≤ l.at;
+  counted : l.column ≤ l.at;
 }
-
-abbrev pub decreases-loop-field : goal.decreases-loop-field
-decreases-loop-field l = length l.rest
