@@ -1,10 +1,11 @@
 -- A walk along the chain of one bucket.
-use Rattle.std.proofs.Common.{◌≡◌, ◌≢◌, ℕ, ◌<◌, ◌≤◌, List, length, get_or, Some, None, Option, refl, arith}
+use Rattle.std.proofs.Common.{◌≡◌, ◌≢◌, ℕ, ◌<◌, ◌≤◌, List, length, get_or, Some, None, Option, refl, sym, subst, arith}
 use Rattle.std.specs.List.{Contains}
 use Rattle.std.proofs.lemmas.List.{get_or_default}
+use Rattle.std.proofs.lemmas.List.Elements.{Contains-get_or}
 use Rattle.grid_cells.specs.Cell.{Point}
 use Rattle.desk_audit.specs.declared.tables.Pass.{Pass}
-use Rattle.desk_audit.specs.Filing.{bucket_of, slot_bucket, IsLastInBucket, IsFiled}
+use Rattle.desk_audit.specs.Filing.{bucket_of, slot_bucket, IsLastInBucket, IsFiled, HasFiled}
 use Rattle.desk_audit.specs.declared.tables.Slot.{Slot}
 use Rattle.desk_audit.specs.declared.tables.Table.{Table}
 
@@ -46,3 +47,23 @@ Gathers cell number agent found slot = slot.cell ≡ cell → slot.number ≡ nu
 
 pub gathers_others : (table : Table) (cell : Point) (number agent : ℕ) (found : List Pass) (slot : Slot) → slot_bucket (many_of table) slot ≢ bucket_of (many_of table) cell number → Gathers cell number agent found slot
 gathers_others table cell number agent found slot differs same_cell same_number other = absurd (differs (rw (same_cell, same_number) refl))
+
+-- a slot with another key
+abbrev pub IsApart : Point → ℕ → Slot → Type 0
+IsApart cell number slot = slot.cell ≡ cell → slot.number ≡ number → ⊥
+
+pub apart_others : (table : Table) (cell : Point) (number : ℕ) (slot : Slot) → slot_bucket (many_of table) slot ≢ bucket_of (many_of table) cell number → IsApart cell number slot
+apart_others table cell number slot differs same_cell same_number = differs (rw (same_cell, same_number) refl)
+
+-- where all slots have another key, nothing is filed
+pub none_filed : (table : Table) (cell : Point) (number : ℕ) → Walked table (bucket_of (many_of table) cell number) None (IsApart cell number) → HasFiled table cell number → ⊥
+none_filed table cell number walk (pass, filed) =
+    let slot : Slot = record { cell = cell; number = number; pass = pass; before = filed.0 } in
+    (rw filed.1.2 at (walk_over table _ (IsApart cell number) walk (apart_others table cell number) filed.1.0 slot filed.1.1)) refl refl
+
+-- a slot with the key is filed
+pub slot_filed : (table : Table) (cell : Point) (number place : ℕ) (slot : Slot) → place < length table.slots.items → slot ≡ get_or table.slots.items place slot → slot.cell ≡ cell → slot.number ≡ number → HasFiled table cell number
+slot_filed table cell number place slot within is same_cell same_number =
+    let there : Contains table.slots.items (get_or table.slots.items place slot) = Contains-get_or table.slots.items place slot within in
+    let here : Contains table.slots.items slot = subst (λ s. Contains table.slots.items s) (sym is) there in
+    (slot.pass, (slot.before, rw (← same_cell, ← same_number) here))

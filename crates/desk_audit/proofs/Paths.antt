@@ -14,32 +14,32 @@ use Rattle.desk_audit.specs.declared.sightings.Sightings.{Sightings}
 use Rattle.desk_audit.proofs.Places.{on_row, last_of_row, rests_at_last}
 
 -- what is filed for each time before one, and at it, is filed for each time before the next
-pub seen_more : (table new : Table) (agent time : ℕ) (path : List Point) (cell : Point) (number : ℕ → ℕ) (Due : ℕ → Type 0) → KeepsFiled table new → place path time ≡ Some cell
-    → ((t : ℕ) (c : Point) → t < time → place path t ≡ Some c → Due t → Files table c (number t) (pass t agent))
-    → (Due time → Files new cell (number time) (pass time agent))
-    → (t : ℕ) (c : Point) → t < time + 1 → place path t ≡ Some c → Due t → Files new c (number t) (pass t agent)
+pub seen_more : (table new : Table) (agent time : ℕ) (path : List Point) (cell : Point) (number : ℕ → ℕ) (Due : ℕ → Point → Type 0) → KeepsFiled table new → place path time ≡ Some cell
+    → ((t : ℕ) (c : Point) → t < time → place path t ≡ Some c → Due t c → Files table c (number t) (pass t agent))
+    → (Due time cell → Files new cell (number time) (pass time agent))
+    → (t : ℕ) (c : Point) → t < time + 1 → place path t ≡ Some c → Due t c → Files new c (number t) (pass t agent)
 seen_more table new agent time path cell number Due keeps at before here t c lt there due =
     elim (cases_lt t time) [
       | inl lower ↦ keeps c (number t) (pass t agent) (before t c lower there due)
       | inr higher ↦
           let same : t ≡ time = omega arith in
           let cells : cell ≡ c = grind arith in
-          rw (same, ← cells) (here (rw same at due))
+          rw (same, ← cells) (here (rw (same, ← cells) at due))
     ]
 
-pub keeps_path : (moments moments' passes passes' : Table) (agent : ℕ) (path : List Point) (first_rest : ℕ) → KeepsFiled moments moments' → KeepsFiled passes passes' → HasPath moments passes agent path first_rest → HasPath moments' passes' agent path first_rest
-keeps_path moments moments' passes passes' agent path first_rest keeps_m keeps_p has = record {
+pub keeps_path : (moments moments' passes passes' rests : Table) (agent : ℕ) (path : List Point) (first_rest : ℕ) → KeepsFiled moments moments' → KeepsFiled passes passes' → HasPath moments passes rests agent path first_rest → HasPath moments' passes' rests agent path first_rest
+keeps_path moments moments' passes passes' rests agent path first_rest keeps_m keeps_p has = record {
   seen = λ time cell early there. keeps_m cell time _ (has.seen time cell early there);
-  passed = λ time cell early there late. keeps_p cell 0 _ (has.passed time cell early there late);
+  passed = λ time cell early there late rest. keeps_p cell 0 _ (has.passed time cell early there late rest);
 }
 
-pub added_path : (moments moments' passes passes' : Table) (agent : ℕ) (path : List Point) (first_rest : ℕ) → AddsPath moments moments' passes passes' agent path first_rest (last_index path + 1) → HasPath moments' passes' agent path first_rest
-added_path moments moments' passes passes' agent path first_rest adds = record {
+pub added_path : (moments moments' passes passes' rests : Table) (agent : ℕ) (path : List Point) (first_rest : ℕ) → AddsPath moments moments' passes passes' rests agent path first_rest (last_index path + 1) → HasPath moments' passes' rests agent path first_rest
+added_path moments moments' passes passes' rests agent path first_rest adds = record {
   seen = λ time cell early there. adds.seen time cell (omega arith) there;
-  passed = λ time cell early there late. adds.passed time cell (omega arith) there late;
+  passed = λ time cell early there late rest. adds.passed time cell (omega arith) there late rest;
 }
 
-pub index_is : (mode : Mode) (rows : List (ℕ × Row)) (index : Sightings) → Rattle.desk_audit.specs.Filing.IsFiled index.rests → HasRests (tracks_of mode rows) index.rests → AllRestFrom (tracks_of mode rows) index.first_rest → HasPaths index.moments index.passes rows index.first_rest → IsIndexOf (tracks_of mode rows) index
+pub index_is : (mode : Mode) (rows : List (ℕ × Row)) (index : Sightings) → Rattle.desk_audit.specs.Filing.IsFiled index.rests → HasRests (tracks_of mode rows) index.rests → AllRestFrom (tracks_of mode rows) index.first_rest → HasPaths index.moments index.passes index.rests rows index.first_rest → IsIndexOf (tracks_of mode rows) index
 index_is mode rows index filed rests from paths = record {
   moments_filed = paths.moments_filed;
   rests_filed = filed;
@@ -50,7 +50,7 @@ index_is mode rows index filed rests from paths = record {
   passes = λ agent other time cell is resting.
       let at = on_row mode rows agent time cell is in
       let begun = from other time cell resting in
-      (paths.paths agent at.row at.live).passed time cell at.early at.there (omega (arith, resting.0));
+      (paths.paths agent at.row at.live).passed time cell at.early at.there (omega (arith, resting.0)) (pass _ other, rests other time cell resting);
 }
 
 -- an agent that is filed under its last cell is filed where it rests

@@ -4,14 +4,13 @@ use Rattle.std.specs.List.{Contains}
 use Rattle.grid_cells.specs.Grid.{Chart}
 use Rattle.plan_table.specs.Order.{ListsAll}
 use Rattle.plan_table.specs.Plans.{IsByAgent}
-use Rattle.plan_table.specs.Route.{Fleet, tracks_of}
+use Rattle.plan_table.specs.Route.{tracks_of}
 use Rattle.plan_table.specs.declared.plans.Row.{Row}
 use Rattle.plan_table.specs.declared.tracks.Mode.{Mode}
 use Rattle.scene_edits.specs.Scene.{SceneState}
 use Rattle.mapf_rules.specs.ConflictList.{Stands, AreConflicts, listing_key}
 use Rattle.mapf_rules.proofs.Live.{stands_first}
 use Rattle.plan_table.proofs.Fleets.{tracks_live}
-use Rattle.std.specs.Prelude.{IsSome}
 use Rattle.std.proofs.lemmas.List.{take_rest}
 use Rattle.mapf_rules.specs.declared.entries.Conflict.{Conflict}
 use Rattle.mapf_rules.specs.Visits.{visit_key}

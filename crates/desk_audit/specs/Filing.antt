@@ -32,6 +32,10 @@ pub record IsFiled (table : Table) : Type 0 where
 abbrev pub Files : Table → Point → ℕ → Pass → Type 0
 Files table cell number pass = (before : Option ℕ) × Contains table.slots.items (record { cell = cell; number = number; pass = pass; before = before })
 
+-- something is filed under the cell and the number
+abbrev pub HasFiled : Table → Point → ℕ → Type 0
+HasFiled table cell number = (pass : Pass) × Files table cell number pass
+
 -- what was filed is filed
 abbrev pub KeepsFiled : Table → Table → Type 0
 KeepsFiled old new = (cell : Point) (number : ℕ) (pass : Pass) → Files old cell number pass → Files new cell number pass

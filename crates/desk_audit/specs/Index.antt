@@ -6,7 +6,7 @@ use Rattle.plan_table.specs.Plans.{row_of}
 use Rattle.plan_table.specs.Route.{Fleet, position_of, last_of}
 use Rattle.plan_table.specs.declared.plans.Row.{Row}
 use Rattle.plan_table.specs.declared.tracks.Mode.{Mode}
-use Rattle.desk_audit.specs.Filing.{IsFiled, Files, KeepsFiled}
+use Rattle.desk_audit.specs.Filing.{IsFiled, Files, HasFiled, KeepsFiled}
 use Rattle.desk_audit.specs.declared.tables.Pass.{Pass}
 use Rattle.desk_audit.specs.declared.tables.Table.{Table}
 use Rattle.desk_audit.specs.declared.sightings.Sightings.{Sightings}
@@ -30,25 +30,25 @@ HasRests fleet rests = (agent time : ℕ) (cell : Point) → HasComeToRest fleet
 abbrev pub AllRestFrom : Fleet → ℕ → Type 0
 AllRestFrom fleet first = (agent time : ℕ) (cell : Point) → HasComeToRest fleet agent time cell → first ≤ last_of fleet agent
 
--- the tables keep what was filed, and have the places of the agent's path before that time
-pub record AddsPath (moments moments' passes passes' : Table) (agent : ℕ) (path : List Point) (first_rest end : ℕ) : Type 0 where
+-- the tables keep what was filed, and have the places of the agent's path before that time, those where another rests by cell alone, too
+pub record AddsPath (moments moments' passes passes' rests : Table) (agent : ℕ) (path : List Point) (first_rest end : ℕ) : Type 0 where
   pub moments_filed : IsFiled moments'
   pub passes_filed : IsFiled passes'
   pub keeps_moments : KeepsFiled moments moments'
   pub keeps_passes : KeepsFiled passes passes'
   pub seen : (time : ℕ) (cell : Point) → time < end → place path time ≡ Some cell → Files moments' cell time (pass time agent)
-  pub passed : (time : ℕ) (cell : Point) → time < end → place path time ≡ Some cell → first_rest < time → Files passes' cell 0 (pass time agent)
+  pub passed : (time : ℕ) (cell : Point) → time < end → place path time ≡ Some cell → first_rest < time → HasFiled rests cell 0 → Files passes' cell 0 (pass time agent)
 
 -- the tables have the agent's path
-pub record HasPath (moments passes : Table) (agent : ℕ) (path : List Point) (first_rest : ℕ) : Type 0 where
+pub record HasPath (moments passes rests : Table) (agent : ℕ) (path : List Point) (first_rest : ℕ) : Type 0 where
   pub seen : (time : ℕ) (cell : Point) → time ≤ last_index path → place path time ≡ Some cell → Files moments cell time (pass time agent)
-  pub passed : (time : ℕ) (cell : Point) → time ≤ last_index path → place path time ≡ Some cell → first_rest < time → Files passes cell 0 (pass time agent)
+  pub passed : (time : ℕ) (cell : Point) → time ≤ last_index path → place path time ≡ Some cell → first_rest < time → HasFiled rests cell 0 → Files passes cell 0 (pass time agent)
 
 -- the tables have each agent's path
-pub record HasPaths (moments passes : Table) (rows : List (ℕ × Row)) (first_rest : ℕ) : Type 0 where
+pub record HasPaths (moments passes rests : Table) (rows : List (ℕ × Row)) (first_rest : ℕ) : Type 0 where
   pub moments_filed : IsFiled moments
   pub passes_filed : IsFiled passes
-  pub paths : (agent : ℕ) (row : Row) → row_of rows agent ≡ Some row → HasPath moments passes agent row.plan first_rest
+  pub paths : (agent : ℕ) (row : Row) → row_of rows agent ≡ Some row → HasPath moments passes rests agent row.plan first_rest
 
 -- whoever is in a cell is filed there: on its path by cell and time, at rest by cell, and by cell alone, too,
 -- where it comes to a cell in which another is at rest; no rest begins before the first that is noted

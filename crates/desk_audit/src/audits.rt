@@ -1,5 +1,7 @@
-ghost use Rattle.std.specs.Prelude.{◌≡◌, ◌<◌, ◌≤◌, ◌↔◌, ◌⊎◌, IfOk, IfSome, IsErrOf, length};
+ghost use Rattle.std.specs.Prelude.{◌≡◌, ◌<◌, ◌≤◌, ◌↔◌, ◌⊎◌, IfOk, IfSome, IsErrOf, Contains, length};
+ghost use Rattle.plan_table.specs.Order.{ListsAll};
 ghost use Rattle.plan_table.specs.Route.{tracks_of};
+ghost use Rattle.mapf_rules.specs.ConflictList.{listing_key};
 ghost use Rattle.desk_report.specs.Report.{IsReportOf};
 ghost use Rattle.desk_audit.specs.Index.{IsIndexOf};
 ghost use Rattle.desk_audit.specs.Parts.{IsPart};
@@ -11,7 +13,7 @@ use crate::sightings::Sightings;
 use crate::threads::{in_scope, part_of};
 use desk_report::{Report, with_totals};
 use grid_cells::{List, OutOfMemory};
-use mapf_rules::sorted;
+use mapf_rules::{Conflict, sorted};
 use scene_edits::Scene;
 use std::alloc::Global;
 use std::sync::Wait;
@@ -20,6 +22,18 @@ use std::thread::Threads;
 
 /// The most threads of an audit.
 pub(crate) const MOST_WORKERS: u32 = 64;
+
+// The entries of all pieces in the order in which they are listed, each once. Those of a piece are in
+// that order, and the sort merges what is in order.
+fn merged(mut entries: Vec<Conflict>) -> Result<List<Conflict>, OutOfMemory>
+    ensures { IfOk result (ListsAll listing_key (Contains entries.items)) }
+{
+    if entries.sort().is_err() {
+        drop(entries);
+        return Err(OutOfMemory);
+    }
+    Ok(sorted(entries))
+}
 
 // The report of the scene, whose part of all agents that is.
 fn report_of(alloc: Global, scene: &Scene, whole: Part) -> Result<Report, OutOfMemory>
@@ -33,7 +47,11 @@ fn report_of(alloc: Global, scene: &Scene, whole: Part) -> Result<Report, OutOfM
         visits,
         lines,
     } = whole;
-    let conflicts = sorted(conflicts);
+    let Ok(conflicts) = merged(conflicts) else {
+        drop(visits);
+        drop(lines);
+        return Err(OutOfMemory);
+    };
     let report = with_totals(alloc, plans, conflicts, List::new(visits), List::new(lines))?;
     Ok(report)
 }

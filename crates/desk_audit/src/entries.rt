@@ -1,6 +1,7 @@
 //! The conflict entries of a piece: those whose first written agent has a rank in the piece.
 ghost use Rattle.std.specs.Prelude.{◌≡◌, ◌<◌, ◌≤◌, IfOk, OnOk, Some, length};
 ghost use Rattle.plan_table.specs.Route.{tracks_of, position_of, last_of};
+ghost use Rattle.mapf_rules.specs.ConflictList.{IsListed};
 ghost use Rattle.desk_audit.specs.Index.{IsIndexOf};
 ghost use Rattle.desk_audit.specs.Parts.{AreEntriesOf};
 ghost use Rattle.desk_audit.specs.Seeking.{FindsAll, FindsLed, FindsRanked, HasOthersIn, IsAhead, IsFirstAfter, IsFirstAt};
@@ -10,7 +11,7 @@ use crate::movers::Indexed;
 use crate::sightings::Sightings;
 use crate::tables::Pass;
 use grid_cells::{Agent, Cell, OutOfMemory, Step};
-use mapf_rules::Conflict;
+use mapf_rules::{Conflict, sorted};
 use plan_table::{MOST_LAST_INDEX, Mode, Plans};
 use std::alloc::Global;
 
@@ -140,7 +141,8 @@ fn add_agent(
     Ok(())
 }
 
-/// The entries whose first written agent has a rank from one on and before another.
+/// The entries whose first written agent has a rank from one on and before another, in the order in
+/// which they are listed, so that those of all pieces need only be merged.
 pub(crate) fn entries_of(
     alloc: Global,
     plans: &Plans,
@@ -152,11 +154,12 @@ pub(crate) fn entries_of(
     requires order { from ≤ to }
     requires within { to ≤ length plans.now.rows }
     requires index { IsIndexOf (tracks_of mode plans.now.rows) index.now }
-    ensures { IfOk result (λ entries. AreEntriesOf (tracks_of mode plans.now.rows) plans.now.rows from to entries.items) }
+    ensures exact { IfOk result (λ entries. AreEntriesOf (tracks_of mode plans.now.rows) plans.now.rows from to entries.items) }
+    ensures listed { IfOk result (λ entries. IsListed entries.items) }
 {
     let mut entries = Vec::new(alloc);
     for rank in from..to {
         add_agent(alloc, &mut entries, plans, mode, index, rank)?;
     }
-    Ok(entries)
+    Ok(sorted(entries).into_items())
 }

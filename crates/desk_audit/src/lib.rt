@@ -3,7 +3,8 @@
 //! `sightings` is the index, filed in `tables`; it is made once and lent. `threads` starts a thread for
 //! each piece, under a promise that says what its part is; a part (`parts`) is made by `entries`, with
 //! `adding` for what an agent meets and `movers` for the rings, by `visits` and by `lines`, whose lower
-//! bounds `piece_bounds` notes and `bounds` makes. `audits` puts the parts together.
+//! bounds `piece_bounds` notes and `bounds` makes. The entries of a part are in order, so that `audits`,
+//! which puts the parts together, only merges them.
 #![tactic(auto)]
 
 mod adding;

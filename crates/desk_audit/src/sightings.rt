@@ -1,13 +1,13 @@
 //! The index of an audit: which agents are in which cell at which time. It is made once, from the
 //! plans alone, and lent to all pieces.
-ghost use Rattle.std.specs.Prelude.{◌+◌, IfOk, OnOk};
+ghost use Rattle.std.specs.Prelude.{◌+◌, ◌<◌, IfOk, OnOk};
 ghost use Rattle.plan_table.specs.Path.{last_index};
 ghost use Rattle.plan_table.specs.Route.{tracks_of};
-ghost use Rattle.desk_audit.specs.Filing.{IsFiled};
+ghost use Rattle.desk_audit.specs.Filing.{IsFiled, Files, HasFiled, KeepsFiled};
 ghost use Rattle.desk_audit.specs.Index.{IsIndexOf, HasRests, AllRestFrom, AddsPath, HasPaths};
 
 use crate::tables::{Pass, Table};
-use grid_cells::{Agent, OutOfMemory, Step};
+use grid_cells::{Agent, Cell, OutOfMemory, Step};
 use plan_table::{Mode, Plan, Plans};
 use std::alloc::Global;
 
@@ -19,7 +19,8 @@ pub(crate) struct Sightings {
     pub moments: Table,
     // Each agent that never leaves in its last cell, by cell, with the last index of its path.
     pub rests: Table,
-    // Each agent in each cell of its path after the first of all rests has begun, by cell.
+    // Each agent in each cell of its path in which an agent rests, after the first of all rests has
+    // begun, by cell.
     pub passes: Table,
     // A time before which no rest begins.
     pub first_rest: u32,
@@ -37,7 +38,7 @@ impl Sightings {
         let mut passes = Table::new(alloc, agents, 0)?;
         file_rests(&mut rests, mode, plans)?;
         let first_rest = first_rest(mode, plans);
-        file_paths(&mut moments, &mut passes, plans, first_rest)?;
+        file_paths(&mut moments, &mut passes, &rests, plans, first_rest)?;
         Ok(Sightings {
             moments,
             rests,
@@ -90,24 +91,47 @@ fn first_rest(mode: Mode, plans: &Plans) -> u32
     first
 }
 
+// Files the agent in a cell in which an agent rests, once the first of all rests has begun.
+fn file_pass(
+    passes: &mut Table,
+    rests: &Table,
+    first_rest: u32,
+    cell: Cell,
+    pass: Pass,
+) -> Result<(), OutOfMemory>
+    requires passes { IsFiled passes.old }
+    requires rests { IsFiled rests.now }
+    ensures filed { OnOk result (IsFiled passes.new) }
+    ensures keeps { OnOk result (KeepsFiled passes.old passes.new) }
+    ensures has { OnOk result (first_rest < pass.time → HasFiled rests.now cell 0 → Files passes.new cell 0 pass) }
+{
+    if pass.time <= first_rest {
+        return Ok(());
+    }
+    if !rests.has(cell, 0) {
+        return Ok(());
+    }
+    passes.file(cell, 0, pass)
+}
+
 // Files the agent in each cell of its path.
 fn file_path(
     moments: &mut Table,
     passes: &mut Table,
+    rests: &Table,
     agent: Agent,
     plan: &Plan,
     first_rest: u32,
 ) -> Result<(), OutOfMemory>
     requires moments { IsFiled moments.old }
     requires passes { IsFiled passes.old }
-    ensures { OnOk result (AddsPath moments.old moments.new passes.old passes.new agent plan.now first_rest (last_index plan.now + 1)) }
+    requires rests { IsFiled rests.now }
+    ensures { OnOk result (AddsPath moments.old moments.new passes.old passes.new rests.now agent plan.now first_rest (last_index plan.now + 1)) }
 {
     for time in 0..plan.last() + 1 {
         let cell = plan.at(Step::new(time));
         moments.file(cell, time, Pass { time, agent })?;
-        if first_rest < time {
-            passes.file(cell, 0, Pass { time, agent })?;
-        }
+        file_pass(passes, rests, first_rest, cell, Pass { time, agent })?;
     }
     Ok(())
 }
@@ -116,16 +140,18 @@ fn file_path(
 fn file_paths(
     moments: &mut Table,
     passes: &mut Table,
+    rests: &Table,
     plans: &Plans,
     first_rest: u32,
 ) -> Result<(), OutOfMemory>
     requires moments { IsFiled moments.old }
     requires passes { IsFiled passes.old }
-    ensures { OnOk result (HasPaths moments.new passes.new plans.now.rows first_rest) }
+    requires rests { IsFiled rests.now }
+    ensures { OnOk result (HasPaths moments.new passes.new rests.now plans.now.rows first_rest) }
 {
     for rank in 0..plans.count() {
         let entry = plans.entry_at(rank);
-        file_path(moments, passes, entry.0, &entry.1.plan, first_rest)?;
+        file_path(moments, passes, rests, entry.0, &entry.1.plan, first_rest)?;
     }
     Ok(())
 }

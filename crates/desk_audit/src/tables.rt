@@ -1,7 +1,7 @@
 //! Sightings of agents, filed under a cell and a number: each bucket is a chain of slots, the one
 //! filed last first, so that a look-up goes over the slots of one bucket alone.
 ghost use Rattle.std.specs.Prelude.{◌≡◌, ◌≢◌, ◌↔◌, IsTrue, ℕ, ◌<◌, ◌≤◌, IfOk, OnOk, Contains, length};
-ghost use Rattle.desk_audit.specs.Filing.{bucket_of, IsFiled, Files, KeepsFiled};
+ghost use Rattle.desk_audit.specs.Filing.{bucket_of, IsFiled, Files, HasFiled, KeepsFiled};
 
 use grid_cells::{Agent, Cell, OutOfMemory};
 use std::alloc::Global;
@@ -30,6 +30,13 @@ pub(crate) struct Table {
 }
 
 impl Slot {
+    // Whether it is filed under the cell and the number.
+    fn is_under(&self, cell: Cell, number: u32) -> bool
+        ensures { IsTrue result ↔ ((self.now.cell ≡ cell) × (self.now.number ≡ number)) }
+    {
+        self.cell == cell && self.number == number
+    }
+
     // Whether it is filed under the cell and the number, and is of another agent than that one.
     fn is_other(&self, cell: Cell, number: u32, agent: Agent) -> bool
         ensures { IsTrue result ↔ ((self.now.cell ≡ cell) × (self.now.number ≡ number) × (self.now.pass.agent ≢ agent)) }
@@ -82,6 +89,22 @@ impl Table {
         })?;
         self.heads[bucket] = Some(place);
         Ok(())
+    }
+
+    // Whether anything is filed under the cell and the number.
+    pub(crate) fn has(&self, cell: Cell, number: u32) -> bool
+        requires { IsFiled self.now }
+        ensures { IsTrue result ↔ HasFiled self.now cell number }
+    {
+        let mut next = self.heads[bucket(self.heads.len(), cell, number)];
+        while let Some(place) = next {
+            let slot = &self.slots[place as usize];
+            if slot.is_under(cell, number) {
+                return true;
+            }
+            next = slot.before;
+        }
+        false
     }
 
     // Adds what is filed under the cell and the number, of other agents than that one.

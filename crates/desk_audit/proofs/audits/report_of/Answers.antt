@@ -15,7 +15,7 @@ returns c =
     let scene = c.args.scene.now in
     let made = c.in_ok-report.ensures in
     record {
-      conflicts = rw made.conflicts (all_entries scene.mode scene.rows c.args.whole.conflicts.items _ c.requires.entries c.sorted-conflicts.ensures);
+      conflicts = rw made.conflicts (all_entries scene.mode scene.rows c.args.whole.conflicts.items _ c.requires.entries c.in-Ok.ensures);
       visits = rw (made.visits, c.new.ensures) (all_visits scene.grid scene.rows c.args.whole.visits.items c.requires.visits);
       lines = rw (made.lines, c.new-2.ensures) (rw range_all at c.requires.lines);
       sum = rw c.plans-plans.ensures.rows at made.sum;

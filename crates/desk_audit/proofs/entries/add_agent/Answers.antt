@@ -1,7 +1,6 @@
 use Rattle.std.proofs.Common.{◌≡◌, ◌+◌, Some, sym, ap, ◌∙◌, inl, inr, arith}
 use Rattle.std.proofs.lemmas.Bool.{cases_lt}
 use Rattle.std.proofs.lemmas.Option.{same_Some}
-use Rattle.plan_table.specs.Route.{tracks_of}
 use Rattle.plan_table.proofs.Fleets.{row_here}
 use Rattle.mapf_rules.specs.Naming.{time_of, first_agent}
 use Rattle.desk_audit.proofs.Finding.{finds_then}
