@@ -23,9 +23,19 @@ verdict_unread (faults.NoCells line) = None
 verdict_unread (faults.CellCount line) = None
 verdict_unread (faults.TooManyAgents line) = None
 verdict_unread (faults.BadMove line time) = None
+verdict_unread (faults.BadJson line column) = None
+verdict_unread faults.TurningRobots = None
+verdict_unread faults.OtherModel = None
+verdict_unread (faults.BadMember member) = None
+verdict_unread (faults.BadStart agent) = None
+verdict_unread (faults.BadAction agent time) = None
+verdict_unread faults.TooManyPaths = None
 verdict_unread faults.OpenQuote = None
 verdict_unread faults.NoStarts = None
 verdict_unread (faults.MissingAgent agent) = None
+verdict_unread (faults.BadPlace line time) = None
+verdict_unread (faults.MissingPlace time) = None
+verdict_unread faults.MissingSchedule = None
 verdict_unread faults.OutOfMemory = None
 
 -- the verdict by a fault of a check
