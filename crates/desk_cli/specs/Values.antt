@@ -32,7 +32,7 @@ use Rattle.session_lines.specs.Values.{agent_of, with_both}
 use Rattle.session_lines.specs.declared.versions.LinesVersion.{LinesVersion}
 use Rattle.session_lines.specs.declared.versions.LinesVersion.TheVariants.{One, Two}
 use Rattle.path_files.specs.declared.forms.Form.{Form}
-use Rattle.path_files.specs.declared.forms.Form.TheVariants.{ByTime, ByAgent, BySession, ByMoves, ByFlippedMoves}
+use Rattle.path_files.specs.declared.forms.Form.TheVariants.{ByTime, ByAgent, BySession, ByMoves, ByFlippedMoves, ByJson, BySchedule}
 use Rattle.clap.specs.Matches.{first_value, matched_of, raw_values}
 use Rattle.clap.specs.declared.parser.matches.Found.{Found}
 
@@ -79,6 +79,8 @@ form_named (Some text) =
     else if bytes_eq text (codes "agent") then Some ByAgent
     else if bytes_eq text (codes "session") then Some BySession
     else if bytes_eq text (codes "moves") then Some ByMoves
+    else if bytes_eq text (codes "json") then Some ByJson
+    else if bytes_eq text (codes "schedule") then Some BySchedule
     else None
 
 -- that form, where moves are flipped or aren't; flipped without a form, the paths are moves

@@ -104,14 +104,17 @@ Example:
   mapf_desk host --map demo/corridor.map east west";
 
 pub(crate) const CHECK_HELP: &str = "\
-A solver's paths are read in one of four forms, recognised by the first line of one:
+A solver's paths are read in one of these forms, recognised by the first line of one:
   time      solution= or not, and lines 0:(X,Y),(X,Y),    as LaCAM and PIBT print them
   agent     lines Agent 0: (ROW,COLUMN)->(ROW,COLUMN)->   as CBS, EECBS, PBS and MAPF-LNS2 do
   session   lines path 0 X,Y X,Y                          as serve takes them
   moves     rows of letters u d l r w, from the starts    as MAPF Tracker has them, also in a CSV file
                                                           with a column solution_plan; needs --scen
-Blank lines and remarks (#) mean nothing, and by time and agent other lines may stand before the
-paths and behind them. Agents may come in any order, and be numbered from 1.
+  json      {\"start\": [[ROW,COLUMN],..],                  as the League of Robot Runners and PlanViz
+             \"actualPaths\": [\"R,D,W\",..], ..}             do where robots don't turn
+  schedule  schedule:, agent0:, - x: X, y: Y, t: 0        as libMultiRobotPlanning does, a line each
+Blank lines and remarks (#) mean nothing, and by time, agent and schedule other lines may stand before
+the paths and behind them. Agents may come in any order, and be numbered from 1.
 Starts and goals are the scenario's first tasks; without a scenario they are what the file of paths
 says, and else the first and the last cells of the paths.
 
@@ -127,7 +130,7 @@ With one of these lines it is solves no, whatever the report says:
                                 that of the scenario, of --agents or of the paths; or stands there twice
   no paths                      the file has none, as a solver prints that found none
 There is no report with lines wrong, or with no paths.
-With --json all of this is one JSON object. Costs of the file, soc= and makespan=, that aren't those of
+With --json all of this is one JSON object. Costs of the file, soc= and makespan= (cost: and makespan:), that aren't those of
 the report are reported on standard error in a line note: each, and change no verdict.
 
 Statuses: 0 solves yes; 1 solves no; 2 a fault, reported on standard error: there is no verdict.

@@ -122,7 +122,10 @@ pub(crate) const NEEDED_PATHS: Argument = Argument {
 
 pub(crate) const FORM: Argument = Argument {
     name: "form",
-    value: Value::OneOf("FORM", &["time", "agent", "session", "moves"]),
+    value: Value::OneOf(
+        "FORM",
+        &["time", "agent", "session", "moves", "json", "schedule"],
+    ),
     help: "How the paths are written; if it isn't given, their lines say it",
     ..FILE
 };

@@ -167,6 +167,10 @@ fn form_named(text: Option<&str>) -> Option<Form>
         Some(Form::BySession)
     } else if text == "moves" {
         Some(Form::ByMoves)
+    } else if text == "json" {
+        Some(Form::ByJson)
+    } else if text == "schedule" {
+        Some(Form::BySchedule)
     } else {
         None
     }
