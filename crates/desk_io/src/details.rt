@@ -103,8 +103,10 @@ fn paths_line(why: PathsFault) -> Option<usize>
         | PathsFault::BadPath { line }
         | PathsFault::BadCell { line, .. }
         | PathsFault::BadMove { line, .. }
+        | PathsFault::BadJson { line, .. }
         | PathsFault::NoCells { line }
         | PathsFault::CellCount { line }
+        | PathsFault::BadPlace { line, .. }
         | PathsFault::TooManyAgents { line } => Some(line),
         _ => None,
     }

@@ -5,18 +5,20 @@ use path_files::PathsFault;
 pub(crate) fn expected(why: PathsFault) -> &'static str {
     match why {
         PathsFault::NoForm { .. } => {
-            "0:(X,Y),.., Agent 0: (ROW,COLUMN)->.., path 0 X,Y .. or moves udlrw"
+            "0:(X,Y),.., Agent 0: (ROW,COLUMN)->.., path 0 X,Y .., {JSON}, schedule: or moves udlrw"
         }
         PathsFault::BadHeader { .. } => "a number of agents",
         PathsFault::RepeatedList { .. } => "that once",
         PathsFault::BadTime { .. } => "the next time T, as T:(X,Y),(X,Y),..",
-        PathsFault::BadAgent { .. } => "Agent N: (ROW,COLUMN)->.., each N once",
+        PathsFault::BadAgent { .. } => "Agent N: (ROW,COLUMN)->.. or agentN:, each N once",
         PathsFault::BadPath { .. } => "path AGENT X,Y X,Y ..",
         PathsFault::BadCell { .. } => "a cell, as (3,0)",
         PathsFault::BadMove { .. } => "u, d, l, r or w",
+        PathsFault::BadJson { .. } => "JSON",
         PathsFault::NoCells { .. } => "a cell at least",
         PathsFault::CellCount { .. } => "as many cells as at time 0",
         PathsFault::TooManyAgents { .. } => "8192 agents at most",
+        PathsFault::BadPlace { .. } => "a line each of - x: X, y: Y and t: T, the next time",
         _ => "a path",
     }
 }

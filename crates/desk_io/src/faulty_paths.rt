@@ -22,9 +22,11 @@ impl fmt::Display for Spelled {
         match form {
             Form::ByTime => write!(f, "({},{})", cell.x(), cell.y()),
             Form::ByAgent => write!(f, "({},{})", cell.y(), cell.x()),
+            Form::ByJson => write!(f, "[{},{}]", cell.y(), cell.x()),
             Form::BySession | Form::ByMoves | Form::ByFlippedMoves => {
                 write!(f, "{},{}", cell.x(), cell.y())
             }
+            Form::BySchedule => write!(f, "x: {}, y: {}", cell.x(), cell.y()),
         }
     }
 }
