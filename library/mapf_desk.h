@@ -64,8 +64,11 @@ typedef enum {
     DESK_REFUSED         /* for another reason of the desk, which none of these calls gives it */
 } desk_status;
 
-/* How solvers write paths: the first line tells it, or a line for each time, for each agent, or of a session. */
-typedef enum { DESK_ANY_FORM, DESK_BY_TIME, DESK_BY_AGENT, DESK_BY_SESSION } desk_form;
+/* How solvers write paths: the first line tells it, or a line for each time, for each agent, of a session, an object of JSON, a
+   schedule, or rows of moves, where up is y - 1, or y + 1 if they are flipped. */
+typedef enum {
+    DESK_ANY_FORM, DESK_BY_TIME, DESK_BY_AGENT, DESK_BY_SESSION, DESK_BY_JSON, DESK_BY_SCHEDULE, DESK_BY_MOVES, DESK_BY_FLIPPED_MOVES
+} desk_form;
 
 /* What is listed of a report: all, no conflicts of kinds that don't count, or only how many there are. */
 typedef enum { DESK_ALL, DESK_ONLY, DESK_QUIET } desk_listing;

@@ -43,7 +43,7 @@ using Cell = desk_cell;
 using Conflict = desk_conflict;
 
 enum class Mode { stay, disappear };
-enum class Form { any, by_time, by_agent, by_session };
+enum class Form { any, by_time, by_agent, by_session, by_json, by_schedule, by_moves, by_flipped_moves };
 enum class Listing { all, only, quiet };
 
 namespace detail {

@@ -3,13 +3,14 @@ from __future__ import annotations
 
 import ctypes
 from dataclasses import dataclass
-from typing import Literal, Sequence
+from typing import Literal, Sequence, get_args
 
 from . import exports
 from .desks import Fault, Kind, Mode, flags_of_kinds, is_leaving, text_bytes
 
 NO_NUMBER = 2**32 - 1
-FORMS = (None, "time", "agent", "session")
+Form = Literal["time", "agent", "session", "json", "schedule", "moves", "flipped moves"]
+FORMS = (None, *get_args(Form))
 FAULT = 2
 
 
@@ -26,7 +27,7 @@ def check(
     scen: str | bytes | None,
     agents: int | None,
     paths: str | bytes,
-    form: Literal["time", "agent", "session"] | None = None,
+    form: Form | None = None,
     kinds: Sequence[Kind] = ("vertex", "swap"),
     mode: Mode = "stay",
     quiet: bool = False,

@@ -1,5 +1,6 @@
 """Verdicts on solvers' paths, from C, C++ and Python, beside the program's `check`: the status, and each byte."""
 import argparse
+import json
 import random
 from pathlib import Path
 from typing import NamedTuple, Optional
@@ -8,7 +9,9 @@ from processes.running import run, want
 from processes.solvers import examples
 
 KINDS = {"vertex": 1, "edge": 4, "follow": 8, "swap": 16, "cycle": 32}  # bits, as the header has them
-FORMS, MODES = (None, "time", "agent", "session"), ("stay", "disappear")
+WORDS = {"flipped moves": ("moves", "--flip")}  # of the forms that the program has by two words
+FORMS = (None, "time", "agent", "session", "json", "schedule", "moves", "flipped moves")
+MODES = "stay", "disappear"
 RANDOM = 400
 
 
@@ -29,11 +32,12 @@ def of_row(field, row):
     words = argparse.ArgumentParser()
     for name, how in (("scen", {}), ("agents", {"type": int}), ("form", {}), ("mode", {"default": "stay"}), ("solves", {"nargs": "+", "default": ["vertex", "swap"]})):
         words.add_argument(f"--{name}", **how)
-    for name in ("quiet", "only"):
+    for name in ("quiet", "only", "flip"):
         words.add_argument(f"--{name}", action="store_true")
     said, _ = words.parse_known_args(row.value("words").split())
     scen = (row.text("scenario") or field.text("scenario")) if said.scen else None
-    return Case(row.map() or field.map(), scen, said.agents, row.text("paths"), said.form, tuple(said.solves), said.mode, said.quiet, said.only)
+    form = "flipped moves" if said.flip and said.form in (None, "moves") else said.form
+    return Case(row.map() or field.map(), scen, said.agents, row.text("paths"), form, tuple(said.solves), said.mode, said.quiet, said.only)
 
 
 def walk(chance):
@@ -60,12 +64,31 @@ def by_session(walks):
     return "".join(f"path {agent} {' '.join(f'{x},{y}' for x, y in cells)}\n" for agent, cells in enumerate(walks))
 
 
+def moves_of(walks):
+    moves = {(1, 0): "R", (-1, 0): "L", (0, 1): "D", (0, -1): "U", (0, 0): "W"}
+    return [",".join(moves[x - a, y - b] for (a, b), (x, y) in zip(it, it[1:])) for it in walks]
+
+
+def by_json(walks):
+    return json.dumps({"teamSize": len(walks), "start": [it[0][::-1] for it in walks], "actualPaths": moves_of(walks)}) + "\n"
+
+
+def by_moves(walks):
+    return "".join(f"{it or 'w'}\n" for it in moves_of(walks))
+
+
+def by_schedule(walks):
+    place = lambda time, cell: f"    - x: {cell[0]}\n      y: {cell[1]}\n      t: {time}\n"
+    agents = (f"  agent{agent}:\n" + "".join(place(*it) for it in enumerate(cells)) for agent, cells in enumerate(walks))
+    return "statistics:\n  cost: 3\nschedule:\n" + "".join(agents)
+
+
 def random_case(seed, ground, changed):
     """Paths of up to four agents, now and then of a text with wrong bytes."""
     chance = random.Random(seed)
     walks = [walk(chance) for _ in range(1 + chance.randrange(4))]
     tasks = "".join(f"0\tm\t5\t4\t{it[0][0]}\t{it[0][1]}\t{it[-1][0]}\t{it[-1][1]}\t4\n" for it in walks)
-    texts = [ground.encode(), f"version 1\n{tasks}".encode(), chance.choice((by_time, by_agent, by_session))(walks).encode()]
+    texts = [ground.encode(), f"version 1\n{tasks}".encode(), chance.choice((by_time, by_agent, by_session, by_json, by_schedule, by_moves))(walks).encode()]
     if seed % 3 == 0:
         texts = [changed(chance, it) for it in texts]
     ground, scen, paths = texts
@@ -96,7 +119,7 @@ def checked(case):
     put(case)
     words = ["--map", "ground", "--paths", "paths", "--mode", case.mode, "--solves", *case.kinds]
     words += ["--scen", "tasks"] * (case.scen is not None) + ["--agents", str(case.agents)] * (case.agents is not None)
-    words += ["--form", str(case.form)] * (case.form is not None) + ["--quiet"] * case.quiet + ["--only"] * case.only
+    words += [it for form in [case.form] if form for it in ("--form", *WORDS.get(form, (form,)))] + ["--quiet"] * case.quiet + ["--only"] * case.only
     status, out, complaint = run(["check", *words])
     return (status, out) if status < 2 else (status, complaint.removeprefix("mapf_desk: ").removesuffix("\n"))
 

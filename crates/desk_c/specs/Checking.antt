@@ -2,13 +2,13 @@
 use Rattle.std.specs.Prelude.{◌≡◌, ◌==◌, ◌⊎◌, if◌then◌else◌, ℕ, List, [], Option, Some, None, Bool, true, false}
 use Rattle.plan_table.specs.declared.tracks.Mode.{Mode}
 use Rattle.path_files.specs.declared.forms.Form.{Form}
-use Rattle.path_files.specs.declared.forms.Form.TheVariants.{ByTime, ByAgent, BySession}
+use Rattle.path_files.specs.declared.forms.Form.TheVariants.{ByTime, ByAgent, BySession, ByMoves, ByFlippedMoves, ByJson, BySchedule}
 use Rattle.mapf_rules.specs.declared.kinds.Kinds.{Kinds}
 use Rattle.solver_check.specs.Checks.{Checks, IsCheckFault}
 use Rattle.solver_check.specs.declared.checks.faults.CheckFault.{CheckFault}
 use Rattle.solver_check.specs.declared.checks.listings.Listing.{Listing}
 use Rattle.desk_c.specs.Calls.{HasCopied}
-use Rattle.desk_c.specs.declared.checking.TheConstants.{SOLVED, UNSOLVED, FAULT, BY_TIME, BY_AGENT, BY_SESSION}
+use Rattle.desk_c.specs.declared.checking.TheConstants.{SOLVED, UNSOLVED, FAULT, BY_TIME, BY_AGENT, BY_SESSION, BY_JSON, BY_SCHEDULE, BY_MOVES, BY_FLIPPED_MOVES}
 use Rattle.desk_c.specs.declared.numbers.TheConstants.{NO_NUMBER}
 
 -- a number, where it is given
@@ -17,7 +17,10 @@ number_in n = if n == NO_NUMBER then None else (Some n)
 
 -- the form that a number stands for; for any other the first line tells it
 abbrev pub form_in : ℕ → Option Form
-form_in n = if n == BY_TIME then (Some ByTime) else (if n == BY_AGENT then (Some ByAgent) else (if n == BY_SESSION then (Some BySession) else None))
+form_in n =
+    if n == BY_TIME then (Some ByTime) else (if n == BY_AGENT then (Some ByAgent) else (if n == BY_SESSION then (Some BySession) else
+    (if n == BY_JSON then (Some ByJson) else (if n == BY_SCHEDULE then (Some BySchedule) else
+    (if n == BY_MOVES then (Some ByMoves) else (if n == BY_FLIPPED_MOVES then (Some ByFlippedMoves) else None))))))
 
 abbrev pub status_of_verdict : Bool → ℕ
 status_of_verdict true = SOLVED

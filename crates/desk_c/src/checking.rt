@@ -26,6 +26,14 @@ pub const BY_TIME: u32 = 1;
 pub const BY_AGENT: u32 = 2;
 /// They are written as a session has them.
 pub const BY_SESSION: u32 = 3;
+/// They are an object of JSON.
+pub const BY_JSON: u32 = 4;
+/// They are written as a schedule of libMultiRobotPlanning.
+pub const BY_SCHEDULE: u32 = 5;
+/// They are rows of moves, and up is the row before.
+pub const BY_MOVES: u32 = 6;
+/// They are rows of moves, and up is the row behind.
+pub const BY_FLIPPED_MOVES: u32 = 7;
 
 /// Gives a verdict on a solver's paths, by the kinds of conflicts that are named, as the program's `check` prints it. Copies as
 /// many bytes of its text as there is room for, and gives the length of the whole; where there is no verdict it is the fault's
@@ -96,6 +104,14 @@ fn form_of(form: u32) -> Option<Form>
         Some(Form::ByAgent)
     } else if form == BY_SESSION {
         Some(Form::BySession)
+    } else if form == BY_JSON {
+        Some(Form::ByJson)
+    } else if form == BY_SCHEDULE {
+        Some(Form::BySchedule)
+    } else if form == BY_MOVES {
+        Some(Form::ByMoves)
+    } else if form == BY_FLIPPED_MOVES {
+        Some(Form::ByFlippedMoves)
     } else {
         None
     }
