@@ -16,6 +16,10 @@ pub fn form_of(word: &str) -> Option<Form> {
         Some(Form::ByMoves)
     } else if word == "flipped" {
         Some(Form::ByFlippedMoves)
+    } else if word == "json" {
+        Some(Form::ByJson)
+    } else if word == "schedule" {
+        Some(Form::BySchedule)
     } else {
         None
     }
@@ -28,6 +32,8 @@ fn name_of(form: Form) -> &'static str {
         Form::BySession => "session",
         Form::ByMoves => "moves",
         Form::ByFlippedMoves => "flipped",
+        Form::ByJson => "json",
+        Form::BySchedule => "schedule",
     }
 }
 

@@ -32,6 +32,8 @@ pub fn put_form(text: &mut String, form: Option<Form>) -> Result<(), AllocError>
         Some(Form::BySession) => text.push_str(" form=session"),
         Some(Form::ByMoves) => text.push_str(" form=moves"),
         Some(Form::ByFlippedMoves) => text.push_str(" form=flipped"),
+        Some(Form::ByJson) => text.push_str(" form=json"),
+        Some(Form::BySchedule) => text.push_str(" form=schedule"),
     }
 }
 
