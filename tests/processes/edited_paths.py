@@ -14,7 +14,7 @@ from .plain_words import Fault
 from .running import put, remove, run, want
 
 
-LIKELY = b" \t\r\n,,()()->:=#Apgsux0123456789"
+LIKELY = b" \t\r\n,,()()->:=#Apgsux0123456789-xyt"
 # Files of paths as programs print them, with a log, remarks, blanks, in any order; one repeats its starts, one has none, one has moves.
 TEXTS = [
     b"agents=2\nsolved=1\nstarts=(0,0),(2,1),\ngoals=(1,0),(0,1),\nsolution=\n0:(0,0),(2,1),\n1:(1,0),(0,1),\n",
@@ -30,14 +30,17 @@ TEXTS = [
     b"starts=(0,0),(2,1)\ngoals=(2,0),(0,1)\nsolution=\n0:(0,0),(2,1)\n1:(1,0),(2,1)\n2:(1,0),(1,1)\n",
     b"agents=1\nsolved=0\nsolution=\n",
     b"rrdw\nU,l\n",
+    b"statistics:\n  runtime: 0.1\nschedule:\n  agent0:\n    - x: 3\n      y: 0\n      t: 0\n    - x: 4\n      y: 0\n      t: 1\n  agent1:\n    - x: 5\n      y: 2\n      t: 0\n",
+    b"a log\r\nschedule:\r\nagent2:\r\n- t: 0\r\n  x: 2047\r\n\r\n  y: 01\r\nagent 1:\r\n#\r\n- y:3\r\n  t:0\r\n  x:1\r\n-  x: 1\r\n  y: 4\r\n  t: 01\r\ndone: 1\r\n",
+    b"statistics:\nschedule: {}\n",
 ]
-FORMS = [None, "time", "agent", "session"]
+FORMS = [None, "time", "agent", "session", "schedule"]
 SIZES = [(8, 12), (8, 12), (8, 2048), (2048, 12)]
 # The answers that edited files have, without numbers.
 ANSWERS = {
-    "read by time", "read by agent", "read by session", "read by moves", "no form of paths in line", "bad header in line", "repeated list in line",
+    "read by time", "read by agent", "read by session", "read by moves", "read by schedule", "no form of paths in line", "bad header in line", "repeated list in line",
     "missing solution", "bad time in line", "bad agent in line", "bad path in line", "bad cell in line", "bad move in line", "no cells in line",
-    "cell count in line", "missing agent", "no paths",
+    "cell count in line", "missing agent", "bad place in line", "missing place", "missing schedule", "no paths",
 }
 
 
@@ -68,7 +71,7 @@ def ends_of(listed, ends):
 
 def differences(starts, goals, agents, paths):
     """The lines of numbers that a text tells and that aren't that of its paths."""
-    found = [("agents", agents), *((name, it and len(it)) for name, it in (("starts", starts), ("goals", goals)))]
+    found = [("agents", agents), *((name, it if it is None else len(it)) for name, it in (("starts", starts), ("goals", goals)))]
     return "".join(f"differs {name} {it} {len(paths)}\n" for name, it in found if it not in (None, len(paths)))
 
 

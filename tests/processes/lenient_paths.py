@@ -18,7 +18,8 @@ ARROWS = b"Agent 0: (0,0)->(0,1)->(0,2)->\nAgent 1: (2,3)->(1,3)->\n"
 NONE_FOUND = b"agents=2\nmap_file=yard.map\nsolver=planner\nsolved=0\nsoc=0\nmakespan=0\ncomp_time=1000\n"
 TRACKER = b'id,solution_plan,cost\n7,"rr\nu",3\n'
 ROBOTS = b'{"actionModel":"MAPF","teamSize":2,"start":[[0,0,"E"],[2,3,"E"]],"actualPaths":["R,R","U,W"]}\n'
-SCHEDULE = b"statistics:\n  cost: 3\n  makespan: 2\nschedule:\n  agent0:\n    - x: 0\n      y: 0\n      t: 0\n"
+SCHEDULE = (b"statistics:\n  cost: 3\n  makespan: 2\n  runtime: 0.01\nschedule:\n  agent0:\n    - x: 0\n      y: 0\n      t: 0\n    - x: 1\n      y: 0\n      t: 1\n"
+            b"    - x: 2\n      y: 0\n      t: 2\n  agent1:\n    - x: 3\n      y: 2\n      t: 0\n    - x: 3\n      y: 1\n      t: 1\n")
 
 # Files that hold the plan.
 READ = {
@@ -41,10 +42,21 @@ READ = {
     "agents_backwards": b"Agent 1: (2,3)->(1,3)->\nAgent 0: (0,0)->(0,1)->(0,2)->\n",
     "session": b"# by hand\npath 1 3,2 3,1\npath 0 0,0 1,0 2,0\n",
     "session_from_one": b"path 1 0,0 1,0 2,0\npath 2 3,2 3,1\n",
+    "robots": ROBOTS,
+    "robots_laid_out": ROBOTS.replace(b"{", b"\xef\xbb\xbf\r\n{\r\n").replace(b',"', b',\r\n\t"'),
+    "robots_as_planned": ROBOTS.replace(b"actual", b"planner").replace(b',"E"', b""),
+    "schedule_of_cbs": SCHEDULE,
+    "schedule_under_windows": b"\xef\xbb\xbf" + SCHEDULE.replace(b"\n", b"\r\n"),
+    "schedule_alone_under_a_remark": b"# by me\n" + SCHEDULE[SCHEDULE.index(b"schedule:") :],
+    "schedule_in_its_log": b"Planning successful! Total cost: 3\n" + SCHEDULE + b"done: 0.01 s\n",
+    "schedule_from_one": SCHEDULE.replace(b"agent1", b"agent2").replace(b"agent0", b"agent1"),
+    "schedule_backwards": b"schedule:\n" + SCHEDULE[SCHEDULE.index(b"  agent1") :] + SCHEDULE[SCHEDULE.index(b"  agent0") : SCHEDULE.index(b"  agent1")],
+    "schedule_of_sorted_keys": b"schedule:\n  agent0:\n  - t: 0\n    x: 0\n    y: 0\n  - t: 1\n    x: 1\n    y: 0\n  - t: 2\n    x: 2\n    y: 0\n"
+                               b"  agent1:\n  - t: 0\n    x: 3\n    y: 2\n  - t: 1\n    x: 3\n    y: 1\n",
 }
 # Files of moves that do, which need the scenario.
 MOVES = {"rows_of_moves": b"rr\nu\n", "upper_case_and_commas": b"R,R\r\nU,W\r\n", "mapf_tracker": TRACKER,
-         "mapf_tracker_by_agent": b'"id","solution_plan"\n"1",rr\n"2",u\n'}
+         "mapf_tracker_by_agent": b'"id","solution_plan"\n"1",rr\n"2",u\n', "commas_in_quotes": b'"map, small",solution_plan\n"a, b",rr\n"c, d",u\n'}
 
 # Words, a file, what is said of it, and its status.
 ANSWERS = [
@@ -58,8 +70,33 @@ ANSWERS = [
     ("--scen tasks --form moves", b"lr\nu\n", "wrong 0 1 out-of-map 2047,0\nsolves no\n", 1),
     ("--scen tasks --form moves", b"moves:\nrr\nu\n", "bad move 0 in line 1", 2),
     ("--scen tasks", TRACKER[:-4], "open quote", 2),
-    ("", ROBOTS, "no form of paths in line 1", 2),
-    ("", SCHEDULE, "no form of paths in line 1", 2),
+    ("", ROBOTS.replace(b":2", b":3"), f"version 0\n{PLAN}differs agents 3 2\nsolves no\n", 1),
+    ("", ROBOTS.replace(b',[2,3,"E"]', b""), "wrong 1 1 out-of-map 0,2047\ndiffers starts 1 2\nsolves no\n", 1),
+    ("--scen tasks", ROBOTS.replace(b"[[0,0", b"[[0,1"), "wrong 0 0 not-from-start 0,0 1,0\ndiffers starts 0 1,0 0,0\nsolves no\n", 1),
+    ("--own-cells", ROBOTS.replace(b"R,R", b"R,R,R,R"), "wrong 0 4 out-of-map 0,4\nsolves no\n", 1),
+    ("--flip --form json", ROBOTS.replace(b"R,R", b"D,D,D"), "wrong 0 3 out-of-map 0,3\nsolves no\n", 1),
+    ("", ROBOTS.replace(b'"R,R","U,W"', b""), "no paths\nsolves no\n", 1),
+    ("", ROBOTS.replace(b"MAPF", b"MAPF_T"), "actionModel MAPF_T turns robots", 2),
+    ("", ROBOTS.replace(b"R,R", b"R,F"), "bad move 1 of agent 0", 2),
+    ("", b"\n" + ROBOTS.replace(b"[2,3", b"2,3"), "bad JSON in line 2, column 62", 2),
+    ("", ROBOTS.replace(b"[2,3", b"[2.0,3"), "bad start of agent 1", 2),
+    ("", b"# robots\n" + ROBOTS, "bad JSON in line 1, column 0", 2),
+    ("", b"a log\n" + ROBOTS, "no form of paths in line 1", 2),
+    ("--form time", ROBOTS, "missing solution", 2),
+    ("", SCHEDULE[: SCHEDULE.index(b"schedule:")] + b"schedule: {}\n", "no paths\nsolves no\n", 1),
+    ("", SCHEDULE[: SCHEDULE.index(b"  agent0")], "no paths\nsolves no\n", 1),
+    ("", SCHEDULE[: SCHEDULE.index(b"schedule:")], "missing schedule", 2),
+    ("--form schedule", ARROWS, "missing schedule", 2),
+    ("", SCHEDULE.replace(b"t: 2", b"t: 3"), "bad place 2 in line 15", 2),
+    ("", SCHEDULE.replace(b"      t: 1\n", b""), "bad place 1 in line 12", 2),
+    ("", SCHEDULE[:-7], "missing place 1", 2),
+    ("", SCHEDULE.replace(b"agent1", b"agent0"), "bad agent in line 16", 2),
+    ("", SCHEDULE.replace(b"agent1", b"agent3"), "missing agent 1", 2),
+    ("", SCHEDULE.replace(b"agent1", b"robot1"), "bad place 3 in line 16", 2),
+    ("--scen tasks", SCHEDULE.replace(b"x: 1", b"x: 3"), "wrong 0 1 not-a-step 0,0 3,0\nsolves no\n", 1),
+    ("--scen tasks --own-cells", b"\xef\xbb\xbf" + ARROWS.replace(b"(0,1)", b"(0,3)"), "wrong 0 1 not-a-step 0,0 0,3\nsolves no\n", 1),
+    ("--scen tasks --own-cells", b"\xef\xbb\xbf" + SCHEDULE.replace(b"x: 1", b"x: 3"), "wrong 0 1 not-a-step 0,0 3,0\nsolves no\n", 1),
+    ("--scen tasks", b'n,solution_plan\n1,"r""r"\n2,u\n', "bad move 1 in line 2", 2),
     ("", b"Agent 0 (5 --> 6): (0,0)->\n", "bad agent in line 1", 2),
     ("", b"agent 0: (0,0)->\n", "no form of paths in line 1", 2),
     ("", b"Agent0: (0,0)->\n", "no form of paths in line 1", 2),
@@ -123,6 +160,19 @@ def by_session(chance, paths):
     return strewn(chance, chance.sample(lines, len(lines)))
 
 
+def by_schedule(chance, paths):
+    first, blank = chance.randrange(2), lambda: chance.choice([b" ", b" ", b"\t", b"  ", b""])
+    lines = [chance.choice([b"schedule:", b"schedule:", b" schedule: {}"])]
+    for number, path in chance.sample(list(enumerate(paths)), len(paths)):
+        lines.append(blank() + b"agent" + blank() + b"%d" % (number + first) + blank() + b":")
+        for time, (x, y) in enumerate(path):
+            pairs = chance.choice([b"xyt", b"xyt", bytes(chance.sample(b"xyt", 3))])
+            told = [bytes([key]) + b":" + blank() + b"0" * chance.choice([0, 0, 2]) + b"%d" % {120: x, 121: y, 116: time}[key] for key in pairs]
+            lines += [blank() + b"- " + blank() + told[0], *(blank() + it for it in told[1:])]
+    head = chance.choice([[], [b"statistics:", b"  runtime: 0.1", b"  cost: 0.5"], [b"agent7:", b"- x: 1"]])
+    return with_logs(chance, strewn(chance, head + lines))
+
+
 def walk(chance):
     path = [(chance.randrange(8), chance.randrange(12))]
     for _ in range(chance.randrange(6)):
@@ -159,5 +209,5 @@ def tests():
     for name, text in MOVES.items():
         yield f"lenient_{name}", lambda text=text: with_files(is_the_plan, text, ["--scen tasks", "--scen tasks --agents 2 --form moves"])
     yield "lenient_answers", lambda: with_files(are_answered)
-    for form, written_by in (("time", by_time), ("agent", by_agent), ("session", by_session)):
+    for form, written_by in (("time", by_time), ("agent", by_agent), ("session", by_session), ("schedule", by_schedule)):
         yield f"lenient_{form}_read_back", lambda it=(form, written_by): are_read_back(*it)

@@ -3,7 +3,7 @@
 On a map that is closed everywhere a verdict lists each cell of each path as a visit.
 """
 from .edited_paths import put_closed, verdict_by
-from .faulty_paths import FAULTS_BY_AGENT, FAULTS_BY_MOVES, FAULTS_BY_SESSION, FAULTS_BY_TIME, FRONTS, NO_CELLS, NO_PATHS
+from .faulty_paths import FAULTS_BY_AGENT, FAULTS_BY_MOVES, FAULTS_BY_SCHEDULE, FAULTS_BY_SESSION, FAULTS_BY_TIME, FRONTS, NO_CELLS, NO_PATHS
 from .running import is_fault, is_run, put, remove
 
 # As LaCAM's program prints it, and the verdict.
@@ -52,6 +52,17 @@ BY_SESSION = [
     b"\xef\xbb\xbfpath 0 3,0 4,0 4,1\r\npath 1 5,2\r\n",
     b"path 1 5,2\npath 0 3,0 4,0 4,1\n",
     b"path 2 5,2\n# from one\npath 1 3,0 4,0 4,1\n",
+]
+# And as a schedule: as libMultiRobotPlanning prints it, as Python sorts its keys, in another order and from 1.
+BY_SCHEDULE = [
+    b"statistics:\n  cost: 2\n  makespan: 2\n  runtime: 0.000352\n  highLevelExpanded: 1\n  lowLevelExpanded: 3\nschedule:\n  agent0:\n"
+    b"    - x: 3\n      y: 0\n      t: 0\n    - x: 4\n      y: 0\n      t: 1\n    - x: 4\n      y: 1\n      t: 2\n"
+    b"  agent1:\n    - x: 5\n      y: 2\n      t: 0\n",
+    b"cost: 2\nschedule:\n  agent0:\n  - t: 0\n    x: 3\n    y: 0\n  - t: 1\n    x: 4\n    y: 0\n  - t: 2\n    x: 4\n    y: 1\n"
+    b"  agent1:\n  - t: 0\n    x: 5\n    y: 2\nstatus: done\n",
+    b"\xef\xbb\xbf# by me\r\n\r\nschedule:\r\nagent2:\r\n- x:5\r\ny:2\r\n# home\r\nt:00\r\nagent1:\r\n- y: 0\r\n\tx: \t3\r\n t: 0\r\n-  t: 1\r\n"
+    b"x: 4\r\ny: 0\r\n\r\n- x: 4\r\ny: 01\r\nt: 2",
+    b"seed 7\nagent9:\nschedule: {}\nagent 1 :\n- x: 5\ny: 2\nt: 0\nagent 0:\n- x: 3\ny: 0\nt: 0\n- x: 4\ny: 0\nt: 1\n- x: 4\ny: 1\nt: 2\nend\n",
 ]
 TWO_REPORT = """version 0
 agents 2
@@ -142,6 +153,8 @@ TESTS = {
     "faults_of_paths_by_agent": lambda: are_refused(FAULTS_BY_AGENT),
     "faults_of_paths_by_session": lambda: are_refused(FAULTS_BY_SESSION),
     "faults_of_paths_by_moves": lambda: are_refused(FAULTS_BY_MOVES),
+    "paths_by_schedule": lambda: are_told(BY_SCHEDULE, "schedule", (6, 3), TWO_REPORT),
+    "faults_of_paths_by_schedule": lambda: are_refused(FAULTS_BY_SCHEDULE),
     "lines_that_are_no_paths": lambda: are_refused([(it, form, "bad path in line 1") for it in NO_PATHS for form in (None, "session")]),
     "words_that_are_no_cells": lambda: are_refused(
         [(front + word + b"\n", form, f"bad cell {cell} in line {line}") for word, cell in NO_CELLS for front, line, form in FRONTS]),

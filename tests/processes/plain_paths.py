@@ -1,13 +1,12 @@
 """A plain reader of files of paths, by docs/FILES.md."""
 import re
 
+from .plain_json import MOST_AGENTS, MOST_SIDE, MOVES, by_json
 from .plain_words import BLANKS, Fault, cell_of, number, words_of
 
-MOST_AGENTS = 8192
-MOST_SIDE = 2048  # columns or rows; moves go on from the last to the first
 CELL = re.compile(rb"\([ \t\r]*([0-9]+)[ \t\r]*,[ \t\r]*([0-9]+)[ \t\r]*\)")
+SCHEDULE = re.compile(rb"schedule:([ \t\r]*\{\})?")
 ROW_OF_MOVES = re.compile(rb"[udlrw][udlrw, \t\r]*", re.IGNORECASE)
-MOVES = {"u": (0, -1), "d": (0, 1), "l": (-1, 0), "r": (1, 0), "w": (0, 0)}
 
 
 def written(text):
@@ -103,6 +102,14 @@ def path_by_session(line, text):
     return agent, path
 
 
+def in_order(told):
+    """The paths of agents from 0, or from 1."""
+    for agent in range(1, max(told, default=0)):
+        if agent not in told:
+            raise Fault(f"missing agent {agent}")
+    return [path for _, path in sorted(told.items())]
+
+
 def by_agents(lines, path_of):
     """The paths of agents who come in any order, from 0 or from 1."""
     told = {}
@@ -111,10 +118,7 @@ def by_agents(lines, path_of):
         if not path or agent in told:
             raise Fault(f"{'bad agent' if path else 'no cells'} in line {line}")
         told[agent] = path
-    for agent in range(1, max(told, default=0)):
-        if agent not in told:
-            raise Fault(f"missing agent {agent}")
-    return [path for _, path in sorted(told.items())]
+    return in_order(told)
 
 
 def by_agent(lines):
@@ -123,18 +127,74 @@ def by_agent(lines):
     return by_agents(lines[those[0] : those[-1] + 1], path_by_agent)
 
 
+def scheduled_agent(text):
+    """The agent of a line `agentN:`, or none."""
+    told = numbered(text[5:]) if text.startswith(b"agent") else None
+    return told[0] if told and not told[1] else None
+
+
+def place_told(text, place, time):
+    """The key and the number of one more line of an agent's place at that time, of which some are told already; or none."""
+    pair = text if place else text[2:].lstrip(BLANKS) if text.startswith(b"- ") else b""
+    key, colon, value = pair.partition(b":")
+    told = number(value.strip(BLANKS))
+    if not colon or key in place or told is None:
+        return None
+    due = told == time if key == b"t" else key in (b"x", b"y") and told < MOST_SIDE
+    return (key, told) if due else None
+
+
+def by_schedule(lines):
+    """The paths behind the line `schedule:`, up to the last line of an agent or of a place; behind that may be a log."""
+    begun = [at for at, (_, text) in enumerate(lines) if SCHEDULE.fullmatch(text)]
+    if not begun:
+        raise Fault("missing schedule")
+    lines, told, agent, place = lines[begun[0] + 1 :], {}, None, {}
+    last = [at for at, (_, text) in enumerate(lines) if scheduled_agent(text) is not None or text.startswith((b"- ", b"x:", b"y:", b"t:"))] or [-1]
+    for at, (line, text) in enumerate(lines):
+        is_whole = not place and (agent is None or told[agent])
+        if at > last[-1] and is_whole:
+            break
+        named, time = scheduled_agent(text), 0 if agent is None else len(told[agent])
+        if named is not None and is_whole:
+            if named >= MOST_AGENTS or named in told:
+                raise Fault(f"{'bad agent' if named < MOST_AGENTS else 'too many agents'} in line {line}")
+            agent, told[named] = named, []
+            continue
+        pair = place_told(text, place, time) if named is None and agent is not None else None
+        if not pair:
+            raise Fault(f"bad agent in line {line}" if agent is None else f"bad place {time} in line {line}")
+        place[pair[0]] = pair[1]
+        if len(place) == 3:
+            told[agent].append((place[b"x"], place[b"y"]))
+            place = {}
+    if place or agent is not None and not told[agent]:
+        raise Fault(f"missing place {len(told[agent])}")
+    return in_order(told)
+
+
+def fields_of(line):
+    """The fields of a head line; a comma in quotes parts none."""
+    fields, quoted = [b""], False
+    for byte in line:
+        quoted ^= byte == ord('"')
+        fields = [*fields, b""] if byte == ord(",") and not quoted else [*fields[:-1], fields[-1] + bytes([byte])]
+    return fields
+
+
 def plans_in(line):
     """The column of plans in a head line, or none."""
-    names = [it.strip(BLANKS) for it in line.split(b",")]
+    names = [it.strip(BLANKS) for it in fields_of(line)]
     return next((at for at, it in enumerate(names) if it in (b"solution_plan", b'"solution_plan"')), None)
 
 
 def column_of(text, column):
-    """The text of one column of a CSV file, line by line. Within quotes no comma and no line's end parts two fields."""
+    """The text of one column of a CSV file, line by line. Within quotes no comma and no line's end parts two fields, and two quotes are one."""
     lines, field, quoted = [b""], 0, False
-    for byte in text:
+    for before, byte in zip(b" " + text, text):
         if byte == ord('"'):
             quoted = not quoted
+            lines[-1] += b'"' if quoted and before == byte and field == column else b""
         elif byte == ord("\n"):
             lines, field = [*lines, b""], field if quoted else 0
         elif byte == ord(",") and not quoted:
@@ -167,7 +227,9 @@ def by_moves(lines, text, flipped):
 
 
 def form_of(lines):
-    """The form that the first line tells which tells one."""
+    """The form that the first line tells which tells one; JSON is told by the first line alone."""
+    if lines and lines[0][1].startswith(b"{"):
+        return "json"
     for _, text in lines:
         if text.startswith(b"Agent "):
             return "agent"
@@ -175,6 +237,8 @@ def form_of(lines):
             return "session"
         if text == b"solution=" or numbered(text):
             return "time"
+        if SCHEDULE.fullmatch(text) or text == b"statistics:":
+            return "schedule"
         if ROW_OF_MOVES.fullmatch(text) or plans_in(text) is not None:
             return "moves"
     if any(b"=" in text for _, text in lines):
@@ -191,6 +255,10 @@ def read_paths(text, form=None):
         told, paths = by_time(lines)
     elif form in ("moves", "flipped"):
         paths = by_moves(lines, text, form == "flipped")
+    elif form == "json":
+        told[b"starts"], told[b"agents"], paths = by_json(text)
+    elif form == "schedule":
+        paths = by_schedule(lines)
     else:
         paths = by_agent(lines) if form == "agent" else by_agents(lines, path_by_session)
     if not paths:

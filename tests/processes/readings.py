@@ -6,7 +6,7 @@ import os
 import random
 import subprocess
 
-from . import edited_paths, journals
+from . import edited_json, edited_paths, journals
 from .edited_maps import LIKELY, SCENS, SIZE, kind_of
 from .edits import Edits
 from .paths import BY_AGENT, BY_SESSION, LACAM, LENIENT
@@ -81,6 +81,16 @@ def lists_of_edited_files_of_paths():
     want("the kinds of answers", set(kinds), edited_paths.ANSWERS)
 
 
+def lists_of_edited_json():
+    """Edited files as JSON, and as many starts and paths as there may be, and one more."""
+    edits = Edits(random.Random(46), edited_json.LIKELY)
+    rows = [(edits.edited(edited_json.TEXTS), edits.chance.choice([None, "json"])) for _ in range(3000)]
+    want("the kinds of answers that no file has", edited_json.ANSWERS - {"teamSize is no number"} - set(compare_lists(rows)), set())
+    text = lambda starts, paths: b'{"start":[%s],"actualPaths":[%s]}' % (b",".join([b"[3,4]"] * starts), b",".join([b'"R"'] * paths))
+    told = "json starts" + " 4,3" * 8192 + " path 4,3 5,3" * 8192
+    are_read([("any", text(8192, 8192), told), ("json", text(8193, 1), "too many agents"), ("json", text(1, 8193), "too many agents")])
+
+
 def lists_of_fronts_of_files_of_paths():
     compare_lists([(text[:end], form) for text in edited_paths.TEXTS for end in range(len(text) + 1) for form in edited_paths.FORMS])
 
@@ -96,20 +106,23 @@ AGENTS = {
     "agent": lambda count: b"".join(b"Agent %d: (4,3)->\n" % it for it in range(count)),
     "session": lambda count: b"".join(b"path %d 3,4\n" % it for it in range(count)),
     "moves": lambda count: b"W\n" * count,
+    "schedule": lambda count: b"schedule:\n" + b"".join(b"agent%d:\n- x: 3\n  y: 4\n  t: 0\n" % it for it in range(count)),
 }
 STAYING = {
     "time": lambda count: b"solution=\n" + b"".join(b"%d:(3,4)\n" % it for it in range(count)),
     "agent": lambda count: b"Agent 0:" + b"(4,3)->" * count,
     "session": lambda count: b"path 0" + b" 3,4" * count,
     "moves": lambda count: b"w" * (count - 1),
+    "schedule": lambda count: b"schedule:\nagent0:\n" + b"".join(b"- x: 3\n  y: 4\n  t: %d\n" % it for it in range(count)),
 }
+LINES_TOO_MANY = {"time": 2, "schedule": 32770}
 
 
 def lists_of_ten_thousand_agents():
     """There may be 8,192 agents, of whom each has one cell, and no more: the line of the next is refused."""
     are_read([("any", b"starts=" + b"(3,4)," * 10000, "too many agents in line 1")])
     for form, text in AGENTS.items():
-        fault, path = f"too many agents in line {2 if form == 'time' else 8193}", " path 0,0 0,0" if form == "moves" else " path 3,4"
+        fault, path = f"too many agents in line {LINES_TOO_MANY.get(form, 8193)}", " path 0,0 0,0" if form == "moves" else " path 3,4"
         are_read([("any", text(8192), form + path * 8192), ("any", text(8193), fault), ("any", text(10000), fault)])
 
 
@@ -168,15 +181,16 @@ def longest_journals_upgraded():
 
 
 def lists_of_words():
-    """Each list of words of tests/words.txt is read as it says, all 593 of them."""
+    """Each list of words of tests/words.txt is read as it says, all 599 of them."""
     with open(f"{TOP}/tests/words.txt") as file:
         rows = [line.split(" => ", 1) for line in file.read().split("\n") if " => " in line]
     are_read([("words", words.encode(), right) for words, right in rows])
-    want("how many lists there are", len(rows), 593)
+    want("how many lists there are", len(rows), 599)
 
 
 def tests():
-    for test in (files_of_paths_as_lists, files_of_paths_as_people_write_them, lists_of_edited_files_of_paths, lists_of_fronts_of_files_of_paths,
+    for test in (files_of_paths_as_lists, files_of_paths_as_people_write_them, lists_of_edited_files_of_paths, lists_of_edited_json,
+                 lists_of_fronts_of_files_of_paths,
                  lists_of_texts_of_one_byte, lists_of_ten_thousand_agents, lists_of_longest_paths, buckets_of_edited_scenarios,
                  journals_upgraded_as_they_are_read, longest_journals_upgraded, lists_of_words):
         yield test.__name__, test

@@ -49,6 +49,10 @@ WRITTEN = [
     ("any", b"path 1 0,0\n# r\npath 0 1,0\n", "session path 1,0 path 0,0"),
     ("any", b"path 1 0,0\npath 2 1,0\n", "session path 0,0 path 1,0"),
     ("any", b"path 5 0,0\n", "missing agent 1"),
+    ("any", b'{"start":[[0,1,"E"],[2,3]],"actualPaths":["R,d","",""]}', "json starts 1,0 3,2 path 1,0 2,0 2,1 path 3,2 path 0,0"),
+    ("json", b' {"teamSize":7,\n"start":[[0,0]],"plannerPaths":["lu"],"x":{}}', "json starts 0,0 agents 7 path 0,0 2047,0 2047,2047"),
+    ("any", b'{"start":[[0,0]],"actualPaths":["r"],"start":[[5,5]]}', "json starts 5,5 path 5,5 6,5"),
+    ("any", b'{"start":[[0,0]]}\n}', "bad JSON in line 2, column 0"),
 ]
 
 

@@ -37,14 +37,16 @@ REASONS = [
 
 # What should stand where a line of paths has a fault, by the first two words of that.
 EXPECTED = {
-    "no form": "0:(X,Y),.., Agent 0: (ROW,COLUMN)->.., path 0 X,Y .. or moves udlrw",
+    "no form": "0:(X,Y),.., Agent 0: (ROW,COLUMN)->.., path 0 X,Y .., {JSON}, schedule: or moves udlrw",
     "bad header": "a number of agents",
     "repeated list": "that once",
     "bad time": "the next time T, as T:(X,Y),(X,Y),..",
-    "bad agent": "Agent N: (ROW,COLUMN)->.., each N once",
+    "bad agent": "Agent N: (ROW,COLUMN)->.. or agentN:, each N once",
+    "bad place": "a line each of - x: X, y: Y and t: T, the next time",
     "bad path": "path AGENT X,Y X,Y ..",
     "bad cell": "a cell, as (3,0)",
     "bad move": "u, d, l, r or w",
+    "bad JSON": "JSON",
     "no cells": "a cell at least", "cell count": "as many cells as at time 0", "too many": "8192 agents at most",
 }
 # Words, the paths, and the second line.
@@ -52,9 +54,12 @@ EXPECTATIONS = [
     ("--map m", b"\n\nhello, you\xff\n\n", f"line 3: hello, you? (expected {EXPECTED['no form']})"),
     ("--map m", b"agents=two\nsolution=\n0:(0,0)\n", "line 1: agents=two (expected a number of agents)"),
     ("--map m", b"solution=\n1:(0,0)\n", "line 2: 1:(0,0) (expected the next time T, as T:(X,Y),(X,Y),..)"),
-    ("--map m", b"Agent 0 (1 --> 1): (0,0)->\n", "line 1: Agent 0 (1 --> 1): (0,0)-> (expected Agent N: (ROW,COLUMN)->.., each N once)"),
+    ("--map m", b"Agent 0 (1 --> 1): (0,0)->\n", "line 1: Agent 0 (1 --> 1): (0,0)-> (expected Agent N: (ROW,COLUMN)->.. or agentN:, each N once)"),
     ("--map m", b"path 0 0,0\npath 1 0;0\n", "line 2: path 1 0;0 (expected path AGENT X,Y X,Y ..)"),
     ("--map m", b"0:(0,0);(1,0)\n", "line 1: 0:(0,0);(1,0) (expected a cell, as (3,0))"),
+    ("--map m", b'{"start":[[0,0]],\n"actualPaths":["R",]}\n', 'line 2: "actualPaths":["R",]} (expected JSON)'),
+    ("--map m", b"schedule:\n  agent0:\n    - x: 0\n      y: 0\n      t: 1\n", "line 5:       t: 1 (expected a line each of - x: X, y: Y and t: T, the next time)"),
+    ("--map m", b"schedule:\n  robot:\n    - x: 0\n", "line 2:   robot: (expected Agent N: (ROW,COLUMN)->.. or agentN:, each N once)"),
     ("--map m --scen s", b"rr\nrxr\n", "line 2: rxr (expected u, d, l, r or w)"),
     ("--map m", b"path 0\n", "line 1: path 0 (expected a cell at least)"),
     ("--map m", b"0:(0,0)\n1:(0,0),(1,0)\n", "line 2: 1:(0,0),(1,0) (expected as many cells as at time 0)"),
@@ -70,9 +75,14 @@ NOTES = [
     ("--json", b"agents=1\r\n\r\n soc= 3\r\n# a remark\nmakespan=2\n", "note: soc=3 but sum is 2\n"),
     ("-v --quiet --solves edge", b"makespan=1\nsoc=1\n", "note: soc=1 but sum is 2\nnote: makespan=1 but makespan is 2\n"),
     ("", b"soc=2\nmakespan=02\n", ""),
+    ("", b"seed 7\nsoc=9\n[info] soc=8\nmakespan=3\n", "note: soc=9 but sum is 2\nnote: makespan=3 but makespan is 2\n"),
+    ("", b"\xef\xbb\xbfsoc=9\n", "note: soc=9 but sum is 2\n"),
+    ("", b"cost: 2\nmakespan: 3\nsoc=7\n", "note: makespan=3 but makespan is 2\n"),
+    ("", b"cost: 2.5\n cost: none\ncosts: 3\nmakespan:\n", ""),
     ("", b"soc=\nmakespan=none\nmsoc=9\nSOC=9\nsum_of_loss=9\n", ""),
 ]
-PLANS = {"by_time": b"solution=\n0:(0,0)\n1:(1,0)\n2:(2,0)\n", "rows_alone": b"0:(0,0)\n1:(1,0)\n2:(2,0)\n", "by_agent": b"Agent 0: (0,0)->(0,1)->(0,2)\n"}
+PLANS = {"by_time": b"solution=\n0:(0,0)\n1:(1,0)\n2:(2,0)\n", "rows_alone": b"0:(0,0)\n1:(1,0)\n2:(2,0)\n", "by_agent": b"Agent 0: (0,0)->(0,1)->(0,2)\n",
+         "by_schedule": b"schedule:\nagent0:\n" + b"".join(b"- x: %d\n  y: 0\n  t: %d\n" % (it, it) for it in range(3))}
 # Words, whole files, and the notes: without a report there are none.
 NOTED = [
     ("--map m --scen s", b"soc=1\nmakespan=1\nsolution=\n0:(0,0)\n1:(1,0)\n", "note: soc=1 but sum is none\nnote: makespan=1 but makespan is none\n"),
@@ -81,6 +91,8 @@ NOTED = [
     ("--map m", b"soc=9\nsolved=0\nsolution=\n", ""),
     ("--map m", b"soc=9\nagents=1\nagents=1\n", ""),
     ("--map m", b"solution=\n0:(0,0)\nsoc=9\nmakespan=9\n", ""),
+    ("--map m", b"statistics:\n  cost: 4\n  makespan: 0\n  runtime: 0.5\nschedule:\n  agent0:\n    - x: 0\n      y: 0\n      t: 0\n", "note: soc=4 but sum is 0\n"),
+    ("--map m", b"schedule:\nagent0:\n- x: 0\n  y: 0\n  t: 0\nstatistics:\n  cost: 9\n", ""),
 ]
 
 # Words whose fault has nothing more to tell.
