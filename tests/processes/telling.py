@@ -31,7 +31,7 @@ REASONS = [
     ("check --map m --paths none", "No such file or directory (os error 2)"),
     ("check --map map_letter --paths p", "line 5: .x."),
     ("check --map m --scen scen_fields --paths p", "line 2: 0 m 3 1 0 0 2 0"),
-    ("check --map m --paths one", "line 1: agent 0 0,0 0,0 (expected 0:(X,Y),.., Agent 0: (ROW,COLUMN)->.., path 0 X,Y .. or moves udlrw)"),
+    ("check --map m --paths one", "line 1: agent 0 0,0 0,0 (expected 0:(X,Y),.., Agent 0: (ROW,COLUMN)->.., path 0 X,Y .., {JSON}, schedule: or moves udlrw)"),
     ("audit --map m --journal j", "faulty 0 unknown-agent: entry 0 0 0 1;path 0 0,0 1,0 2,0;"),
 ]
 
