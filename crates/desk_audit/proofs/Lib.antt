@@ -7,3 +7,4 @@ pub mod Finding
 pub mod Merging
 pub mod Bounding
 pub mod Tiles
+pub mod Index

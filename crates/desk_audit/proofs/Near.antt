@@ -1,6 +1,5 @@
 -- Whom an entry names beside the agent that it names first, and where that one is.
-use Rattle.std.proofs.Common.{◌≡◌, ◌≢◌, ℕ, ◌+◌, ◌<◌, ◌≤◌, List, length, Option, Some, refl, sym, ◌∙◌, ◌⊎◌, inl, inr, arith}
-use Rattle.std.specs.List.{Contains}
+use Rattle.std.proofs.Common.{◌≡◌, ◌≢◌, ℕ, ◌+◌, ◌%◌, ◌<◌, ◌≤◌, List, length, Option, Some, refl, sym, ◌∙◌, ◌⊎◌, inl, inr, arith}
 use Rattle.std.proofs.lemmas.Option.{same_Some}
 use Rattle.grid_cells.specs.Cell.{Point}
 use Rattle.plan_table.specs.Route.{Fleet, position_of, last_of, Leaves}
@@ -10,10 +9,10 @@ use Rattle.mapf_rules.specs.Naming.{IsOfPair, time_of, first_agent}
 use Rattle.mapf_rules.specs.declared.entries.Conflict.{Conflict}
 use Rattle.mapf_rules.specs.declared.entries.Conflict.TheVariants.{Vertex, Parked, Edge, Following, Swapping, Cycle}
 use Rattle.desk_audit.specs.Seeking.{IsRingFrom, Leads, IsAhead, HasOthersIn, IsOfMet, IsOfPassed}
-use Rattle.desk_audit.specs.Filing.{Files}
-use Rattle.desk_audit.specs.Index.{IsIndexOf, pass}
+use Rattle.desk_audit.specs.Index.{HasPasses, IsIndexOf, pass}
 use Rattle.desk_audit.specs.declared.tables.Pass.{Pass}
 use Rattle.desk_audit.specs.declared.sightings.Sightings.{Sightings}
+use Rattle.desk_audit.proofs.Index.{some_share}
 
 -- the two are in one cell
 pub record Meets (fleet : Fleet) (time agent : ℕ) (entry : Conflict) : Type 0 where
@@ -75,8 +74,8 @@ pub leads_some : (fleet : Fleet) (time agent : ℕ) (cell : Point) (met : List P
 leads_some fleet time agent cell met has entry leads = omega (arith, (has leads.other leads.apart leads.there).3.1)
 
 -- an entry of a time after the agent's path has ended is of one that passes by
-pub late_splits : (fleet : Fleet) (index : Sightings) (end agent : ℕ) (cell : Point) (passes : List Pass) → IsIndexOf fleet index → end ≡ last_of fleet agent → position_of fleet agent end ≡ Some cell
-    → ((pass : Pass) → Files index.passes cell 0 pass → pass.agent ≢ agent → Contains passes pass)
+pub late_splits : (fleet : Fleet) (index : List Sightings) (end agent : ℕ) (cell : Point) (passes : List Pass) → IsIndexOf fleet index → end ≡ last_of fleet agent → position_of fleet agent end ≡ Some cell
+    → HasPasses index cell agent passes
     → (entry : Conflict) → Stands fleet entry → (end < time_of entry) × (first_agent entry ≡ agent) → IsOfPassed fleet end agent passes entry
 late_splits fleet index end agent cell passes is end_is at has entry stands named = elim (rw named.1 at (meets_or_moves fleet entry stands)) [
   | inr on ↦ absurd (omega (arith, named.0, moves_early fleet (time_of entry) agent entry on))
@@ -85,6 +84,7 @@ late_splits fleet index end agent cell passes is end_is at has entry stands name
       let stays : Leaves fleet agent → ⊥ = λ leaves. omega (arith, leaver_early fleet agent (time_of entry) meets.cell leaves meets.here) in
       let rests = position_rests fleet agent end (time_of entry) stays (omega (arith, end_is)) (omega (arith, named.0)) in
       let early : time_of entry ≤ last_of fleet meets.other = grind (arith, meets_early fleet entry (time_of entry) agent meets.other stands meets.of) in
-      let filed = is.passes meets.other agent (time_of entry) cell (early, grind arith) (late, rests ∙ at) in
-      record { other = pass (time_of entry) meets.other; listed = has _ filed meets.apart; later = named.0; on_path = early; of = meets.of }
+      let at_time = some_share index is.some (time_of entry) in
+      let filed = (is.shares (time_of entry % length index) at_time.0 at_time.1).passes meets.other agent (time_of entry) cell refl (early, grind arith) (late, rests ∙ at) in
+      record { other = pass (time_of entry) meets.other; listed = has (time_of entry % length index) at_time.0 (pass (time_of entry) meets.other) at_time.1 filed meets.apart; later = named.0; on_path = early; of = meets.of }
 ]

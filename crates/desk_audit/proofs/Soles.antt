@@ -7,10 +7,9 @@ use Rattle.plan_table.proofs.Fleets.{changes_early}
 use Rattle.mapf_rules.specs.Cycles.{MovesOut}
 use Rattle.mapf_rules.specs.RingWalk.{IsSoleMover}
 use Rattle.desk_audit.specs.Filing.{bucket_of, slot_bucket}
-use Rattle.desk_audit.specs.Index.{IsIndexOf, pass}
+use Rattle.desk_audit.specs.Index.{IsSeenAt, pass}
 use Rattle.desk_audit.specs.declared.tables.Slot.{Slot}
 use Rattle.desk_audit.specs.declared.tables.Table.{Table}
-use Rattle.desk_audit.specs.declared.sightings.Sightings.{Sightings}
 use Rattle.desk_audit.proofs.Chains.{Walked, many_of, walk_over}
 
 -- a slot of the cell and the time whose agent moves out is of the agent that was found
@@ -20,15 +19,15 @@ Tells fleet time cell found slot = slot.cell ≡ cell → slot.number ≡ time �
 pub tells_others : (fleet : Fleet) (table : Table) (time : ℕ) (cell : Point) (found : Option ℕ) (slot : Slot) → slot_bucket (many_of table) slot ≢ bucket_of (many_of table) cell time → Tells fleet time cell found slot
 tells_others fleet table time cell found slot differs same_cell same_number out = absurd (differs (rw (same_cell, same_number) refl))
 
-module _ (fleet : Fleet) (index : Sightings) (time : ℕ) (cell : Point) (found : Option ℕ) (is : IsIndexOf fleet index)
-    (walk : Walked index.moments (bucket_of (many_of index.moments) cell time) None (Tells fleet time cell found)) where
+module _ (fleet : Fleet) (table : Table) (time : ℕ) (cell : Point) (found : Option ℕ) (seen : IsSeenAt fleet time table)
+    (walk : Walked table (bucket_of (many_of table) cell time) None (Tells fleet time cell found)) where
   -- whoever moves out of the cell is the agent that was found
   pub all_found : (agent : ℕ) → MovesOut fleet time agent cell → found ≡ Some agent
   all_found agent out =
-      let filed = is.moments agent time cell (changes_early fleet agent time (λ same. out.moves (sym same ∙ out.from)), out.from) in
+      let filed = seen.has agent cell (changes_early fleet agent time (λ same. out.moves (sym same ∙ out.from)), out.from) in
       let slot : Slot = record { cell = cell; number = time; pass = pass time agent; before = filed.0 } in
-      (rw filed.1.2 at (walk_over index.moments _ (Tells fleet time cell found) walk
-      (tells_others fleet index.moments time cell found) filed.1.0 slot filed.1.1)) refl refl out
+      (rw filed.1.2 at (walk_over table _ (Tells fleet time cell found) walk
+      (tells_others fleet table time cell found) filed.1.0 slot filed.1.1)) refl refl out
 
   pub sole_found : IfSome found (λ a. MovesOut fleet time a cell) → IfSome found (IsSoleMover fleet time cell)
   sole_found moves = by_found found refl moves

@@ -8,8 +8,9 @@ ghost use Rattle.desk_audit.specs.Parts.{IsPart};
 
 use crate::faults::AuditFault;
 use crate::gates::{Gate, NoGate};
+use crate::indexing::index_of;
 use crate::parts::Part;
-use crate::sightings::Sightings;
+use crate::sightings::{Share, Sightings};
 use crate::threads::{in_scope, part_of};
 use desk_report::{Report, with_totals};
 use grid_cells::{List, OutOfMemory};
@@ -22,6 +23,9 @@ use std::thread::Threads;
 
 /// The most threads of an audit.
 pub(crate) const MOST_WORKERS: u32 = 64;
+
+/// The most shares of an index: each is asked who passes a cell in which an agent rests.
+pub(crate) const MOST_SHARES: u32 = 8;
 
 // The entries of all pieces in the order in which they are listed, each once. Those of a piece are in
 // that order, and the sort merges what is in order.
@@ -61,7 +65,7 @@ fn whole_of<G: Gate, R: Threads + Wait>(
     rt: &R,
     alloc: Global,
     scene: &Scene,
-    index: &Sightings,
+    index: &[Sightings],
     workers: u32,
     gate: &G,
 ) -> Option<Part>
@@ -91,13 +95,38 @@ fn told<G: Gate, R: Threads + Wait>(
     requires { 0 < workers }
     ensures { IfOk result (IsReportOf scene.now.grid scene.now.mode scene.now.rows) }
 {
-    let index = Sightings::new(alloc, scene.mode(), scene.plans())?;
+    let Some(index) = index_of(rt, alloc, scene, shares_for(workers)) else {
+        return Err(OutOfMemory);
+    };
     let found = whole_of(rt, alloc, scene, &index, workers, gate);
     drop(index);
     match found {
         Some(whole) => report_of(alloc, scene, whole),
         None => Err(OutOfMemory),
     }
+}
+
+// How many shares the index of so many workers has.
+fn shares_for(workers: u32) -> u32
+    requires { 0 < workers }
+    ensures { 0 < result }
+{
+    if workers < MOST_SHARES {
+        workers
+    } else {
+        MOST_SHARES
+    }
+}
+
+// The index of the scene, in one share.
+fn index_alone(alloc: Global, scene: &Scene) -> Result<Vec<Sightings>, OutOfMemory>
+    ensures { IfOk result (λ index. IsIndexOf (tracks_of scene.now.mode scene.now.rows) index.items) }
+{
+    let share = Share { many: 1, number: 0 };
+    let sightings = Sightings::new(alloc, scene.mode(), scene.plans(), share)?;
+    let mut index = Vec::new(alloc);
+    index.push(sightings)?;
+    Ok(index)
 }
 
 /// The report of the scene, made from scratch with no thread, over an index of its own.
@@ -107,7 +136,7 @@ fn told<G: Gate, R: Threads + Wait>(
 pub fn audit_alone(alloc: Global, scene: &Scene) -> Result<Report, OutOfMemory>
     ensures { IfOk result (IsReportOf scene.now.grid scene.now.mode scene.now.rows) }
 {
-    let index = Sightings::new(alloc, scene.mode(), scene.plans())?;
+    let index = index_alone(alloc, scene)?;
     let agents = scene.plans().count();
     let found = part_of(alloc, scene, &index, 0, agents, 0, &NoGate);
     drop(index);

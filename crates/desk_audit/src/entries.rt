@@ -8,6 +8,7 @@ ghost use Rattle.desk_audit.specs.Seeking.{FindsAll, FindsLed, FindsRanked, HasO
 
 use crate::adding::{add_met, add_passed, add_ring};
 use crate::movers::Indexed;
+use crate::shares::{passes_in, share_at};
 use crate::sightings::Sightings;
 use crate::tables::Pass;
 use grid_cells::{Agent, Cell, OutOfMemory, Step};
@@ -20,7 +21,7 @@ fn others_at(
     alloc: Global,
     plans: &Plans,
     mode: Mode,
-    index: &Sightings,
+    index: &[Sightings],
     time: u32,
     cell: Cell,
     agent: Agent,
@@ -28,12 +29,13 @@ fn others_at(
     requires { IsIndexOf (tracks_of mode plans.now.rows) index.now }
     ensures { IfOk result (λ met. HasOthersIn (tracks_of mode plans.now.rows) time cell agent met.items) }
 {
+    let share = share_at(index, time);
     let mut met = Vec::new(alloc);
-    index.moments.add_others(&mut met, cell, time, agent)?;
-    if time <= index.first_rest {
+    share.moments.add_others(&mut met, cell, time, agent)?;
+    if time <= share.first_rest {
         return Ok(met);
     }
-    index.rests.add_others(&mut met, cell, 0, agent)?;
+    share.rests.add_others(&mut met, cell, 0, agent)?;
     Ok(met)
 }
 
@@ -45,7 +47,7 @@ fn add_ahead(
     entries: &mut Vec<Conflict>,
     plans: &Plans,
     mode: Mode,
-    index: &Sightings,
+    index: &[Sightings],
     time: u32,
     cell: Cell,
     agent: Agent,
@@ -70,7 +72,7 @@ fn add_step(
     entries: &mut Vec<Conflict>,
     plans: &Plans,
     mode: Mode,
-    index: &Sightings,
+    index: &[Sightings],
     time: u32,
     here: Cell,
     ahead: Option<Cell>,
@@ -96,7 +98,7 @@ fn add_rest(
     entries: &mut Vec<Conflict>,
     plans: &Plans,
     mode: Mode,
-    index: &Sightings,
+    index: &[Sightings],
     end: u32,
     cell: Cell,
     agent: Agent,
@@ -106,8 +108,7 @@ fn add_rest(
     requires there { position_of (tracks_of mode plans.now.rows) agent end ≡ Some cell }
     ensures { OnOk result (FindsAll (tracks_of mode plans.now.rows) agent entries.old.items entries.new.items (IsFirstAfter end agent)) }
 {
-    let mut passes = Vec::new(alloc);
-    index.passes.add_others(&mut passes, cell, 0, agent)?;
+    let passes = passes_in(alloc, index, cell, agent)?;
     add_passed(alloc, entries, plans, mode, end, agent, &passes)?;
     Ok(())
 }
@@ -118,7 +119,7 @@ fn add_agent(
     entries: &mut Vec<Conflict>,
     plans: &Plans,
     mode: Mode,
-    index: &Sightings,
+    index: &[Sightings],
     rank: u32,
 ) -> Result<(), OutOfMemory>
     requires rank { rank < length plans.now.rows }
@@ -147,7 +148,7 @@ pub(crate) fn entries_of(
     alloc: Global,
     plans: &Plans,
     mode: Mode,
-    index: &Sightings,
+    index: &[Sightings],
     from: u32,
     to: u32,
 ) -> Result<Vec<Conflict>, OutOfMemory>

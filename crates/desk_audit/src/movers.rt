@@ -4,10 +4,11 @@ ghost use Rattle.std.specs.Prelude.{◌≡◌, ℕ, ◌<◌, Some, IfSome, IsSom
 ghost use Rattle.grid_cells.specs.Cell.{Point};
 ghost use Rattle.plan_table.specs.Route.{tracks_of};
 ghost use Rattle.mapf_rules.specs.RingWalk.{IsSoleMover, MovesTo};
-ghost use Rattle.desk_audit.specs.Index.{IsIndexOf};
+ghost use Rattle.desk_audit.specs.Index.{IsIndexOf, IsSeenAt};
 
+use crate::shares::share_at;
 use crate::sightings::Sightings;
-use crate::tables::bucket;
+use crate::tables::{Table, bucket};
 use grid_cells::{Agent, Cell};
 use mapf_rules::{Movers, destination, moves_out};
 use plan_table::{Mode, Plans};
@@ -18,7 +19,7 @@ use std::marker::Model;
 pub(crate) struct Indexed<'a> {
     pub plans: &'a Plans,
     pub mode: Mode,
-    pub index: &'a Sightings,
+    pub index: &'a [Sightings],
 }
 
 impl<'a> Model for Indexed<'a> {
@@ -55,7 +56,7 @@ impl<'a> Indexed<'a> {
 fn mover_in(
     plans: &Plans,
     mode: Mode,
-    index: &Sightings,
+    index: &[Sightings],
     time: u32,
     cell: Cell,
 ) -> Option<(Agent, Cell)>
@@ -65,22 +66,23 @@ fn mover_in(
     ensures to { IfSome result (λ mover. MovesTo (tracks_of mode plans.now.rows) time mover.0 mover.1) }
     ensures found { (agent : ℕ) → IsSoleMover (tracks_of mode plans.now.rows) time cell agent → IsSome result }
 {
-    let agent = sole_mover(plans, mode, index, time, cell)?;
+    let share = share_at(index, time);
+    let agent = sole_mover(plans, mode, &share.moments, time, cell)?;
     let to = destination(plans, mode, time, agent)?;
     Some((agent, to))
 }
 
-// The one agent that moves out of the cell in the step.
-fn sole_mover(plans: &Plans, mode: Mode, index: &Sightings, time: u32, cell: Cell) -> Option<Agent>
+// The one agent that moves out of the cell in the step, looked up among who is where then.
+fn sole_mover(plans: &Plans, mode: Mode, moments: &Table, time: u32, cell: Cell) -> Option<Agent>
     requires time { time < u32.MAX }
-    requires index { IsIndexOf (tracks_of mode plans.now.rows) index.now }
+    requires seen { IsSeenAt (tracks_of mode plans.now.rows) time moments.now }
     ensures sole { IfSome result (IsSoleMover (tracks_of mode plans.now.rows) time cell) }
     ensures only { (agent : ℕ) → IsSoleMover (tracks_of mode plans.now.rows) time cell agent → result ≡ Some agent }
 {
     let mut found = None;
-    let mut next = index.moments.heads[bucket(index.moments.heads.len(), cell, time)];
+    let mut next = moments.heads[bucket(moments.heads.len(), cell, time)];
     while let Some(place) = next {
-        let slot = &index.moments.slots[place as usize];
+        let slot = &moments.slots[place as usize];
         let agent = slot.pass.agent;
         if moves_out(plans, mode, time, agent, cell) {
             match found {

@@ -42,7 +42,7 @@ impl Part {
         grid: &Grid,
         mode: Mode,
         plans: &Plans,
-        index: &Sightings,
+        index: &[Sightings],
         from: u32,
         to: u32,
     ) -> Result<Part, OutOfMemory>

@@ -1,18 +1,26 @@
 //! The index of an audit: which agents are in which cell at which time. It is made once, from the
-//! plans alone, and lent to all pieces.
-ghost use Rattle.std.specs.Prelude.{◌+◌, ◌<◌, IfOk, OnOk};
-ghost use Rattle.plan_table.specs.Path.{last_index};
+//! plans alone, share by share of the times, and lent to all pieces.
+ghost use Rattle.std.specs.Prelude.{◌≡◌, ◌+◌, ◌<◌, IfOk, OnOk, Some};
+ghost use Rattle.grid_cells.specs.Cell.{Point};
+ghost use Rattle.plan_table.specs.Path.{last_index, place};
 ghost use Rattle.plan_table.specs.Route.{tracks_of};
 ghost use Rattle.desk_audit.specs.Filing.{IsFiled, Files, HasFiled, KeepsFiled};
-ghost use Rattle.desk_audit.specs.Index.{IsIndexOf, HasRests, AllRestFrom, AddsPath, HasPaths};
+ghost use Rattle.desk_audit.specs.Index.{IsOf, IsShareOf, HasRests, AllRestFrom, AddsPath, HasPaths, pass};
 
 use crate::tables::{Pass, Table};
 use grid_cells::{Agent, Cell, OutOfMemory, Step};
 use plan_table::{Mode, Plan, Plans};
 use std::alloc::Global;
 
-/// Where agents are: while they follow their paths, by cell and time and again by cell alone, and
-/// where they rest for ever, by cell.
+/// A share of the times: those that leave that number when they are divided by so many.
+#[derive(Clone, Copy)]
+pub(crate) struct Share {
+    pub many: u32,
+    pub number: u32,
+}
+
+/// Where agents are at the times of a share: while they follow their paths, by cell and time and
+/// again by cell alone, and where they rest for ever, by cell.
 #[derive(Drop)]
 pub(crate) struct Sightings {
     // Each agent in each cell of its path, by cell and time.
@@ -27,18 +35,24 @@ pub(crate) struct Sightings {
 }
 
 impl Sightings {
-    /// The index of the plans.
-    pub(crate) fn new(alloc: Global, mode: Mode, plans: &Plans) -> Result<Sightings, OutOfMemory>
-        ensures { IfOk result (IsIndexOf (tracks_of mode plans.now.rows)) }
+    /// The share of the plans' index.
+    pub(crate) fn new(
+        alloc: Global,
+        mode: Mode,
+        plans: &Plans,
+        share: Share,
+    ) -> Result<Sightings, OutOfMemory>
+        requires { 0 < share.many }
+        ensures { IfOk result (IsShareOf (tracks_of mode plans.now.rows) share) }
     {
         let agents = plans.count() as usize;
-        let cells = cells_of(plans);
+        let cells = cells_of(plans) / share.many as usize;
         let mut moments = Table::new(alloc, cells, cells)?;
         let mut rests = Table::new(alloc, agents, agents)?;
         let mut passes = Table::new(alloc, agents, 0)?;
         file_rests(&mut rests, mode, plans)?;
         let first_rest = first_rest(mode, plans);
-        file_paths(&mut moments, &mut passes, &rests, plans, first_rest)?;
+        file_paths(&mut moments, &mut passes, &rests, plans, first_rest, share)?;
         Ok(Sightings {
             moments,
             rests,
@@ -114,7 +128,37 @@ fn file_pass(
     passes.file(cell, 0, pass)
 }
 
-// Files the agent in each cell of its path.
+// Files the agent in the cell of its path at that time, if the time is of the share.
+fn file_place(
+    moments: &mut Table,
+    passes: &mut Table,
+    rests: &Table,
+    agent: Agent,
+    plan: &Plan,
+    first_rest: u32,
+    share: Share,
+    time: u32,
+) -> Result<(), OutOfMemory>
+    requires moments { IsFiled moments.old }
+    requires passes { IsFiled passes.old }
+    requires rests { IsFiled rests.now }
+    requires some { 0 < share.many }
+    ensures moments { OnOk result (IsFiled moments.new) }
+    ensures passes { OnOk result (IsFiled passes.new) }
+    ensures keeps_moments { OnOk result (KeepsFiled moments.old moments.new) }
+    ensures keeps_passes { OnOk result (KeepsFiled passes.old passes.new) }
+    ensures seen { OnOk result ((cell : Point) → place plan.now time ≡ Some cell → IsOf share time → Files moments.new cell time (pass time agent)) }
+    ensures passed { OnOk result ((cell : Point) → place plan.now time ≡ Some cell → IsOf share time → first_rest < time → HasFiled rests.now cell 0 → Files passes.new cell 0 (pass time agent)) }
+{
+    if time % share.many != share.number {
+        return Ok(());
+    }
+    let cell = plan.at(Step::new(time));
+    moments.file(cell, time, Pass { time, agent })?;
+    file_pass(passes, rests, first_rest, cell, Pass { time, agent })
+}
+
+// Files the agent in each cell of its path at the times of the share.
 fn file_path(
     moments: &mut Table,
     passes: &mut Table,
@@ -122,36 +166,39 @@ fn file_path(
     agent: Agent,
     plan: &Plan,
     first_rest: u32,
+    share: Share,
 ) -> Result<(), OutOfMemory>
     requires moments { IsFiled moments.old }
     requires passes { IsFiled passes.old }
     requires rests { IsFiled rests.now }
-    ensures { OnOk result (AddsPath moments.old moments.new passes.old passes.new rests.now agent plan.now first_rest (last_index plan.now + 1)) }
+    requires some { 0 < share.many }
+    ensures { OnOk result (AddsPath moments.old moments.new passes.old passes.new rests.now agent plan.now first_rest share (last_index plan.now + 1)) }
 {
     for time in 0..plan.last() + 1 {
-        let cell = plan.at(Step::new(time));
-        moments.file(cell, time, Pass { time, agent })?;
-        file_pass(passes, rests, first_rest, cell, Pass { time, agent })?;
+        file_place(moments, passes, rests, agent, plan, first_rest, share, time)?;
     }
     Ok(())
 }
 
-// Files each agent in each cell of its path.
+// Files each agent in each cell of its path at the times of the share.
 fn file_paths(
     moments: &mut Table,
     passes: &mut Table,
     rests: &Table,
     plans: &Plans,
     first_rest: u32,
+    share: Share,
 ) -> Result<(), OutOfMemory>
     requires moments { IsFiled moments.old }
     requires passes { IsFiled passes.old }
     requires rests { IsFiled rests.now }
-    ensures { OnOk result (HasPaths moments.new passes.new rests.now plans.now.rows first_rest) }
+    requires some { 0 < share.many }
+    ensures { OnOk result (HasPaths moments.new passes.new rests.now plans.now.rows first_rest share) }
 {
     for rank in 0..plans.count() {
         let entry = plans.entry_at(rank);
-        file_path(moments, passes, rests, entry.0, &entry.1.plan, first_rest)?;
+        let plan = &entry.1.plan;
+        file_path(moments, passes, rests, entry.0, plan, first_rest, share)?;
     }
     Ok(())
 }

@@ -30,7 +30,7 @@ impl<'a> Promise<Result<Part, OutOfMemory>> for Piece<'a> {
 pub(crate) fn part_of<G: Gate>(
     alloc: Global,
     scene: &Scene,
-    index: &Sightings,
+    index: &[Sightings],
     from: u32,
     to: u32,
     piece: u32,
@@ -70,7 +70,7 @@ pub(crate) fn in_scope<'s, E: 's, G: Gate, R: Threads>(
     alloc: Global,
     scope: &'s Scope<'s, E>,
     scene: &'s Scene,
-    index: &'s Sightings,
+    index: &'s [Sightings],
     workers: u32,
     gate: &'s G,
 ) -> Option<Part>

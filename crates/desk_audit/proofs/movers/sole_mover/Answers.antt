@@ -7,14 +7,14 @@ use Rattle.desk_audit.proofs.movers.sole_mover.Goals as goal
 
 pub returns-clause-sole : goal.returns-clause-sole
 returns-clause-sole c =
-    let index = c.args.index.now in
+    let moments = c.args.moments.now in
     let fleet = tracks_of c.args.mode c.args.plans.now.rows in
-    let walk : Walked index.moments (bucket_of (length index.moments.heads.items) c.args.cell c.args.time) None (Tells fleet c.args.time c.args.cell c.loop-next.found) = rw c.in_default.is at c.loop-next.invariant.walk in
-    sole_found fleet index c.args.time c.args.cell c.loop-next.found c.requires.index walk c.loop-next.invariant.moves
+    let walk : Walked moments (bucket_of (length moments.heads.items) c.args.cell c.args.time) None (Tells fleet c.args.time c.args.cell c.loop-next.found) = rw c.in_default.is at c.loop-next.invariant.walk in
+    sole_found fleet moments c.args.time c.args.cell c.loop-next.found c.requires.seen walk c.loop-next.invariant.moves
 
 pub returns-clause-only : goal.returns-clause-only
 returns-clause-only c agent sole =
-    let index = c.args.index.now in
+    let moments = c.args.moments.now in
     let fleet = tracks_of c.args.mode c.args.plans.now.rows in
-    let walk : Walked index.moments (bucket_of (length index.moments.heads.items) c.args.cell c.args.time) None (Tells fleet c.args.time c.args.cell c.loop-next.found) = rw c.in_default.is at c.loop-next.invariant.walk in
-    all_found fleet index c.args.time c.args.cell c.loop-next.found c.requires.index walk agent sole.moves
+    let walk : Walked moments (bucket_of (length moments.heads.items) c.args.cell c.args.time) None (Tells fleet c.args.time c.args.cell c.loop-next.found) = rw c.in_default.is at c.loop-next.invariant.walk in
+    all_found fleet moments c.args.time c.args.cell c.loop-next.found c.requires.seen walk agent sole.moves

@@ -10,7 +10,7 @@ use Rattle.desk_audit.proofs.movers.sole_mover.Given as goal
 
 abbrev pub invariant-loop-next : goal.invariant-loop-next
 invariant-loop-next l = record {
-  walk : Walked l.index.moments (bucket_of (length l.index.moments.heads.items) l.cell l.time) l.next (Tells (tracks_of l.mode l.plans.rows) l.time l.cell l.found);
+  walk : Walked l.moments (bucket_of (length l.moments.heads.items) l.cell l.time) l.next (Tells (tracks_of l.mode l.plans.rows) l.time l.cell l.found);
   moves : IfSome l.found (λ a. MovesOut (tracks_of l.mode l.plans.rows) l.time a l.cell);
 }
 

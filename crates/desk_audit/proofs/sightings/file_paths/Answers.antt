@@ -18,16 +18,16 @@ loop-rank-preserved c =
     record {
       moments_filed = adds.moments_filed;
       passes_filed = adds.passes_filed;
-      paths = below_rank_more rows c.loop-rank.rank agent (λ (a : ℕ). (row : Row) → row_of rows a ≡ Some row → HasPath moments passes c.args.rests.now a row.plan c.args.first_rest) here.1
-          (λ a k lt is row live. keeps_path _ _ _ _ _ a row.plan c.args.first_rest adds.keeps_moments adds.keeps_passes (c.loop-rank.invariant.paths a k lt is row live))
+      paths = below_rank_more rows c.loop-rank.rank agent (λ (a : ℕ). (row : Row) → row_of rows a ≡ Some row → HasPath moments passes c.args.rests.now a row.plan c.args.first_rest c.args.share) here.1
+          (λ a k lt is row live. keeps_path _ _ _ _ _ a row.plan c.args.first_rest c.args.share adds.keeps_moments adds.keeps_passes (c.loop-rank.invariant.paths a k lt is row live))
           (λ row live.
           let same : c.entry_at-entry.result.1.now ≡ row = same_Some _ row (sym here.0 ∙ live) in
-          subst (λ (r : Row). HasPath moments passes c.args.rests.now agent r.plan c.args.first_rest) same (added_path _ _ _ _ _ agent _ c.args.first_rest adds));
+          subst (λ (r : Row). HasPath moments passes c.args.rests.now agent r.plan c.args.first_rest c.args.share) same (added_path _ _ _ _ _ agent _ c.args.first_rest c.args.share adds));
     }
 
 pub returns : goal.returns
 returns c = record {
   moments_filed = c.loop-rank.invariant.moments_filed;
   passes_filed = c.loop-rank.invariant.passes_filed;
-  paths = λ agent row live. all_agents c.args.plans.now.rows c.loop-rank.rank (λ (a : ℕ). (row : Row) → row_of c.args.plans.now.rows a ≡ Some row → HasPath c.loop-rank.moments c.loop-rank.passes c.args.rests.now a row.plan c.args.first_rest) (omega arith) c.loop-rank.invariant.paths agent (rw live Rattle.std.proofs.Common.refl) row live;
+  paths = λ agent row live. all_agents c.args.plans.now.rows c.loop-rank.rank (λ (a : ℕ). (row : Row) → row_of c.args.plans.now.rows a ≡ Some row → HasPath c.loop-rank.moments c.loop-rank.passes c.args.rests.now a row.plan c.args.first_rest c.args.share) (omega arith) c.loop-rank.invariant.paths agent (rw live Rattle.std.proofs.Common.refl) row live;
 }

@@ -10,5 +10,5 @@ abbrev pub invariant-loop-rank : goal.invariant-loop-rank
 invariant-loop-rank l = record {
   moments_filed : IsFiled l.moments;
   passes_filed : IsFiled l.passes;
-  paths : (agent k : ℕ) → k < l.rank → slice_get (agents_of l.plans.rows) k ≡ Some agent → (row : Row) → row_of l.plans.rows agent ≡ Some row → HasPath l.moments l.passes l.rests agent row.plan l.first_rest;
+  paths : (agent k : ℕ) → k < l.rank → slice_get (agents_of l.plans.rows) k ≡ Some agent → (row : Row) → row_of l.plans.rows agent ≡ Some row → HasPath l.moments l.passes l.rests agent row.plan l.first_rest l.share;
 }

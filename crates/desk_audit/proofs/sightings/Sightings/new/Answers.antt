@@ -1,5 +1,5 @@
-use Rattle.desk_audit.proofs.Paths.{index_is}
+use Rattle.desk_audit.proofs.Paths.{share_is}
 use Rattle.desk_audit.proofs.sightings.Sightings.new.Goals as goal
 
 pub returns : goal.returns
-returns c = index_is c.args.mode c.args.plans.now.rows _ c.in_ok-file_rests.ensures.filed c.in_ok-file_rests.ensures.rests c.first_rest-first_rest.ensures c.in_ok-file_paths.ensures
+returns c = share_is c.args.mode c.args.plans.now.rows c.args.share _ c.in_ok-file_rests.ensures.filed c.in_ok-file_rests.ensures.rests c.first_rest-first_rest.ensures c.in_ok-file_paths.ensures
