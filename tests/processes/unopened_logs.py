@@ -54,6 +54,17 @@ def log_of_another_scene():
     remove("log", "other")
 
 
+def log_of_no_desk():
+    """Where no desk is opened, its fault is told as without a log, with what more is known, and the log has nothing."""
+    for words, given, text in ((["--map", "map_letter"], b"", "map: bad letter in row 0, column 1\n  line 5: .x."),
+                               ([], bytes_of("map_letter"), "map: bad letter in row 0, column 1")):
+        is_fault(["serve", *words, "--log", "log", "-v"], text, given)
+        want("the log", bytes_of("log"), b"")
+    folder = os.open(".", os.O_RDONLY)
+    is_fault(["serve", "--log", "log", "-v"], "read failed\n  Is a directory (os error 21)", stdin=folder)
+    os.close(folder), remove("log")
+
+
 def log_in_use():
     """A second program is told that the log is in use, by whatever name, as long as the first one lives; others may read it."""
     put("wide", WIDE)
@@ -129,5 +140,5 @@ def log_that_may_not_be_written():
 
 
 def tests():
-    for test in (logged_nowhere, log_of_another_scene, log_in_use, log_that_is_no_file, log_of_too_many_bytes, log_that_may_not_be_written):
+    for test in (logged_nowhere, log_of_another_scene, log_of_no_desk, log_in_use, log_that_is_no_file, log_of_too_many_bytes, log_that_may_not_be_written):
         yield test.__name__, test
