@@ -190,7 +190,7 @@ def told_who_is_awaited():
 
 
 def no_files():
-    """A planner whose input isn't there, or whose output can't be written."""
+    """A planner whose input isn't there, or whose output can't be written. It isn't told as one that hasn't come yet."""
     put("east.in", b"close 0,0\n")
     remove("gone.in")
     is_run(["host", "--map", "m", "gone"], b"", (2, "audit same\n", "mapf_desk: gone: can't open its input: No such file or directory (os error 2)\n"))
@@ -198,6 +198,12 @@ def no_files():
     is_run(["host", "--map", "m", "east"], b"", (2, "audit same\n", "mapf_desk: east: can't open its output: Is a directory (os error 21)\n"))
     os.rmdir("east.out")
     remove("east.in")
+    os.mkfifo("west.in"), os.mkfifo("west.out")
+    status, said, complained = run(["host", "-v", "--map", "m", "--wait", "2", "gone", "west"])
+    want("the end", (status, said), (2, "audit same\n"))
+    told = ["gone: can't open its input: No such file or directory (os error 2)", "operator: 0 lines", "west: hasn't come yet", "west: never came"]
+    want("what is told", sorted(complained.splitlines()), [f"mapf_desk: {line}" for line in told])
+    remove("west.in", "west.out")
 
 
 def plain_files():

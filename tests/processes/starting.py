@@ -1,6 +1,7 @@
 """The threads of `host`, one at a time: each start waits until this script lets it go on, or is refused."""
 import errno
 import os
+import subprocess
 import time
 
 from .comings import make_pipes, remove_pipes
@@ -84,6 +85,20 @@ def nobody_waits_at_a_pipe():
     remove_pipes("east"), remove("west.in", "west.out")
 
 
+def no_thread_at_pipes():
+    """Where the thread of a session at pipes doesn't start, they are closed at once, before others come, and nobody is waited for there."""
+    make_pipes("east", "west")
+    comes = "trap '' PIPE; exec 3> east.in; cat east.out; echo >&3 && echo heard; echo version > west.in & cat west.out"
+    shell = subprocess.Popen(["sh", "-c", comes], stdout=subprocess.PIPE, stderr=subprocess.DEVNULL)
+    session, starts = Stepped(b"", ["host", "--map", "m", "east", "west"], STARTS), 0
+    for number, _ in session.calls():
+        starts += 1
+        session.answer(number, errno.EAGAIN if starts == 5 else 0)
+    want("the end", session.end(), (2, b"audit same\n", b"mapf_desk: east: no thread\n"))
+    want("what is read", shell.communicate(timeout=PATIENCE)[0], b"version 0\n")
+    remove_pipes("east", "west")
+
+
 def tests():
-    for test in (none_begins_before_all_have_threads, one_thread_refused, nobody_waits_at_a_pipe):
+    for test in (none_begins_before_all_have_threads, one_thread_refused, nobody_waits_at_a_pipe, no_thread_at_pipes):
         yield test.__name__, test

@@ -139,6 +139,19 @@ def log_that_may_not_be_written():
     os.chmod("apart", 0o755), shutil.rmtree("apart")
 
 
+def log_in_another_folder():
+    """The folder of a new log's name is opened, to be synced, and no other: so one may be in a folder that can't be read."""
+    os.mkdir("apart"), os.mkdir("apart/logs"), shutil.copy2(Program.path, "apart/desk"), put("apart/wide", WIDE)
+    for name, mode in (("desk", 0o755), ("wide", 0o644), ("logs", 0o777), ("", 0o711)):
+        os.chmod(f"apart/{name}", mode)
+    for mode, ended in ((0o777, (0, b"version 0\n")), (0o333, (2, b""))):
+        os.chmod("apart/logs", mode)
+        done = subprocess.run(["./desk", *SERVE[:-1], f"logs/{mode}"], cwd="apart", input=b"version\n", capture_output=True, timeout=PATIENCE, preexec_fn=as_user)
+        want(f"the end where the folder has mode {mode:o}", (done.returncode, done.stdout), ended)
+    shutil.rmtree("apart")
+
+
 def tests():
-    for test in (logged_nowhere, log_of_another_scene, log_of_no_desk, log_in_use, log_that_is_no_file, log_of_too_many_bytes, log_that_may_not_be_written):
+    for test in (logged_nowhere, log_of_another_scene, log_of_no_desk, log_in_use, log_that_is_no_file, log_of_too_many_bytes, log_that_may_not_be_written,
+                 log_in_another_folder):
         yield test.__name__, test
