@@ -88,15 +88,18 @@ def nobody_waits_at_a_pipe():
 def no_thread_at_pipes():
     """Where the thread of a session at pipes doesn't start, they are closed at once, before others come, and nobody is waited for there."""
     make_pipes("east", "west")
-    comes = "trap '' PIPE; exec 3> east.in; cat east.out; echo >&3 && echo heard; echo version > west.in & cat west.out"
+    comes = "trap '' PIPE; exec 3> east.in 4< east.out; : > opened; cat <&4; echo >&3 && echo heard; echo version > west.in & cat west.out"
     shell = subprocess.Popen(["sh", "-c", comes], stdout=subprocess.PIPE, stderr=subprocess.DEVNULL)
     session, starts = Stepped(b"", ["host", "--map", "m", "east", "west"], STARTS), 0
     for number, _ in session.calls():
         starts += 1
+        until = time.monotonic() + PATIENCE
+        while starts == 5 and not os.path.exists("opened") and time.monotonic() < until:
+            time.sleep(0.005)
         session.answer(number, errno.EAGAIN if starts == 5 else 0)
     want("the end", session.end(), (2, b"audit same\n", b"mapf_desk: east: no thread\n"))
     want("what is read", shell.communicate(timeout=PATIENCE)[0], b"version 0\n")
-    remove_pipes("east", "west")
+    remove_pipes("east", "west"), remove("opened")
 
 
 def tests():
