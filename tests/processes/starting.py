@@ -13,7 +13,8 @@ STARTS = {56: "start", 435: "start"}  # the calls of x86-64 Linux that start a t
 NAMES = ["east", "west", "north"]
 WORDS = ["host", "--map", "m", "--workers", "1", "--save", "kept", *NAMES]
 # The threads in the order of their starts: of all hosting, of who sees how long planners are waited for, of sessions; then of the audit.
-THREADS = ["hosting", "waiting", *NAMES, "operator", "audit"]
+AUDIT = ["index", "report"]
+THREADS = ["hosting", "waiting", *NAMES, "operator", *AUDIT]
 
 
 def come_to_rest(process):
@@ -50,7 +51,7 @@ def none_begins_before_all_have_threads():
     """While the start of any session's thread is awaited nobody is answered, though its own thread is there."""
     seen, ended = hosted()
     want("the end", ended, (0, b"version 0\naudit same\n", b""))
-    want("who is answered before each start", seen, [[]] * (len(THREADS) - 1) + [NAMES])
+    want("who is answered before each start", seen, [[]] * (len(THREADS) - len(AUDIT)) + [NAMES] * len(AUDIT))
     forget()
 
 
@@ -65,8 +66,8 @@ def one_thread_refused():
             want(f"what is without the thread {thread}", (seen, ended), ([[]] * (refused + 1), (2, b"", b"mapf_desk: out of memory\n")))
             want("whether anybody is answered, or anything saved", (answers, os.path.exists("kept")), ({}, False))
             continue
-        told = f"mapf_desk: {thread}: no thread\n" if thread != "audit" else "mapf_desk: out of memory\n"
-        said = (b"" if thread == "operator" else b"version 0\n") + (b"" if thread == "audit" else b"audit same\n")
+        told = "mapf_desk: out of memory\n" if thread in AUDIT else f"mapf_desk: {thread}: no thread\n"
+        said = (b"" if thread == "operator" else b"version 0\n") + (b"" if thread in AUDIT else b"audit same\n")
         want(f"the end without the thread {thread}", ended, (2, said, told.encode()))
         want("the answers", answers, {**{name: b"" for name in NAMES}, **{name: b"version 0\n" for name in others}})
         want("the journal", bytes_of("kept"), b"journal 2\nmode stay\nend 0\n")
