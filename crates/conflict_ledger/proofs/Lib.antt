@@ -1,4 +1,3 @@
-pub mod KeptLoops
 pub mod Change
 pub mod Sighted
 pub mod Gathers

@@ -1,12 +1,13 @@
 ghost use Rattle.std.specs.Prelude.{IfOk, OnOk};
 ghost use Rattle.plan_table.specs.Route.{route_of};
-ghost use Rattle.conflict_ledger.specs.Kept.{GainsAll, LosesAll};
+ghost use Rattle.change_history.specs.Moved.{Follows};
 ghost use Rattle.conflict_ledger.specs.Mending.{Enters, TakesOut, TellsShare};
 
 use crate::gather::gather;
 use crate::sight::Sight;
 use crate::spans::Span;
 use crate::turns::{Turn, rings_left};
+use change_history::Moves;
 use grid_cells::{Agent, OutOfMemory};
 use mapf_rules::Conflict;
 use plan_table::Track;
@@ -53,39 +54,30 @@ pub(crate) fn share_of<'x>(
     })
 }
 
-// Puts in what comes with the agent whose share it is.
-pub(crate) fn enter(kept: &mut BTreeSet<Conflict>, share: Share) -> Result<(), OutOfMemory>
-    ensures { OnOk result (Enters share kept.old.keys kept.new.keys) }
+// Puts in what comes with the agent whose share it is, and notes what came and went.
+pub(crate) fn enter(
+    kept: &mut BTreeSet<Conflict>,
+    moves: &mut Moves<Conflict>,
+    share: Share,
+) -> Result<(), OutOfMemory>
+    ensures entries { OnOk result (Enters share kept.old.keys kept.new.keys) }
+    ensures follows { OnOk result (Follows kept.old.keys kept.new.keys moves.old moves.new) }
 {
-    lose_all(kept, &share.broken);
-    put_all(kept, share.joined)?;
-    put_all(kept, share.entries)
+    moves.take_all(kept, &share.broken);
+    moves.put_all(kept, &share.joined)?;
+    moves.put_all(kept, &share.entries)
 }
 
-// Takes out what goes with the agent whose share it is.
-pub(crate) fn leave(kept: &mut BTreeSet<Conflict>, share: Share) -> Result<(), OutOfMemory>
-    ensures { OnOk result (TakesOut share kept.old.keys kept.new.keys) }
+// Takes out what goes with the agent whose share it is, and notes what came and went.
+pub(crate) fn leave(
+    kept: &mut BTreeSet<Conflict>,
+    moves: &mut Moves<Conflict>,
+    share: Share,
+) -> Result<(), OutOfMemory>
+    ensures entries { OnOk result (TakesOut share kept.old.keys kept.new.keys) }
+    ensures follows { OnOk result (Follows kept.old.keys kept.new.keys moves.old moves.new) }
 {
-    lose_all(kept, &share.joined);
-    lose_all(kept, &share.entries);
-    put_all(kept, share.broken)
-}
-
-// Puts in all the entries.
-fn put_all(kept: &mut BTreeSet<Conflict>, entries: Vec<Conflict>) -> Result<(), OutOfMemory>
-    ensures { OnOk result (GainsAll kept.old.keys kept.new.keys entries.items) }
-{
-    for entry in entries {
-        kept.insert(entry)?;
-    }
-    Ok(())
-}
-
-// Takes out all the entries.
-fn lose_all(kept: &mut BTreeSet<Conflict>, entries: &[Conflict])
-    ensures { LosesAll kept.old.keys kept.new.keys entries.now }
-{
-    for entry in entries {
-        kept.remove(entry);
-    }
+    moves.take_all(kept, &share.joined);
+    moves.take_all(kept, &share.entries);
+    moves.put_all(kept, &share.broken)
 }

@@ -1,18 +1,16 @@
-ghost use Rattle.std.specs.Prelude.{◌≡◌, ◌↔◌, ℕ, ◌<◌, List, Some, None, IfOk, IsTrue};
-ghost use Rattle.plan_table.specs.Route.{Fleet, position, route_of};
-ghost use Rattle.where_index.specs.Index.{StandsFor, with_route};
+ghost use Rattle.std.specs.Prelude.{◌≡◌, ◌↔◌, ℕ, List, Some, None, IfOk, IsTrue, length};
+ghost use Rattle.plan_table.specs.Route.{Fleet};
+ghost use Rattle.where_index.specs.Index.{StandsFor};
 ghost use Rattle.mapf_rules.specs.ConflictList.{AreConflicts, IsListed};
 ghost use Rattle.mapf_rules.specs.Cycles.{IsRingAt};
 ghost use Rattle.conflict_ledger.specs.Kept.{HasEntries, HasKind, many_of};
-ghost use Rattle.conflict_ledger.specs.Mending.{KeepsUp};
 
-use crate::changes::{enter, leave, share_of};
+mod tracks;
+
 use crate::least::least_of;
 use crate::movers::Whole;
-use crate::spans::Span;
-use grid_cells::{Agent, Cell, List, OutOfMemory, Step};
+use grid_cells::{Cell, List, OutOfMemory, Step};
 use mapf_rules::{Conflict, Kind, Ring, ring_out_of};
-use plan_table::Track;
 use std::alloc::Global;
 use std::collections::BTreeSet;
 use std::marker::Model;
@@ -53,71 +51,6 @@ impl ConflictLedger {
         }
     }
 
-    /// Takes in an agent that the index has with that track. Before, the ledger has the entries of the
-    /// other agents; after, those of the index.
-    ///
-    /// # Errors
-    ///
-    /// Want of memory: the ledger is gone then.
-    pub fn admit(
-        mut self,
-        agent: Agent,
-        track: Track<'_>,
-        index: &WhereIndex,
-    ) -> Result<ConflictLedger, OutOfMemory>
-        ensures { IfOk result (λ ledger. KeepsUp index.now agent None (Some (route_of track.entry)) self ledger) }
-    {
-        let share = share_of(self.alloc, agent, track, &Span::whole(), index)?;
-        enter(&mut self.kept, share)?;
-        Ok(self)
-    }
-
-    /// Lets go an agent with that track, which the index no longer has. Before, the ledger has the
-    /// entries of all; after, those of the index.
-    ///
-    /// # Errors
-    ///
-    /// Want of memory, since a removal can make a ring: the ledger is gone then.
-    pub fn retract(
-        mut self,
-        agent: Agent,
-        track: Track<'_>,
-        index: &WhereIndex,
-    ) -> Result<ConflictLedger, OutOfMemory>
-        ensures { IfOk result (λ ledger. KeepsUp index.now agent (Some (route_of track.entry)) None self ledger) }
-    {
-        let share = share_of(self.alloc, agent, track, &Span::whole(), index)?;
-        leave(&mut self.kept, share)?;
-        Ok(self)
-    }
-
-    /// Gives an agent that had the old track the new one, which the index has. Below `since` the
-    /// positions on the two tracks are equal. Before, the ledger has the entries of the same tracks
-    /// with the old one; after, those of the index. The cost follows the times that tell the tracks
-    /// apart.
-    ///
-    /// # Errors
-    ///
-    /// Want of memory: the ledger is gone then.
-    pub fn revise(
-        mut self,
-        agent: Agent,
-        old: Track<'_>,
-        new: Track<'_>,
-        since: u32,
-        index: &WhereIndex,
-    ) -> Result<ConflictLedger, OutOfMemory>
-        requires { (t : ℕ) → t < since → position (route_of old) t ≡ position (route_of new) t }
-        ensures { IfOk result (λ ledger. KeepsUp index.now agent (Some (route_of old.entry)) (Some (route_of new.entry)) self ledger) }
-    {
-        let span = Span::apart(old, new, since);
-        let gone = share_of(self.alloc, agent, old, &span, index)?;
-        leave(&mut self.kept, gone)?;
-        let come = share_of(self.alloc, agent, new, &span, index)?;
-        enter(&mut self.kept, come)?;
-        Ok(self)
-    }
-
     /// The entries, in their order: by kind, time, agents and cells.
     ///
     /// # Errors
@@ -151,6 +84,13 @@ impl ConflictLedger {
         }
         let found = ring_out_of(self.alloc, &Whole { index }, step.number(), cell)?;
         Ok(found)
+    }
+
+    /// How many entries it has.
+    pub fn len(&self) -> usize
+        ensures { result ≡ length self.now }
+    {
+        self.kept.len()
     }
 
     /// How many entries of that kind it has.

@@ -4,3 +4,4 @@ pub mod Through
 pub mod Replans
 pub mod Kept
 pub mod Ledger
+pub mod Agents

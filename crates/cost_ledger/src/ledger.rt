@@ -1,13 +1,15 @@
-ghost use Rattle.std.specs.Prelude.{◌≡◌, ◌↔◌, [], None, Some, OnOk, IfOk, IfSome, IfNone, IsTrue, length};
+ghost use Rattle.std.specs.Prelude.{◌≡◌, ◌↔◌, [], None, Some, OnOk, IfOk, IfSome, IfNone, IsTrue, Contains, length};
 ghost use Rattle.grid_cells.specs.Grid.{Chart};
 ghost use Rattle.plan_table.specs.Plans.{row_of, ChangesRow, IsByAgent};
 ghost use Rattle.mapf_rules.specs.Costs.{IsSumOfCosts, IsMakespan};
 ghost use Rattle.mapf_rules.specs.Visits.{AreVisits};
+ghost use Rattle.mapf_rules.specs.declared.visits.Visit.{Visit};
 ghost use Rattle.cost_ledger.specs.Ledger.{StandsForMap, IsSettleOf, IsFinishedIn, IsUnfinishedCount};
 
 mod flips;
 mod plans;
 
+use crate::agents::of_agent;
 use crate::along::{listed, unblock};
 use crate::rests::{Rest, greatest};
 use crate::rows::{Rows, elsewhere};
@@ -146,6 +148,17 @@ impl CostLedger {
         ensures by_agent { IsByAgent self.now.rows }
     {
         self.blocked.len()
+    }
+
+    /// The blocked visits of the agent. The cost follows their number.
+    ///
+    /// # Errors
+    ///
+    /// Want of memory.
+    pub fn visits_of(&self, agent: Agent) -> Result<List<Visit>, OutOfMemory>
+        ensures { IfOk result (λ visits. (visit : Visit) → Contains visits visit ↔ (Contains self.now.visits visit × (visit.agent ≡ agent))) }
+    {
+        of_agent(self.alloc, &self.blocked, agent)
     }
 
     /// The blocked visits of the agents, by agent, then time.

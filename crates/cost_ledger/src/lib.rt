@@ -8,6 +8,7 @@
 //! dropped, since together they are no ledger.
 #![tactic(auto)]
 
+mod agents;
 mod along;
 mod laws;
 mod ledger;

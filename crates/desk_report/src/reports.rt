@@ -1,18 +1,28 @@
 ghost use Rattle.std.specs.Prelude.{◌↔◌, IsTrue};
 ghost use Rattle.desk_report.specs.Solves.{Solves};
 
-use grid_cells::{Agent, List};
+use change_history::Item;
+use grid_cells::{Agent, List, OutOfMemory};
 use mapf_rules::{Conflict, Kinds, Visit};
 
 /// What is said of one agent: its settle time in steps, whether it is finished, its lower bound in
-/// steps, and its gap, the steps that its settle time has above the bound.
-#[derive(Clone, Copy, PartialEq, Eq)]
+/// steps, and its gap, the steps that its settle time has above the bound. Lines compare by agent, then
+/// by their other fields in turn.
+#[derive(Clone, Copy, PartialEq, Eq, PartialOrd, Ord)]
 pub struct AgentLine {
     pub agent: Agent,
     pub settle: u32,
     pub finished: bool,
     pub bound: Option<u32>,
     pub gap: Option<u32>,
+}
+
+impl Item for AgentLine {
+    fn copy(&self) -> Result<AgentLine, OutOfMemory> {
+        Ok(*self)
+    }
+
+    fn told_apart() {}
 }
 
 /// What is said of a map and a fleet's plans. The totals are given only where every agent has what

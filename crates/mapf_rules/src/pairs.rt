@@ -1,5 +1,7 @@
 ghost use Rattle.std.specs.Prelude.{◌≡◌, ◌+◌, ◌<◌, ◌≤◌, Some, None, IfSome, IsTrue, ◌↔◌};
+ghost use Rattle.std.specs.Option.{option_copied};
 ghost use Rattle.grid_cells.specs.Cell.{Point};
+ghost use Rattle.plan_table.specs.Plans.{row_of};
 ghost use Rattle.plan_table.specs.Route.{position_of, last_of, leaves_of, tracks_of};
 ghost use Rattle.mapf_rules.specs.Entries.{OnePasses, both_end_by};
 ghost use Rattle.mapf_rules.specs.Finding.{fleet_of, Finds, StandsOfPair, StepsBetween};
@@ -8,13 +10,29 @@ ghost use Rattle.mapf_rules.specs.declared.entries.Conflict.TheVariants.{Vertex,
 use crate::entries::Conflict;
 use crate::movers::{Table, destination};
 use grid_cells::{Agent, Cell, Step};
-use plan_table::{MOST_LAST_INDEX, Mode, Plans};
+use plan_table::{MOST_LAST_INDEX, Mode, Plans, Row};
+
+// The agent's row, if it has one. Where the agents' numbers have no gaps, it is at the rank of its
+// number.
+#[tactic(auto, using(plan_table::proofs::Fleets::row_here))]
+fn row(plans: &Plans, agent: Agent) -> Option<&Row>
+    ensures { option_copied result ≡ row_of plans.now.rows agent }
+{
+    let rank = agent.number();
+    if rank < plans.count() {
+        let entry = plans.entry_at(rank);
+        if entry.0 == agent {
+            return Some(entry.1);
+        }
+    }
+    plans.row(agent)
+}
 
 /// Where the agent is at the time, if it is anywhere.
 pub fn position(plans: &Plans, mode: Mode, agent: Agent, time: u32) -> Option<Cell>
     ensures { result ≡ position_of (tracks_of mode plans.now.rows) agent time }
 {
-    let row = plans.row(agent)?;
+    let row = row(plans, agent)?;
     let track = row.track(mode);
     if track.leaves && time > track.plan.last() {
         None
@@ -28,7 +46,7 @@ pub fn last(plans: &Plans, mode: Mode, agent: Agent) -> u32
     ensures is { result ≡ last_of (tracks_of mode plans.now.rows) agent }
     ensures bound { result ≤ MOST_LAST_INDEX }
 {
-    match plans.row(agent) {
+    match row(plans, agent) {
         Some(row) => row.track(mode).plan.last(),
         None => 0,
     }
@@ -38,7 +56,7 @@ pub fn last(plans: &Plans, mode: Mode, agent: Agent) -> u32
 fn leaves(plans: &Plans, mode: Mode, agent: Agent) -> bool
     ensures { result ≡ leaves_of (tracks_of mode plans.now.rows) agent }
 {
-    match plans.row(agent) {
+    match row(plans, agent) {
         Some(row) => row.track(mode).leaves,
         None => false,
     }
