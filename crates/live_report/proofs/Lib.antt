@@ -22,3 +22,11 @@ pub mod Blocking
 pub mod Deciding
 pub mod Verdicts
 pub mod NamesOne
+pub mod Looking
+pub mod Looked
+pub mod Parted
+pub mod Covering
+pub mod KeptVersions
+pub mod Recounting
+pub mod Differing
+pub mod ReportThere

@@ -1,5 +1,5 @@
 -- Lines of a table's agents, one agent's line changed.
-use Rattle.std.proofs.Common.{◌≡◌, ℕ, zero, suc, ◌<◌, ◌≤◌, false, List, [], ◌∷◌, length, get_or, set, Option, Some, None, Result, Ok, Err, IfOk, IfErr, refl, sym, ap, ◌∙◌, arith}
+use Rattle.std.proofs.Common.{◌≡◌, ℕ, zero, suc, ◌<◌, ◌≤◌, false, List, [], ◌∷◌, length, get_or, set, Option, Some, None, Result, Ok, Err, IfOk, IfErr, refl, sym, ap, subst, ◌∙◌, arith}
 use Rattle.std.specs.List.{insert, remove}
 use Rattle.std.specs.List.Sorted.{IsNonDecreasingBy, IsPartitionPoint, IsSearchInRange, IsBinarySearchResult}
 use Rattle.std.specs.Ordering.{nat_cmp, ordering_index}
@@ -9,12 +9,15 @@ use Rattle.std.proofs.lemmas.Cmp.{ranked}
 use Rattle.std.proofs.lemmas.Grind.{common_steps}
 use Rattle.grid_cells.specs.Grid.{Chart}
 use Rattle.plan_table.specs.Order.{EachOf}
-use Rattle.plan_table.specs.Plans.{IsByAgent, IsAt, IsGapFor, ChangesRow}
+use Rattle.std.proofs.lemmas.Option.{same_Some, slice_get-get_or}
+use Rattle.plan_table.specs.Plans.{row_of, IsByAgent, IsAt, IsGapFor, ChangesRow}
+use Rattle.plan_table.proofs.Fleets.{row_here}
 use Rattle.plan_table.specs.declared.plans.Row.{Row}
-use Rattle.plan_table.proofs.Order.{EachOf-length}
+use Rattle.plan_table.proofs.Order.{EachOf-length, EachOf-at}
 use Rattle.plan_table.proofs.Rows.{row_of_gap, changes_row_insert, changes_row_remove, changes_row_set, by_agent_insert, by_agent_remove}
 use Rattle.desk_report.specs.declared.reports.AgentLine.{AgentLine}
 use Rattle.live_report.specs.Lines.{IsOpenLine, AreOpenLines, AreLinesOf, GoWith}
+use Rattle.live_report.specs.Looks.{IsOpenLineAt}
 use Rattle.live_report.specs.Prices.{Rows, with_row_in}
 use Rattle.live_report.proofs.RowAims.{rows_changed}
 
@@ -120,3 +123,18 @@ module _ (grid : Chart) (rows : Rows) (lines : List AgentLine) (were : AreLinesO
 
   pub line_absent : IsGapFor were.table agent at → AreLinesOf grid (with_row_in rows agent None) lines
   line_absent gap = mended were.table lines None (record { this_agent = row_of_gap were.table agent at gap; other_agents = λ a h. refl }) were.by_agent were.are
+
+-- the line that a search finds is the agent's
+pub line_found : (grid : Chart) (rows : Rows) (lines : List AgentLine) (were : AreLinesOf grid rows lines) (agent at : ℕ) → IsAt were.table agent at → (line : AgentLine) → line ≡ get_or lines at line → IsOpenLineAt grid rows agent (Some line)
+line_found grid rows lines were agent at found line is =
+    let entry = get_or were.table at some_entry in
+    let there = slice_get-get_or were.table at some_entry found.in_range in
+    let goes = EachOf-at (IsOpenLine grid) were.table lines were.are at entry there in
+    let long = EachOf-length (IsOpenLine grid) were.table lines were.are in
+    let here : goes.0 ≡ line = same_Some goes.0 line (sym goes.1 ∙ slice_get-get_or lines at line (omega (arith, found.in_range, long)) ∙ ap Some (sym is)) in
+    let own : entry.0 ≡ agent = found.has_agent some_entry in
+    let live : row_of were.table entry.0 ≡ Some entry.1 = (row_here were.table were.by_agent at entry.0 entry.1 there).0 in (
+      entry.1,
+      sym (were.same agent) ∙ ap (row_of were.table) (sym own) ∙ live,
+      subst (λ a. IsOpenLine grid (a, entry.1) line) own (subst (IsOpenLine grid entry) here goes.2),
+    )

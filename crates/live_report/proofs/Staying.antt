@@ -21,7 +21,7 @@ no_lines one other (line ∷ lines) are = absurd are
 
 module _ (old new : Chart) (rows : Rows) (books : Prices) (cells : List Point) (are : AreOfRows old rows books) (sound : All IsSound books.fields) (whole : IsWhole new) (size : old.size ≡ new.size) (none : length cells ≡ 0) (covers : Covers cells old new) where
   -- a map that has a field is the same as before
-  same_chart : (agent : ℕ) (row : Row) → rows agent ≡ Some row → old ≡ new
+  pub same_chart : (agent : ℕ) (row : Row) → rows agent ≡ Some row → old ≡ new
   same_chart agent row live =
       let held = (are.goals row.goal).1 (agent, record { row = row; live = live; aims = refl }) in
       let field : Standing = held.0 in

@@ -68,7 +68,7 @@ line_of grid agent row cost is ((bound, starts), free) =
       record { agent = refl; settle = is.settles; finished = finished.1; bound = starts; gap = gap.1 },
     )
 
-lines_of : (grid : Chart) (rows : List (ℕ × Row)) (costs : List (Option ℕ)) → AreCosts rows costs → All (IsReady grid) rows → (lines : List AgentLine) × AreLines grid rows lines
+pub lines_of : (grid : Chart) (rows : List (ℕ × Row)) (costs : List (Option ℕ)) → AreCosts rows costs → All (IsReady grid) rows → (lines : List AgentLine) × AreLines grid rows lines
 lines_of grid [] [] are ready = ([], tt)
 lines_of grid [] (cost ∷ costs) are ready = absurd are
 lines_of grid (entry ∷ rows) [] are ready = absurd are

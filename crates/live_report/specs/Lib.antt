@@ -9,3 +9,7 @@ pub mod Prices
 pub mod PriceLaws
 pub mod Rows
 pub mod Asked
+pub mod Looks
+pub mod Turnovers
+pub mod Changed
+pub mod Histories

@@ -6,14 +6,17 @@ ghost use Rattle.plan_table.specs.declared.plans.Row.{Row};
 ghost use Rattle.desk_report.specs.Report.{IsReportOf};
 ghost use Rattle.scene_edits.specs.Scene.{SceneState};
 ghost use Rattle.live_report.specs.Books.{AreOf};
+ghost use Rattle.change_history.specs.Moved.{Follows};
 ghost use Rattle.scene_edits.specs.ChangedBy.{ChangedBy};
 ghost use Rattle.live_report.specs.Following.{AreBehind, TouchesOnce};
 
 use crate::fleet::FleetBooks;
 use crate::lines::Lines;
 use crate::prices::PriceBooks;
+use change_history::Moves;
 use desk_report::Report;
 use grid_cells::{Cell, OutOfMemory};
+use mapf_rules::Conflict;
 use scene_edits::{Change, Scene, flipped, formers};
 use std::alloc::Global;
 use std::marker::Model;
@@ -61,10 +64,11 @@ impl Books {
             prices: PriceBooks::new(alloc),
             lines: None,
         };
+        let mut unfollowed = Moves::unfollowed(alloc);
         let plans = scene.plans();
         for rank in 0..plans.count() {
             let (agent, row) = plans.entry_at(rank);
-            match books.enter(agent, row, scene) {
+            match books.enter(agent, row, scene, &mut unfollowed) {
                 Ok(more) => books = more,
                 Err(refused) => return Err(refused),
             }
@@ -98,6 +102,27 @@ impl Books {
         ensures touched { IfOk result (λ books. (before : SceneState) → ChangedBy before changes.now scene.now → AreOf before self
             → TouchesOnce scene.now.mode before.rows scene.now.rows u64.MAX self.fleet.index.touched books.fleet.index.touched) }
     {
+        let mut unfollowed = Moves::unfollowed(self.alloc);
+        self.follow_noting(changes, scene, &mut unfollowed)
+    }
+
+    /// Takes in what edits changed, as `follow` does, and notes the conflict entries that come and go.
+    ///
+    /// # Errors
+    ///
+    /// Want of memory: the books are gone then.
+    pub fn follow_noting(
+        self,
+        changes: &[Change],
+        scene: &Scene,
+        moves: &mut Moves<Conflict>,
+    ) -> Result<Books, OutOfMemory>
+        requires { AreBehind changes.now scene.now self }
+        ensures kept { IfOk result (AreOf scene.now) }
+        ensures follows { IfOk result (λ books. Follows self.fleet.conflicts books.fleet.conflicts moves.old moves.new) }
+        ensures touched { IfOk result (λ books. (before : SceneState) → ChangedBy before changes.now scene.now → AreOf before self
+            → TouchesOnce scene.now.mode before.rows scene.now.rows u64.MAX self.fleet.index.touched books.fleet.index.touched) }
+    {
         let Ok(cells) = flipped(self.alloc, changes) else {
             drop(self);
             return Err(OutOfMemory);
@@ -107,7 +132,7 @@ impl Books {
             return Err(OutOfMemory);
         };
         let books = self.flip(&cells, scene)?;
-        books.catch_up(&formers, scene)
+        books.catch_up(&formers, scene, moves)
     }
 
     /// The report of the scene. It copies the agents' lines, which are made where none stand; else the

@@ -8,6 +8,7 @@ ghost use Rattle.scene_edits.specs.Kept.{AreAlike};
 ghost use Rattle.plan_table.specs.Path.{SamePlaces};
 ghost use Rattle.plan_table.specs.Plans.{row_of};
 ghost use Rattle.plan_table.specs.Route.{route_in};
+ghost use Rattle.change_history.specs.Moved.{Follows};
 ghost use Rattle.where_index.specs.Records.{nothing, records_apart};
 ghost use Rattle.live_report.specs.Books.{Know, Renews};
 ghost use Rattle.live_report.specs.Following.{former_apart};
@@ -16,40 +17,55 @@ use crate::books::Books;
 use crate::former::{is_same_plan, track_of};
 use crate::prices::PriceBooks;
 use crate::standing_lines::{with_line, without_line};
+use change_history::Moves;
 use grid_cells::{Agent, Cell, Grid, OutOfMemory};
+use mapf_rules::Conflict;
 use plan_table::{Plan, Row};
 use scene_edits::{Former, FormerRow, Scene};
 
 impl Books {
     // The agent's row before becomes its row in the scene.
-    pub(crate) fn change(self, former: &Former<'_>, scene: &Scene) -> Result<Books, OutOfMemory>
+    pub(crate) fn change(
+        self,
+        former: &Former<'_>,
+        scene: &Scene,
+        moves: &mut Moves<Conflict>,
+    ) -> Result<Books, OutOfMemory>
         requires know { Know scene.now.mode scene.now.grid former.now.agent (former_row former.now) self }
         requires alike { AreAlike (former_past former.now) (row_of scene.now.rows former.now.agent) }
         ensures kept { IfOk result (Renews scene.now.mode scene.now.grid former.now.agent
             (former_row former.now) (row_of scene.now.rows former.now.agent) self) }
         ensures touched { IfOk result (λ books. books.fleet.index.touched
             ≡ min (self.fleet.index.touched + former_apart scene.now.mode scene.now.rows former.now) u64.MAX) }
+        ensures follows { IfOk result (λ books. Follows self.fleet.conflicts books.fleet.conflicts moves.old moves.new) }
     {
         let agent = former.agent;
         let _touched = self.fleet.touched();
         match (former.row(), scene.plans().row(agent)) {
             (None, None) => Ok(self),
-            (None, Some(row)) => self.enter(agent, row, scene),
-            (Some(old), None) => self.leave(agent, old.goal, old.plan, scene),
-            (Some(old), Some(row)) => self.revise(agent, &old, row, scene),
+            (None, Some(row)) => self.enter(agent, row, scene, moves),
+            (Some(old), None) => self.leave(agent, old.goal, old.plan, scene, moves),
+            (Some(old), Some(row)) => self.revise(agent, &old, row, scene, moves),
         }
     }
 
     // The agent comes, with that row.
-    pub(crate) fn enter(self, agent: Agent, row: &Row, scene: &Scene) -> Result<Books, OutOfMemory>
+    pub(crate) fn enter(
+        self,
+        agent: Agent,
+        row: &Row,
+        scene: &Scene,
+        moves: &mut Moves<Conflict>,
+    ) -> Result<Books, OutOfMemory>
         requires know { Know scene.now.mode scene.now.grid agent None self }
         requires inside { Holds scene.now.grid.size row.now.goal }
         ensures kept { IfOk result (Renews scene.now.mode scene.now.grid agent None (Some row.now) self) }
         ensures touched { IfOk result (λ books. books.fleet.index.touched
             ≡ min (self.fleet.index.touched + records_apart nothing (route_in scene.now.mode row.now)) u64.MAX) }
+        ensures follows { IfOk result (λ books. Follows self.fleet.conflicts books.fleet.conflicts moves.old moves.new) }
     {
         let (alloc, fleet, prices, lines) = self.into_parts();
-        let Ok(fleet) = fleet.admit(agent, row.track(scene.mode())) else {
+        let Ok(fleet) = fleet.admit(agent, row.track(scene.mode()), moves) else {
             drop(prices);
             drop(lines);
             return Err(OutOfMemory);
@@ -75,13 +91,15 @@ impl Books {
         goal: Cell,
         plan: &Plan,
         scene: &Scene,
+        moves: &mut Moves<Conflict>,
     ) -> Result<Books, OutOfMemory>
         ensures kept { IfOk result (Renews scene.now.mode scene.now.grid agent (Some (record { goal = goal; plan = plan.now })) None self) }
         ensures touched { IfOk result (λ books. books.fleet.index.touched
             ≡ min (self.fleet.index.touched + records_apart (route_in scene.now.mode (record { goal = goal; plan = plan.now })) nothing) u64.MAX) }
+        ensures follows { IfOk result (λ books. Follows self.fleet.conflicts books.fleet.conflicts moves.old moves.new) }
     {
         let (alloc, fleet, mut prices, lines) = self.into_parts();
-        let Ok(fleet) = fleet.retract(agent, track_of(goal, plan, scene.mode())) else {
+        let Ok(fleet) = fleet.retract(agent, track_of(goal, plan, scene.mode()), moves) else {
             drop(prices);
             drop(lines);
             return Err(OutOfMemory);
@@ -103,6 +121,7 @@ impl Books {
         old: &FormerRow<'_>,
         row: &Row,
         scene: &Scene,
+        moves: &mut Moves<Conflict>,
     ) -> Result<Books, OutOfMemory>
         requires know { Know scene.now.mode scene.now.grid agent (Some (as_row old.now)) self }
         requires alike { SamePlaces old.now.plan.now row.now.plan old.now.alike }
@@ -110,11 +129,12 @@ impl Books {
         ensures kept { IfOk result (Renews scene.now.mode scene.now.grid agent (Some (as_row old.now)) (Some row.now) self) }
         ensures touched { IfOk result (λ books. books.fleet.index.touched
             ≡ min (self.fleet.index.touched + records_apart (route_in scene.now.mode (as_row old.now)) (route_in scene.now.mode row.now)) u64.MAX) }
+        ensures follows { IfOk result (λ books. Follows self.fleet.conflicts books.fleet.conflicts moves.old moves.new) }
     {
         let mode = scene.mode();
         let was = track_of(old.goal, old.plan, mode);
         let (alloc, fleet, prices, lines) = self.into_parts();
-        let Ok(fleet) = fleet.revise(agent, was, row.track(mode), old.alike) else {
+        let Ok(fleet) = fleet.revise(agent, was, row.track(mode), old.alike, moves) else {
             drop(prices);
             drop(lines);
             return Err(OutOfMemory);

@@ -72,7 +72,12 @@ impl Books {
     }
 
     // The report of the scene, whose agents have those lines, cut to those agents.
-    fn cut_by(&self, lines: &Lines, scene: &Scene, agents: &[Agent]) -> Result<Report, OutOfMemory>
+    pub(crate) fn cut_by(
+        &self,
+        lines: &Lines,
+        scene: &Scene,
+        agents: &[Agent],
+    ) -> Result<Report, OutOfMemory>
         requires books { AreOf scene.now self.now }
         requires lines { AreLinesOf scene.now.grid (row_of scene.now.rows) lines.now }
         ensures { IfOk result (IsCutOf scene.now.grid scene.now.mode scene.now.rows agents.now) }

@@ -6,10 +6,12 @@ ghost use Rattle.plan_table.specs.declared.tracks.Mode.{Mode};
 ghost use Rattle.where_index.specs.Records.{nothing, records_apart};
 ghost use Rattle.mapf_rules.specs.ConflictList.{AreConflicts};
 ghost use Rattle.cost_ledger.specs.Through.{AreThrough};
+ghost use Rattle.change_history.specs.Moved.{Follows};
 ghost use Rattle.scene_edits.specs.Since.{IsSince};
 ghost use Rattle.live_report.specs.Fleet.{AreOfFleet, Reroutes};
 
 use crate::visitors::visits_to;
+use change_history::Moves;
 use conflict_ledger::ConflictLedger;
 use grid_cells::{Agent, Cell, List, OutOfMemory, Step};
 use mapf_rules::{Conflict, Visit};
@@ -47,47 +49,60 @@ impl FleetBooks {
         }
     }
 
-    /// Takes in an agent that the fleet doesn't have, with its track.
+    /// Takes in an agent that the fleet doesn't have, with its track, and notes the entries that come and
+    /// go.
     ///
     /// # Errors
     ///
     /// Want of memory: the books are gone then.
-    pub fn admit(self, agent: Agent, track: Track<'_>) -> Result<FleetBooks, OutOfMemory>
+    pub fn admit(
+        self,
+        agent: Agent,
+        track: Track<'_>,
+        moves: &mut Moves<Conflict>,
+    ) -> Result<FleetBooks, OutOfMemory>
         ensures books { IfOk result (Reroutes agent None (Some (route_of track.entry)) self) }
         ensures touched { IfOk result (λ books. books.index.touched ≡ min (self.index.touched + records_apart nothing (route_of track.entry)) u64.MAX) }
+        ensures follows { IfOk result (λ books. Follows self.conflicts books.conflicts moves.old moves.new) }
     {
         let FleetBooks { index, conflicts } = self;
         let Ok(index) = index.put(agent, track) else {
             drop(conflicts);
             return Err(OutOfMemory);
         };
-        let Ok(conflicts) = conflicts.admit(agent, track, &index) else {
+        let Ok(conflicts) = conflicts.admit_noting(agent, track, &index, moves) else {
             drop(index);
             return Err(OutOfMemory);
         };
         Ok(FleetBooks { index, conflicts })
     }
 
-    /// Lets go an agent that the fleet has with that track.
+    /// Lets go an agent that the fleet has with that track, and notes the entries that come and go.
     ///
     /// # Errors
     ///
     /// Want of memory, since a removal can make a ring: the books are gone then.
-    pub fn retract(self, agent: Agent, track: Track<'_>) -> Result<FleetBooks, OutOfMemory>
+    pub fn retract(
+        self,
+        agent: Agent,
+        track: Track<'_>,
+        moves: &mut Moves<Conflict>,
+    ) -> Result<FleetBooks, OutOfMemory>
         ensures books { IfOk result (Reroutes agent (Some (route_of track.entry)) None self) }
         ensures touched { IfOk result (λ books. books.index.touched ≡ min (self.index.touched + records_apart (route_of track.entry) nothing) u64.MAX) }
+        ensures follows { IfOk result (λ books. Follows self.conflicts books.conflicts moves.old moves.new) }
     {
         let FleetBooks { index, conflicts } = self;
         let index = index.take(agent, track);
-        let Ok(conflicts) = conflicts.retract(agent, track, &index) else {
+        let Ok(conflicts) = conflicts.retract_noting(agent, track, &index, moves) else {
             drop(index);
             return Err(OutOfMemory);
         };
         Ok(FleetBooks { index, conflicts })
     }
 
-    /// Gives an agent that the fleet has with the old track the new one. Where the positions on the
-    /// two never differ the books stay as they are. They are compared from the time on below which
+    /// Gives an agent that the fleet has with the old track the new one, and notes the entries that come
+    /// and go. Where the positions on the two never differ the books stay as they are. They are compared from the time on below which
     /// their paths are known to be in the same cells.
     ///
     /// # Errors
@@ -99,11 +114,13 @@ impl FleetBooks {
         old: Track<'_>,
         new: Track<'_>,
         known: u32,
+        moves: &mut Moves<Conflict>,
     ) -> Result<FleetBooks, OutOfMemory>
         requires { SamePlaces old.plan.now new.plan.now known }
         ensures books { IfOk result (Reroutes agent (Some (route_of old.entry)) (Some (route_of new.entry)) self) }
         ensures touched { IfOk result (λ books.
             books.index.touched ≡ min (self.index.touched + records_apart (route_of old.entry) (route_of new.entry)) u64.MAX) }
+        ensures follows { IfOk result (λ books. Follows self.conflicts books.conflicts moves.old moves.new) }
     {
         let _touched = self.touched();
         let Some(since) = since_of(old, new, known) else {
@@ -114,7 +131,7 @@ impl FleetBooks {
             drop(conflicts);
             return Err(OutOfMemory);
         };
-        let Ok(conflicts) = conflicts.revise(agent, old, new, since, &index) else {
+        let Ok(conflicts) = conflicts.revise_noting(agent, old, new, since, &index, moves) else {
             drop(index);
             return Err(OutOfMemory);
         };

@@ -4,13 +4,16 @@ ghost use Rattle.std.specs.List.{sum_by};
 ghost use Rattle.grid_cells.specs.Grid.{Chart};
 ghost use Rattle.goal_fields.specs.Target.{Covers};
 ghost use Rattle.plan_table.specs.Plans.{row_of};
+ghost use Rattle.change_history.specs.Moved.{Follows};
 ghost use Rattle.live_report.specs.Prices.{Rows};
 ghost use Rattle.live_report.specs.Books.{AreOf, Keep};
 ghost use Rattle.live_report.specs.Following.{AreLeft, former_apart};
 
 use crate::books::Books;
 use crate::standing_lines::unflipped;
+use change_history::Moves;
 use grid_cells::{Cell, OutOfMemory};
+use mapf_rules::Conflict;
 use scene_edits::{Former, Scene};
 
 impl Books {
@@ -36,21 +39,23 @@ impl Books {
         })
     }
 
-    // The agents that are listed get the rows that they have in the scene.
+    // The agents that are listed get the rows that they have in the scene. Notes the entries that come and go.
     pub(crate) fn catch_up(
         self,
         formers: &[Former<'_>],
         scene: &Scene,
+        moves: &mut Moves<Conflict>,
     ) -> Result<Books, OutOfMemory>
         requires { (rows : Rows) × Keep scene.now.mode scene.now.grid rows self × AreLeft rows (row_of scene.now.rows) formers.now }
         ensures kept { IfOk result (AreOf scene.now) }
         ensures touched { IfOk result (λ books. books.fleet.index.touched
             ≡ min (self.fleet.index.touched + sum_by (former_apart scene.now.mode scene.now.rows) formers.now) u64.MAX) }
+        ensures follows { IfOk result (λ books. Follows self.fleet.conflicts books.fleet.conflicts moves.old moves.new) }
     {
         let _touched = self.fleet.touched();
         let mut books = self;
         for former in formers {
-            match books.change(former, scene) {
+            match books.change(former, scene, moves) {
                 Ok(changed) => books = changed,
                 Err(refused) => return Err(refused),
             }

@@ -4,6 +4,7 @@ ghost use Rattle.goal_fields.specs.Held.{HasGoal, StandFor};
 ghost use Rattle.plan_table.specs.Plans.{IsByAgent, IsAt, IsGapFor};
 ghost use Rattle.plan_table.specs.declared.plans.Row.{Row};
 ghost use Rattle.live_report.specs.Lines.{IsOpenLine, AreOpenLines, AreLinesOf, GoWith};
+ghost use Rattle.live_report.specs.Looks.{IsOpenLineAt};
 ghost use Rattle.live_report.specs.Prices.{Rows, with_row_in};
 ghost use Rattle.live_report.specs.Rows.{HaveFields};
 
@@ -51,6 +52,16 @@ impl Lines {
         ensures { result.now ≡ self.now }
     {
         &self.lines
+    }
+
+    /// The agent's line, if it has one.
+    pub(crate) fn line_of(&self, agent: Agent) -> Option<AgentLine>
+        ensures { (grid : Chart) (rows : Rows) → AreLinesOf grid rows self.now → IsOpenLineAt grid rows agent result }
+    {
+        match self.search(agent) {
+            Ok(at) => Some(self.lines[at]),
+            Err(_) => None,
+        }
     }
 
     /// Gives an agent its line, in the place of the one that it had.

@@ -26,6 +26,21 @@ impl Books {
         Lines::of(self.alloc, scene.plans(), self.prices.fields())
     }
 
+    /// Makes the lines of the scene's agents, where they don't stand. `follow_telling` then reports what
+    /// changes in them.
+    ///
+    /// # Errors
+    ///
+    /// Want of memory.
+    pub fn make_lines(&mut self, scene: &Scene) -> Result<(), OutOfMemory>
+        requires { AreOf scene.now self.old }
+        ensures { AreOf scene.now self.new }
+    {
+        let lines = self.take_lines(scene)?;
+        drop(self.lines.replace(lines));
+        Ok(())
+    }
+
     // The report of the scene, whose agents have those lines.
     pub(crate) fn report_by(&self, lines: &Lines, scene: &Scene) -> Result<Report, OutOfMemory>
         requires books { AreOf scene.now self.now }

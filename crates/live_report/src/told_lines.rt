@@ -14,7 +14,7 @@ use mapf_rules::Visit;
 use std::alloc::Global;
 
 // The agent's line, with no gap where a visit of it is blocked.
-fn told(line: AgentLine, unblocked: bool) -> AgentLine
+pub(crate) fn told(line: AgentLine, unblocked: bool) -> AgentLine
     ensures { (grid : Chart) (entry : ℕ × Row) → IsOpenLine grid entry line → IsPathOn grid entry.1.plan
         → (IsTrue unblocked ↔ IsUnblocked grid entry.1.plan) → IsLine grid entry result }
 {

@@ -37,6 +37,7 @@ loop-former-preserved c =
           let more = sum_by_more apart c.args.formers.now c.loop-former.former-index c.former-item.result (omega arith) in
           let here = ap apart c.former-item.is in
           omega (arith, more, here, c.in-Ok.ensures.touched, c.loop-former.invariant.touched);
+      follows = λ first tell. c.in-Ok.ensures.follows first (c.loop-former.invariant.follows first tell);
     }
 
 pub returns-clause-kept : goal.returns-clause-kept

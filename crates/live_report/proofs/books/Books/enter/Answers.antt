@@ -5,7 +5,8 @@ use Rattle.plan_table.specs.declared.tracks.Mode.{Mode}
 use Rattle.where_index.specs.Index.{with_route}
 use Rattle.where_index.specs.Records.{nothing, records_apart}
 use Rattle.live_report.specs.Fleet as fleets
-use Rattle.live_report.specs.Books.{fleet_in_mode}
+use Rattle.change_history.specs.Moved.{Tell}
+use Rattle.live_report.specs.Books.{BooksState, fleet_in_mode}
 use Rattle.live_report.proofs.Keeping.{keep_with}
 use Rattle.live_report.proofs.Rows.{in_place}
 use Rattle.live_report.proofs.books.Books.enter.Goals as goal
@@ -32,3 +33,6 @@ pub returns-clause-touched : goal.returns-clause-touched
 returns-clause-touched c =
     let route : route_of c.track.result ≡ route_in c.args.scene.now.mode c.args.row.now = c.track.ensures ∙ ap (λ (m : Mode). route_in m c.args.row.now) c.mode.ensures in
     subst (λ (r : Route). c.in-Ok.fleet.index.touched ≡ min (c.args.self.fleet.index.touched + records_apart nothing r) 18446744073709551615) route (rw c.into_parts-fleet.ensures c.in-Ok.ensures.touched)
+
+pub returns-clause-follows : goal.returns-clause-follows
+returns-clause-follows c = λ first tell. c.in-Ok.ensures.follows first (subst (λ (b : BooksState). Tell first b.fleet.conflicts c.args.moves.now) c.into_parts-fleet.ensures tell)

@@ -4,7 +4,8 @@ use Rattle.plan_table.specs.Route.{Route, route_of, route_in}
 use Rattle.plan_table.specs.declared.plans.Row.{Row}
 use Rattle.plan_table.specs.declared.tracks.Mode.{Mode}
 use Rattle.where_index.specs.Records.{nothing, records_apart}
-use Rattle.live_report.specs.Books.{fleet_in_mode}
+use Rattle.change_history.specs.Moved.{Tell}
+use Rattle.live_report.specs.Books.{BooksState, fleet_in_mode}
 use Rattle.live_report.proofs.Keeping.{keep_with}
 use Rattle.live_report.proofs.books.Books.leave.Goals as goal
 
@@ -23,3 +24,6 @@ returns-clause-touched c =
     let old : Row = record { goal = c.args.goal; plan = c.args.plan.now } in
     let route : route_of c.track_of.result ≡ route_in c.args.scene.now.mode old = c.track_of.ensures ∙ ap (λ (m : Mode). route_in m old) c.mode.ensures in
     subst (λ (r : Route). c.in-Ok.fleet.index.touched ≡ min (c.args.self.fleet.index.touched + records_apart r nothing) 18446744073709551615) route (rw c.into_parts-fleet.ensures c.in-Ok.ensures.touched)
+
+pub returns-clause-follows : goal.returns-clause-follows
+returns-clause-follows c = λ first tell. c.in-Ok.ensures.follows first (subst (λ (b : BooksState). Tell first b.fleet.conflicts c.args.moves.now) c.into_parts-fleet.ensures tell)

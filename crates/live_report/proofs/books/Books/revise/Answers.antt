@@ -10,7 +10,8 @@ use Rattle.where_index.specs.Index.{with_route}
 use Rattle.where_index.specs.Records.{records_apart}
 use Rattle.scene_edits.specs.Formers.{as_row}
 use Rattle.live_report.specs.Fleet as fleets
-use Rattle.live_report.specs.Books.{fleet_in_mode}
+use Rattle.change_history.specs.Moved.{Tell}
+use Rattle.live_report.specs.Books.{BooksState, fleet_in_mode}
 use Rattle.live_report.proofs.Keeping.{keep_with}
 use Rattle.live_report.proofs.Rows.{in_place}
 use Rattle.live_report.proofs.books.Books.revise.Goals as goal
@@ -47,3 +48,6 @@ returns-clause-touched c =
     subst (λ (r : Route). c.in-Ok.fleet.index.touched ≡ min (c.args.self.fleet.index.touched + records_apart (route_in mode old) r) 18446744073709551615) route
     (subst (λ (r : Route). c.in-Ok.fleet.index.touched ≡ min (c.args.self.fleet.index.touched + records_apart r (route_of c.track.result)) 18446744073709551615) before
     (rw c.into_parts-fleet.ensures c.in-Ok.ensures.touched))
+
+pub returns-clause-follows : goal.returns-clause-follows
+returns-clause-follows c = λ first tell. c.in-Ok.ensures.follows first (subst (λ (b : BooksState). Tell first b.fleet.conflicts c.args.moves.now) c.into_parts-fleet.ensures tell)

@@ -4,7 +4,7 @@ use Rattle.goal_fields.specs.Target.{Covers}
 use Rattle.plan_table.specs.Plans.{row_of}
 use Rattle.scene_edits.specs.Scene.{SceneState}
 use Rattle.live_report.proofs.Behind.{in_mode, same_size, flips_cover, formers_left}
-use Rattle.live_report.proofs.books.Books.follow.Goals as goal
+use Rattle.live_report.proofs.books.Books.follow_noting.Goals as goal
 
 pub flip-requires : goal.flip-requires
 flip-requires c =
