@@ -32,4 +32,4 @@ RunsAreLegal = (old new : DeskState) (calls : List Call) (answers : List Answer)
 
 -- entries make of a desk's scene the scene after them, and come after its journal
 abbrev pub EntriesMakeTheScene : Type 0
-EntriesMakeTheScene = (desk : DeskState) (entries : List Entry) → after desk entries ≡ record { scene = scene_after desk.scene entries; journal = desk.journal ++ entries; limit = desk.limit }
+EntriesMakeTheScene = (desk : DeskState) (entries : List Entry) → after desk entries ≡ record { start = desk.start; scene = scene_after desk.scene entries; journal = desk.journal ++ entries; limit = desk.limit }

@@ -5,6 +5,7 @@ pub mod Stamps
 pub mod Goals
 pub mod Commits
 pub mod Questions
+pub mod Changed
 pub mod Runs
 pub mod Replays
 pub mod Laws

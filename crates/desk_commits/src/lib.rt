@@ -3,6 +3,7 @@
 #![tactic(auto)]
 
 mod answers;
+mod changed;
 mod commits;
 mod copies;
 mod journals;
@@ -12,6 +13,7 @@ mod stale;
 mod stamps;
 
 pub use answers::{Answer, AskFault, Call, Reading, Refusal, Snapshot};
+pub use changed::SinceFault;
 pub use commits::{Commit, CommitFault, MOST_EDITS, MOST_WATCHES};
 pub use journals::{Journal, ReplayFault};
 pub use laws::{

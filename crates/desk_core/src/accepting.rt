@@ -6,6 +6,7 @@ ghost use Rattle.desk_commits.specs.Commits.{IsCurrent, Refuses, Committed};
 ghost use Rattle.desk_core.specs.Kept.{WhereBooksStand};
 
 use crate::desks::Desk;
+use crate::recording::recorded;
 use desk_commits::{Commit, Refusal, Stamps, first_stale, with_entry};
 use live_report::Books;
 use scene_edits::{Change, EditsFault, Scene};
@@ -25,6 +26,7 @@ impl Desk {
             return Err((refusal, commit));
         }
         self.make_stamps();
+        self.make_books();
         self.accept(commit)
     }
 
@@ -76,8 +78,10 @@ impl Desk {
         let size = self.scene.grid().size();
         match self.scene.apply_all(commit.edits()) {
             Ok(changes) => {
-                let books = followed(self.books.take(), changes.items(), &self.scene);
-                drop(replace(&mut self.books, books));
+                let (books, history) = (self.books.take(), self.history.take());
+                let kept = recorded(books, history, changes.items(), &self.scene);
+                drop(replace(&mut self.books, kept.0));
+                drop(replace(&mut self.history, kept.1));
             }
             Err(EditsFault::Faulty { index, why }) => {
                 return Err((Refusal::Faulty { index, why }, commit));

@@ -2,14 +2,18 @@
 ghost use Rattle.std.specs.Prelude.{◌≡◌};
 ghost use Rattle.desk_commits.specs.State.{DeskState};
 
+mod changes;
 mod places;
 mod reports;
 mod trials;
+mod trying;
 
 use crate::desks::Desk;
+pub use changes::Changing;
 pub use places::{Distance, Planning, Probing, Standing};
 pub use reports::{Copying, Cutting, Showing, Solving};
 pub use trials::Trial;
+pub use trying::Trying;
 
 /// A question that a desk is asked, which changes nothing.
 pub trait Question {

@@ -1,13 +1,12 @@
 ghost use Rattle.std.specs.Prelude.{◌≡◌, ◌≤◌, length, IfOk};
 ghost use Rattle.desk_commits.specs.State.{opening, version_of};
 ghost use Rattle.desk_commits.specs.Questions.{ShowsReport, Judges, AnswersDistance, Copies};
-ghost use Rattle.live_report.specs.Books.{AreOf};
 
 use crate::questions::{goal_asked, report, solves};
 use desk_commits::{AskFault, Commit, Limit, Reading, Snapshot, Stamps};
 use desk_report::Kinds;
 use grid_cells::{Agent, Cell, OutOfMemory};
-use live_report::{Books, BuildCount};
+use live_report::{Books, BuildCount, History};
 use scene_edits::Scene;
 use std::alloc::Global;
 use std::fmt::{Debug, Error, Formatter, Write};
@@ -21,7 +20,10 @@ pub struct Desk {
     pub(crate) limit: Limit,
     pub(crate) stamps: Option<Stamps>,
     pub(crate) books: Option<Books>,
-    builds: BuildCount,
+    pub(crate) history: Option<History>,
+    pub(crate) most: usize,
+    pub(crate) builds: BuildCount,
+    pub(crate) start: std::snapshot::Snapshot<Scene>,
 }
 
 impl Drop for Desk {
@@ -33,7 +35,10 @@ impl Drop for Desk {
             limit: _,
             stamps: _stamps,
             books: _books,
+            history: _history,
+            most: _,
             builds: _builds,
+            start: _start,
         } = self;
     }
 }
@@ -45,9 +50,9 @@ impl Model for Desk {
 
     ghost use Rattle.desk_core.specs.Kept.{IsKeptDesk};
 
-    ghost view = { λ d. record { scene = d.scene; journal = d.journal.items; limit = d.limit } };
+    ghost view = { λ d. record { start = d.start.value; scene = d.scene; journal = d.journal.items; limit = d.limit } };
 
-    ghost invariant = { λ d. IsKeptDesk d.scene d.journal.items d.limit d.stamps d.books };
+    ghost invariant = { λ d. IsKeptDesk d.start.value d.scene d.journal.items d.limit d.stamps d.books d.history };
 }
 
 impl Debug for Desk {
@@ -65,6 +70,7 @@ impl Desk {
     pub fn open(alloc: Global, scene: Scene, limit: Limit) -> Desk
         ensures { result ≡ opening scene limit }
     {
+        let start = std::snapshot::Snapshot::of(&scene);
         Desk {
             alloc,
             scene,
@@ -72,7 +78,10 @@ impl Desk {
             limit,
             stamps: None,
             books: None,
+            history: None,
+            most: 0,
             builds: BuildCount::new(),
+            start,
         }
     }
 
@@ -160,34 +169,5 @@ impl Desk {
             version: self.version(),
             scene: self.scene.copy()?,
         })
-    }
-
-    /// How often the books of the scene were made whole, the first time counted, held at the greatest
-    /// u64. A commit changes them by what it changes, so they are made anew only after want of memory.
-    pub fn rebuilds(&self) -> u64 {
-        self.builds.number()
-    }
-
-    // Puts the books of the scene back.
-    pub(crate) fn put_back(&mut self, books: Books)
-        requires { AreOf self.old.scene books }
-        ensures { self.new ≡ self.old }
-    {
-        drop(self.books.replace(books));
-    }
-
-    // The books of the scene: those that stand, and else new ones. None stand until they are put back.
-    pub(crate) fn take_books(&mut self) -> Result<Books, OutOfMemory>
-        ensures same { self.new ≡ self.old }
-        ensures books { IfOk result (AreOf self.old.scene) }
-    {
-        match self.books.take() {
-            Some(books) => Ok(books),
-            None => {
-                let books = Books::of(self.alloc, &self.scene)?;
-                self.builds.count_one();
-                Ok(books)
-            }
-        }
     }
 }

@@ -1,7 +1,7 @@
 -- What callers are told follows from what the steps told.
 use Rattle.std.specs.Prelude.{◌⊎◌, slice_index_or, All}
 use mathlib.Core.List.{IsPrefix}
-use Rattle.std.proofs.Common.{◌≡◌, ◌≢◌, ℕ, ◌+◌, ◌<◌, Bool, false, List, [], ◌∷◌, ◌++◌, length-append, arith, get_or, true, sym, ap, ◌∙◌, subst, Option, Some, Ok}
+use Rattle.std.proofs.Common.{◌≡◌, ◌≢◌, ℕ, ◌+◌, ◌<◌, Bool, false, List, [], ◌∷◌, ◌++◌, length-append, arith, get_or, true, sym, ap, ◌∙◌, subst, Option, Some, Ok, Err}
 use Rattle.std.proofs.lemmas.Bool.Decides.{nat_tests}
 use Rattle.std.proofs.lemmas.Grind.{common_steps}
 use Rattle.std.proofs.lemmas.Option.{gets}
@@ -11,6 +11,7 @@ use Rattle.atomic_table.specs.Table.{Final, Seen}
 use Rattle.desk_commits.specs.Entries.{Entry}
 use Rattle.desk_commits.specs.State.{DeskState, version_of, grown, after}
 use Rattle.desk_commits.specs.Commits.{Accepts, Committed}
+use Rattle.desk_commits.specs.declared.answers.Refusal.{Refusal}
 use Rattle.desk_commits.proofs.Replaying.{after-push}
 use Rattle.desk_shared.specs.declared.board.Known.{Known}
 use Rattle.desk_shared.specs.declared.board.Stage.TheVariants.{Idle, Holding}
@@ -46,6 +47,11 @@ commits k k1 k2 e v d0 d1 f same at did mine now =
       answered = (subst (λ (z : DeskState). Accepts z e) at' did.0, did.1 ∙ ap (λ (z : DeskState). version_of z + 1) at', ap (after k.start) made ∙ after-push k.start k1.made e);
       own = ap (own_of k.planner) made ∙ (own_of-mine k.planner k1.made e mine ∙ ap (λ (z : List Entry). z ++ e ∷ []) f.own);
     }
+
+-- the version of a desk that refused a commit
+pub refused_at : (k1 k2 : Known) (e : Entry) (refused : Refusal × Entry) (version : ℕ) (d1 : DeskState) → (d0 : DeskState) → d0 ≡ after k1.start k1.made → Committed d0 e (Err refused) d1 → version ≡ version_of d1 → k2 ≡ posed k1 Idle k1.made → version ≡ version_at k2.start k2.made
+refused_at k1 k2 e refused version d1 d0 at did is now =
+    is ∙ ap version_of (did.2 ∙ at) ∙ version_after k1.start k1.made ∙ sym (ap (λ (z : Known). version_at z.start z.made) now)
 
 pub closes : (ws : List ℕ) (xs : List (Option DeskState)) (id : ℕ) (k : Known) (d : DeskState) → k.live ≡ true → Final (Seen Ruled id k) ws xs → get_elem? ws 1 ≡ some 0 → get_elem? xs 0 ≡ some (Some d) → IsDeskAtClose (shown k) d
 closes ws xs id k d live last free there =

@@ -10,7 +10,7 @@ use Rattle.atomic_table.specs.Seated.{TableId}
 use Rattle.atomic_table.specs.declared.shared.Seat.{Seat}
 use Rattle.plan_table.specs.declared.tracks.Mode.TheVariants.{Stay}
 use Rattle.desk_commits.specs.Entries.{Entry}
-use Rattle.desk_commits.specs.State.{DeskState, version_of, grown, after}
+use Rattle.desk_commits.specs.State.{DeskState, opening, version_of, grown, after}
 use Rattle.desk_commits.specs.Commits.{Accepts}
 use Rattle.desk_commits.specs.Replays.{IsLegal}
 use Rattle.desk_shared.specs.declared.board.Known.{Known}
@@ -144,7 +144,7 @@ both pass other = record { live = pass.live; stage = Joined pass.made other.made
 
 -- what is left of a joined pass
 abbrev pub nobody : Known
-nobody = record { live = false; stage = Idle; start = record { scene = record { grid = record { size = record { width = 0; height = 0 }; flags = [] }; rows = []; mode = Stay }; journal = []; limit = 0 }; planners = 0; made = []; floor = 0; planner = 0; unused = []; past = [] }
+nobody = record { live = false; stage = Idle; start = opening (record { grid = record { size = record { width = 0; height = 0 }; flags = [] }; rows = []; mode = Stay }) 0; planners = 0; made = []; floor = 0; planner = 0; unused = []; past = [] }
 
 -- what both passes had seen begins what the one has seen
 abbrev pub joined : OneStep → Hand → ℕ → Hand → Type 0

@@ -1,6 +1,6 @@
 //! A desk that is shared: opened, used through a pass, and closed.
 ghost use Rattle.std.specs.Prelude.{◌≡◌, true, IfOk, IfErr};
-ghost use Rattle.desk_shared.specs.Passes.{Owns};
+ghost use Rattle.desk_shared.specs.Passes.{Owns, version_at};
 ghost use Rattle.desk_shared.specs.Calls.{MayShare, Unshared, IsFirst, CommitsBy, IsLastSeen, IsFront, IsDeskAtClose};
 
 mod asking;
@@ -123,16 +123,35 @@ impl SharedDesk {
         ensures answer { CommitsBy pass.old.known commit result pass.new.known }
         ensures last { IfOk result (IsLastSeen pass.new.known commit) }
     {
+        let (answer, _) = self.commit_at(rt, pass, commit);
+        answer
+    }
+
+    /// Commits at the desk as `commit` does, and answers too the version that the desk then has.
+    pub fn commit_at<R: Wait>(
+        &self,
+        rt: &R,
+        pass: &mut Pass,
+        commit: Commit,
+    ) -> (Result<u64, (Refusal, Commit)>, u64)
+        requires owned { Owns self.now pass.old }
+        requires planner { commit.planner ≡ pass.old.known.planner }
+        ensures owned { Owns self.now pass.new }
+        ensures answer { CommitsBy pass.old.known commit result.0 pass.new.known }
+        ensures last { IfOk result.0 (IsLastSeen pass.new.known commit) }
+        ensures at { result.1 ≡ version_at pass.new.known.start pass.new.known.made }
+    {
         let top = &self.table.shared;
         let mut desk = win(rt, top, &mut pass.place);
         match desk.commit(commit) {
             Ok(version) => {
                 grow(top, &mut pass.place, desk);
-                Ok(version)
+                (Ok(version), version)
             }
             Err(refused) => {
+                let version = desk.version();
                 free(top, &mut pass.place, desk);
-                Err(refused)
+                (Err(refused), version)
             }
         }
     }

@@ -1,6 +1,6 @@
-ghost use Rattle.std.specs.Prelude.{◌≡◌};
-ghost use Rattle.desk_shared.specs.Passes.{Owns};
-ghost use Rattle.desk_shared.specs.Windows.{window_on};
+ghost use Rattle.std.specs.Prelude.{◌≡◌, IfErr};
+ghost use Rattle.desk_shared.specs.Passes.{Owns, version_at};
+ghost use Rattle.desk_shared.specs.Windows.{window_counting, window_on};
 
 use crate::passes::Pass;
 use crate::sharing::SharedDesk;
@@ -39,6 +39,16 @@ impl<'a, R: Wait> Window<'a, R> {
         ensures { result ≡ window_on desk.now pass }
     {
         Window { rt, desk, pass }
+    }
+
+    /// Commits as `commit` does, and answers too the version that the desk then has.
+    pub fn commit_at(&mut self, commit: Commit) -> (Result<u64, (Refusal, Commit)>, u64)
+        requires planner { commit.planner ≡ self.old.pass.planner }
+        ensures made { window_counting.commits self.old commit result.0 self.new }
+        ensures back { IfErr result.0 (λ refused. refused.1 ≡ commit) }
+        ensures at { result.1 ≡ version_at self.new.pass.start self.new.pass.made }
+    {
+        self.desk.commit_at(self.rt, &mut self.pass, commit)
     }
 
     /// The pass, which is still one of the shared desk.

@@ -10,9 +10,10 @@ ghost use Rattle.desk_core.specs.Kept.{IsKeptDesk, WhereBooksStand};
 use super::Question;
 use crate::accepting::followed;
 use crate::desks::Desk;
+use crate::recording::recorded;
 use desk_commits::{Commit, Refusal, Stamps};
 use grid_cells::OutOfMemory;
-use live_report::Books;
+use live_report::{Books, History};
 use scene_edits::{EditsFault, Reversible, Scene};
 use std::mem::replace;
 
@@ -36,16 +37,17 @@ impl<Q: Question> Question for Trial<Q> {
     ghost answers = { λ trial desk answer. Tries desk trial.commit (Q.answers trial.question) answer };
 
     fn put(&self, desk: &mut Desk) -> Result<(u64, Q::Answer), Refusal> {
-        desk.try_out(&self.commit, &self.question)
+        desk.try_out(&self.commit, &self.question, 0)
     }
 }
 
 impl Desk {
-    // The trial of the commit, with that question.
-    fn try_out<Q: Question>(
+    // The trial of the commit, with that question. Meanwhile a history may have so many elements.
+    pub(crate) fn try_out<Q: Question>(
         &mut self,
         commit: &Commit,
         question: &Q,
+        most: usize,
     ) -> Result<(u64, Q::Answer), Refusal>
         ensures answer { Tries self.old commit.now (Q.answers question.now) result }
         ensures same { self.new ≡ self.old }
@@ -57,16 +59,21 @@ impl Desk {
         let Ok(copy) = commit.copy(self.alloc) else {
             return Err(Refusal::OutOfMemory);
         };
-        let stamps = self.stamps.take();
+        let (stamps, history) = (self.stamps.take(), self.history.take());
+        let before = replace(&mut self.most, most);
+        self.make_books();
         match self.accept_reversibly(copy) {
             Ok(changes) => {
                 let version = self.version();
                 let answer = question.put(self);
-                self.take_back(changes, stamps);
+                self.take_back(changes, stamps, history);
+                self.most = before;
                 Ok((version, answer))
             }
             Err(refusal) => {
                 drop(replace(&mut self.stamps, stamps));
+                drop(replace(&mut self.history, history));
+                self.most = before;
                 Err(refusal)
             }
         }
@@ -86,8 +93,10 @@ impl Desk {
         let _grid = self.scene.grid();
         match self.scene.apply_reversibly(commit.edits()) {
             Ok(changes) => {
-                let books = followed(self.books.take(), changes.items(), &self.scene);
-                drop(replace(&mut self.books, books));
+                let (books, history) = (self.books.take(), self.history.take());
+                let kept = recorded(books, history, changes.items(), &self.scene);
+                drop(replace(&mut self.books, kept.0));
+                drop(replace(&mut self.history, kept.1));
                 drop(self.stamps.take());
                 match self.journal.push(commit) {
                     Ok(()) => Ok(changes),
@@ -99,17 +108,18 @@ impl Desk {
         }
     }
 
-    // Takes back the last entry, whose edits made those changes. The stamps are those of the journal before it.
-    fn take_back(&mut self, changes: Reversible, stamps: Option<Stamps>)
+    // Takes back the last entry, whose edits made those changes. Stamps and history are those of the journal before it.
+    fn take_back(&mut self, changes: Reversible, stamps: Option<Stamps>, history: Option<History>)
         requires { (scene : SceneState) × (journal : List Entry) × (entry : Entry) × (self.old.journal ≡ journal ++ entry ∷ [])
-            × ChangedBy scene changes self.old.scene × IsKeptDesk scene journal self.old.limit stamps None }
+            × ChangedBy scene changes self.old.scene × IsKeptDesk self.old.start scene journal self.old.limit stamps None history }
         ensures { (scene : SceneState) (journal : List Entry) (entry : Entry) → self.old.journal ≡ journal ++ entry ∷ []
-            → ChangedBy scene changes self.old.scene → self.new ≡ record { scene = scene; journal = journal; limit = self.old.limit } }
+            → ChangedBy scene changes self.old.scene → self.new ≡ record { start = self.old.start; scene = scene; journal = journal; limit = self.old.limit } }
     {
         drop(self.journal.pop());
         let books = reverted(self.books.take(), changes, &mut self.scene);
         drop(replace(&mut self.books, books));
         drop(replace(&mut self.stamps, stamps));
+        drop(replace(&mut self.history, history));
     }
 }
 

@@ -29,11 +29,14 @@ invariant_of-self c =
     let limit : c.self.inside.limit ≡ c.args.self.now.limit = ap (λ (d : DeskState). d.limit) c.self.view_is in
     let back : c.reverted-books.new.scene ≡ scene = c.reverted-books.ensures.back scene (subst (ChangedBy scene c.args.changes) (sym same) changed) in
     let left : c.pop.new.self.items ≡ journal = c.pop.ensures.rest ∙ without_last c.self.inside.journal.items journal entry c.self.inside.journal.len c.self.inside.journal.ok.0 (entries ∙ is) in
+    let start : c.self.inside.start.value ≡ c.args.self.now.start = ap (λ (d : DeskState). d.start) c.self.view_is in
     record {
+      made = rw (back, left, start) kept.made;
       within = rw (left, limit) kept.within;
       on_map = rw (back, left) kept.on_map;
       stamped = rw (back, left, c.replace-2.ensures.after) kept.stamped;
       booked = rw c.replace.ensures.after c.reverted-books.ensures.stand;
+      recounted = rw (left, start, c.replace-3.ensures.after) kept.recounted;
     }
 
 pub returns : goal.returns
@@ -43,4 +46,5 @@ returns c = λ scene journal entry is changed.
     let limit : c.self.inside.limit ≡ c.args.self.now.limit = ap (λ (d : DeskState). d.limit) c.self.view_is in
     let back : c.reverted-books.new.scene ≡ scene = c.reverted-books.ensures.back scene (subst (ChangedBy scene c.args.changes) (sym same) changed) in
     let left : c.pop.new.self.items ≡ journal = c.pop.ensures.rest ∙ without_last c.self.inside.journal.items journal entry c.self.inside.journal.len c.self.inside.journal.ok.0 (entries ∙ is) in
-    rw (back, left, limit) refl
+    let start : c.self.inside.start.value ≡ c.args.self.now.start = ap (λ (d : DeskState). d.start) c.self.view_is in
+    rw (back, left, limit, start) refl

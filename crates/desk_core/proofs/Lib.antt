@@ -1,0 +1,4 @@
+pub mod Versions
+pub mod Reported
+pub mod Recorded
+pub mod Optional
