@@ -4,9 +4,9 @@ use Rattle.std.specs.Option.{IsSomeAnd, option_map, option_map_or, ok_or}
 use Rattle.bench_reader.specs.Words.{words_of}
 use Rattle.session_lines.specs.Agents.{agents_named}
 use Rattle.session_lines.specs.Requests.{request_of_words, request_of, HasCells}
-use Rattle.session_lines.specs.Shapes.{alone, only_agent, only_cell, time_and_cell, version_and_seconds}
+use Rattle.session_lines.specs.Shapes.{alone, only_agent, only_cell, only_version, time_and_cell, version_and_seconds}
 use Rattle.session_lines.specs.declared.questions.QuestionCommand.{QuestionCommand}
-use Rattle.session_lines.specs.declared.questions.QuestionCommand.TheVariants.{Report, Try, Plan, Cell, At, Wait}
+use Rattle.session_lines.specs.declared.questions.QuestionCommand.TheVariants.{Report, Changes, Try, Plan, Cell, At, Wait}
 use Rattle.session_lines.specs.declared.inquiries.Inquiry.TheVariants as inquiry
 use Rattle.session_lines.specs.declared.versions.LinesVersion.{LinesVersion}
 use Rattle.session_lines.specs.declared.versions.LinesVersion.TheVariants.{One, Two}
@@ -19,6 +19,7 @@ use Rattle.session_lines.specs.declared.requests.Request.TheVariants as request
 abbrev pub question_command_of : List ℕ → Option QuestionCommand
 question_command_of word =
     if bytes_eq word (codes "report") then Some Report else
+    if bytes_eq word (codes "changes") then Some Changes else
     if bytes_eq word (codes "try") then Some Try else
     if bytes_eq word (codes "plan") then Some Plan else
     if bytes_eq word (codes "cell") then Some Cell else
@@ -33,6 +34,7 @@ report_of (word ∷ words) = option_map (λ agents. request.Ask (inquiry.Report 
 -- the question of a first word and the words behind it, if they are of its shape and in their ranges
 abbrev pub question_of : QuestionCommand → List (List ℕ) → Option Request
 question_of Report words = report_of words
+question_of Changes words = option_map (λ version. request.Ask (inquiry.Changes version)) (only_version words)
 question_of Try words = alone request.Try words
 question_of Plan words = option_map (λ agent. request.Ask (inquiry.Plan agent)) (only_agent words)
 question_of Cell words = option_map (λ cell. request.Ask (inquiry.Cell cell)) (only_cell words)

@@ -18,6 +18,11 @@ abbrev pub only_cell : List (List ℕ) → Option Point
 only_cell (cell ∷ []) = cell_of cell
 only_cell _ = None
 
+-- VERSION
+abbrev pub only_version : List (List ℕ) → Option ℕ
+only_version (version ∷ []) = version_named version
+only_version _ = None
+
 -- AGENT X,Y
 abbrev pub agent_and_cell : List (List ℕ) → Option (ℕ × Point)
 agent_and_cell (agent ∷ cell ∷ []) = with_both (λ a c. (a, c)) (agent_of agent) (cell_of cell)

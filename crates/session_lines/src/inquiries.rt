@@ -5,6 +5,8 @@ use grid_cells::{Agent, Cell, List, Step};
 pub enum Inquiry {
     /// The version, and the report cut to these agents.
     Report(List<Agent>),
+    /// What changed in the report since that version.
+    Changes(u64),
     /// The agent's goal and its path.
     Plan(Agent),
     /// Whether the cell is open.

@@ -7,7 +7,7 @@ ghost use Rattle.session_lines.specs.Questions.{question_command_of, report_of, 
 use crate::agents::agents_of;
 use crate::inquiries::Inquiry;
 use crate::requests::{LineFault, Request, alone, read_line};
-use crate::shapes::{only_agent, only_cell, time_and_cell, version_and_seconds};
+use crate::shapes::{only_agent, only_cell, only_version, time_and_cell, version_and_seconds};
 use crate::values::is_word;
 use crate::versions::LinesVersion;
 use bench_reader::next_word;
@@ -17,6 +17,7 @@ use std::alloc::Global;
 #[derive(Clone, Copy)]
 pub enum QuestionCommand {
     Report,
+    Changes,
     Try,
     Plan,
     Cell,
@@ -30,6 +31,8 @@ fn question_command_of(word: &[u8]) -> Option<QuestionCommand>
 {
     if is_word(word, b"report") {
         Some(QuestionCommand::Report)
+    } else if is_word(word, b"changes") {
+        Some(QuestionCommand::Changes)
     } else if is_word(word, b"try") {
         Some(QuestionCommand::Try)
     } else if is_word(word, b"plan") {
@@ -79,6 +82,9 @@ fn question_of(alloc: Global, command: QuestionCommand, line: &[u8]) -> Result<R
 {
     match command {
         QuestionCommand::Report => report_of(alloc, line),
+        QuestionCommand::Changes => only_version(line)
+            .map(|version| Request::Ask(Inquiry::Changes(version)))
+            .ok_or(LineFault::Shape),
         QuestionCommand::Try => alone(Request::Try, line),
         QuestionCommand::Plan => only_agent(line)
             .map(|agent| Request::Ask(Inquiry::Plan(agent)))

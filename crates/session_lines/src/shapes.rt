@@ -1,6 +1,6 @@
 ghost use Rattle.std.specs.Prelude.{◌≡◌};
 ghost use Rattle.bench_reader.specs.Words.{words_of};
-ghost use Rattle.session_lines.specs.Shapes.{only_agent, only_cell, agent_and_cell, time_and_cell, version_and_seconds};
+ghost use Rattle.session_lines.specs.Shapes.{only_agent, only_cell, only_version, agent_and_cell, time_and_cell, version_and_seconds};
 
 use crate::values::{agent_of, cell_of, seconds_of, time_of, version_named};
 use bench_reader::next_word;
@@ -26,6 +26,17 @@ pub(crate) fn only_cell(line: &[u8]) -> Option<Cell>
         return None;
     };
     cell_of(cell)
+}
+
+/// The version of a line VERSION.
+pub(crate) fn only_version(line: &[u8]) -> Option<u64>
+    ensures { result ≡ only_version (words_of line.now) }
+{
+    let (version, rest) = next_word(line)?;
+    let None = next_word(rest) else {
+        return None;
+    };
+    version_named(version)
 }
 
 /// The agent and the cell of a line AGENT X,Y.

@@ -6,6 +6,4 @@ pub mod Reading
 pub mod MapLines
 pub mod ItemLines
 pub mod Staying
-pub mod WalkAlong
-pub mod InOrder
 pub mod Unkept

@@ -42,6 +42,7 @@ module _ {S : Type 0} (version : LinesVersion) (c : Counting S) (Keeps : S → S
 
   inquires : (question : Inquiry) (at then : S) (reply : Reply) → Inquires c at question reply then → Keeps at then
   inquires (inquiry.Report agents) at then reply done = kept.asks _ _ _ _ _ done.1
+  inquires (inquiry.Changes version) at then reply done = kept.asks _ _ _ _ _ done.1
   inquires (inquiry.Plan agent) at then reply done = kept.asks _ _ _ _ _ done.1
   inquires (inquiry.Cell cell) at then reply done = kept.asks _ _ _ _ _ done.1
   inquires (inquiry.At time cell) at then reply done = kept.asks _ _ _ _ _ done.1

@@ -1,7 +1,6 @@
 pub mod Drafts
 pub mod RefusalText
 pub mod Replies
-pub mod Trials
 pub mod Tellings
 pub mod Table
 pub mod LinesOf

@@ -10,6 +10,8 @@ use Rattle.desk_commits.specs.declared.answers.Refusal.{Refusal}
 use Rattle.desk_commits.specs.declared.answers.Refusal.TheVariants as refusals
 use Rattle.desk_commits.specs.declared.answers.AskFault.{AskFault}
 use Rattle.desk_commits.specs.declared.answers.AskFault.TheVariants as asked
+use Rattle.desk_commits.specs.declared.changed.SinceFault.{SinceFault}
+use Rattle.desk_commits.specs.declared.changed.SinceFault.TheVariants as since
 
 -- what an edit names or a planner watches
 abbrev pub thing_words : Thing → List (List ℕ)
@@ -52,6 +54,12 @@ abbrev pub asked_words : AskFault → List (List ℕ)
 asked_words asked.UnknownAgent = codes "unknown-agent" ∷ []
 asked_words asked.OutOfMap = codes "out-of-map" ∷ []
 asked_words asked.OutOfMemory = codes "memory" ∷ []
+
+-- why it isn't told what changed since a version
+abbrev pub since_words : SinceFault → List (List ℕ)
+since_words (since.Ahead now) = codes "ahead" ∷ decimal now ∷ []
+since_words (since.Forgotten first) = codes "forgotten" ∷ decimal first ∷ []
+since_words since.OutOfMemory = codes "memory" ∷ []
 
 -- a refusal is a line of its own
 abbrev pub refused_line : List (List ℕ) → List ℕ

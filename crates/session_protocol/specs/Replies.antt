@@ -5,14 +5,14 @@ use Rattle.std.specs.Str.{bytes_eq}
 use Rattle.plan_table.specs.declared.plans.Row.{Row}
 use Rattle.desk_report.specs.LineText.{line_text, cell_text, given_text, answer_text}
 use Rattle.desk_report.specs.ReportText.{report_text}
-use Rattle.desk_report.specs.ChangesText.{trial_text}
+use Rattle.desk_report.specs.ChangesText.{changes_text, trial_text}
 use Rattle.desk_report.specs.declared.changed.Changes.{Changes}
 use Rattle.desk_report.specs.declared.reports.Report.{Report}
-use Rattle.session_protocol.specs.RefusalText.{refusal_words, asked_words, refused_line}
+use Rattle.session_protocol.specs.RefusalText.{refusal_words, asked_words, since_words, refused_line}
 use Rattle.session_protocol.specs.declared.replies.BadLine.{BadLine}
 use Rattle.session_protocol.specs.declared.replies.BadLine.TheVariants.{Word, Shape, NotBegun, Full}
 use Rattle.session_protocol.specs.declared.replies.Reply.{Reply}
-use Rattle.session_protocol.specs.declared.replies.Reply.TheVariants.{Silent, Bad, NoMemory, Version, Base, Kept, Cancelled, Refused, Would, Shown, Far, NotAsked, Solves, Planned, Open, Standing}
+use Rattle.session_protocol.specs.declared.replies.Reply.TheVariants.{Silent, Bad, NoMemory, Version, Base, Kept, Cancelled, Refused, Would, Changed, NotTold, Shown, Far, NotAsked, Solves, Planned, Open, Standing}
 
 abbrev pub bad_word : BadLine → List ℕ
 bad_word Word = codes "word"
@@ -54,6 +54,8 @@ reply_text Kept = line_text (codes "kept" ∷ [])
 reply_text Cancelled = line_text (codes "cancelled" ∷ [])
 reply_text (Refused refusal) = refused_line (refusal_words refusal)
 reply_text (Would version changes) = would_text version changes
+reply_text (Changed version since changes) = changes_text version since changes
+reply_text (NotTold fault) = refused_line (since_words fault)
 reply_text (Shown reading) = reported_text reading.version reading.report
 reply_text (Far distance) = line_text (codes "distance" ∷ given_text distance ∷ [])
 reply_text (NotAsked fault) = refused_line (asked_words fault)

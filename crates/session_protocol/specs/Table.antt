@@ -15,8 +15,9 @@ use Rattle.session_protocol.specs.Drafts.{Draft, nothing_gathered, entry_gathere
 use Rattle.desk_commits.specs.Questions.{TellsCut, TellsPlan, TellsOpen, TellsStanding}
 use Rattle.desk_commits.specs.State.{DeskState}
 use Rattle.desk_report.specs.declared.changed.Changes.{Changes}
-use Rattle.session_protocol.specs.Trials.{TellsTrial}
-use Rattle.session_protocol.specs.Tellings.{commit_reply, trial_reply, after_commit, reading_reply, SolvesReply, distance_reply, asked_reply}
+use Rattle.desk_commits.specs.Changed.{TellsChanges, TellsTrial}
+use Rattle.desk_commits.specs.declared.changed.SinceFault.{SinceFault}
+use Rattle.session_protocol.specs.Tellings.{commit_reply, trial_reply, changes_reply, after_commit, reading_reply, SolvesReply, distance_reply, asked_reply}
 use Rattle.session_protocol.specs.declared.drafts.Session.{Session}
 use Rattle.session_protocol.specs.declared.drafts.Session.TheVariants.{Idle, Gathering}
 use Rattle.session_protocol.specs.declared.replies.BadLine.TheVariants.{NotBegun, Full}
@@ -82,9 +83,16 @@ TellsDistance c at agent cell given then = (result : Result (Option ℕ) AskFaul
 abbrev pub AsksCounter : {S X : Type 0} → Counting S → S → (DeskState → Result X AskFault → Type 0) → (X → Reply) → Reply → S → Type 0
 AsksCounter {S} {X} c at IsAnswer tell given then = (result : Result X AskFault) × c.asks (Result X AskFault) at IsAnswer result then × (given ≡ asked_reply tell result)
 
--- a question of version 2 of lines: the report cut to some agents, a plan, whether a cell is open, who is where at a time; a wait ends with the counter's version
+-- what changed since that version is told, or why it isn't
+abbrev pub TellsSince : {S : Type 0} → Counting S → S → ℕ → Reply → S → Type 0
+TellsSince c at since given then =
+    (result : Result (ℕ × Changes) SinceFault) × c.asks (Result (ℕ × Changes) SinceFault) at (λ desk. TellsChanges desk since) result then × (given ≡ changes_reply since result)
+
+-- a question of version 2 of lines: the report cut to some agents, what changed in it, a plan, whether a cell is open, who is where at a time; a wait ends
+-- with the counter's version
 abbrev pub Inquires : {S : Type 0} → Counting S → S → Inquiry → Reply → S → Type 0
 Inquires c at (inquiry.Report agents) given then = AsksCounter c at (λ desk. TellsCut desk agents) reply.Shown given then
+Inquires c at (inquiry.Changes version) given then = TellsSince c at version given then
 Inquires c at (inquiry.Plan agent) given then = AsksCounter c at (λ desk. TellsPlan desk.scene agent) (reply.Planned agent) given then
 Inquires c at (inquiry.Cell cell) given then = AsksCounter c at (λ desk. TellsOpen desk.scene cell) reply.Open given then
 Inquires c at (inquiry.At time cell) given then = AsksCounter c at (λ desk. TellsStanding desk.scene time cell) reply.Standing given then

@@ -7,6 +7,7 @@ use Rattle.desk_commits.specs.Entries.{Entry}
 use Rattle.desk_commits.specs.declared.answers.Refusal.{Refusal}
 use Rattle.desk_commits.specs.declared.answers.Reading.{Reading}
 use Rattle.desk_commits.specs.declared.answers.AskFault.{AskFault}
+use Rattle.desk_commits.specs.declared.changed.SinceFault.{SinceFault}
 use Rattle.desk_report.specs.declared.changed.Changes.{Changes}
 use Rattle.session_protocol.specs.Drafts.{Draft}
 use Rattle.session_protocol.specs.declared.drafts.Session.{Session}
@@ -28,6 +29,11 @@ after_commit draft (Err refused) = Gathering draft
 abbrev pub trial_reply : Result (ℕ × Changes) Refusal → Reply
 trial_reply (Ok (version, changes)) = reply.Would version changes
 trial_reply (Err refusal) = reply.Refused refusal
+
+-- the answer to what changed since that version
+abbrev pub changes_reply : ℕ → Result (ℕ × Changes) SinceFault → Reply
+changes_reply since (Ok (now, changes)) = reply.Changed now since changes
+changes_reply since (Err fault) = reply.NotTold fault
 
 -- a reading's answer
 abbrev pub reading_reply : Result Reading OutOfMemory → Reply

@@ -105,7 +105,7 @@ fn obey_gathering<C: Counter, P: Waiting<C>>(
         Request::Edit(edit) => keep_edit(number, gathered, edit),
         Request::Commit => commit(counter, gathered),
         Request::Cancel => (Reply::Cancelled, Session::Idle),
-        Request::Try => try_out(alloc, counter, gathered),
+        Request::Try => try_out(counter, gathered),
         Request::Version => (
             Reply::Version(counter.version()),
             Session::Gathering(gathered),

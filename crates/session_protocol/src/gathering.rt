@@ -5,9 +5,8 @@ ghost use Rattle.session_protocol.specs.Tellings.{after_commit};
 
 use crate::drafts::{Gathered, Session};
 use crate::replies::{BadLine, Reply};
-use crate::trials::Trying;
 use desk_commits::{Commit, MOST_EDITS, MOST_WATCHES};
-use desk_core::Counter;
+use desk_core::{Counter, Trying};
 use grid_cells::List;
 use scene_edits::{Edit, Thing};
 use std::alloc::Global;
@@ -78,11 +77,7 @@ pub(crate) fn commit<C: Counter>(counter: &mut C, gathered: Gathered) -> (Reply,
 }
 
 // What the commit of what was gathered would be answered, and would change.
-pub(crate) fn try_out<C: Counter>(
-    alloc: Global,
-    counter: &mut C,
-    gathered: Gathered,
-) -> (Reply, Session)
+pub(crate) fn try_out<C: Counter>(counter: &mut C, gathered: Gathered) -> (Reply, Session)
     ensures tried { TriesOut C.counting counter.old gathered result.0 counter.new }
     ensures kept { result.1 ≡ Session.Gathering gathered }
 {
@@ -91,12 +86,13 @@ pub(crate) fn try_out<C: Counter>(
     let Ok(commit) = Commit::new(planner, base, watch.into_items(), edits.into_items()) else {
         unreachable!()
     };
-    let trying = Trying::new(alloc, commit);
+    let trying = Trying { commit };
     let reply = match counter.ask(&trying) {
         Ok((version, changes)) => Reply::Would(version, changes),
         Err(refusal) => Reply::Refused(refusal),
     };
-    let (watch, edits) = trying.into_commit().into_parts();
+    let Trying { commit } = trying;
+    let (watch, edits) = commit.into_parts();
     let gathered = Gathered {
         base,
         watch: List::new(watch),

@@ -1,11 +1,11 @@
 //! What the questions of version 2 of lines are answered.
 ghost use Rattle.std.specs.Prelude.{◌≡◌};
-ghost use Rattle.session_protocol.specs.Table.{AsksCounter, Inquires};
+ghost use Rattle.session_protocol.specs.Table.{AsksCounter, Inquires, TellsSince};
 ghost use Rattle.desk_commits.specs.Questions.{TellsCut, TellsPlan, TellsOpen, TellsStanding};
 
 use crate::replies::Reply;
 use crate::waiting::Waiting;
-use desk_core::{Counter, Cutting, Planning, Probing, Standing};
+use desk_core::{Changing, Counter, Cutting, Planning, Probing, Standing};
 use grid_cells::{Agent, Cell, List, Step};
 use session_lines::Inquiry;
 
@@ -16,6 +16,16 @@ fn cut<C: Counter>(counter: &mut C, agents: List<Agent>) -> Reply
     match counter.ask(&Cutting { agents }) {
         Ok(reading) => Reply::Shown(reading),
         Err(fault) => Reply::NotAsked(fault),
+    }
+}
+
+// What changed in the report since that version.
+fn changes<C: Counter>(counter: &mut C, since: u64) -> Reply
+    ensures { TellsSince C.counting counter.old since result counter.new }
+{
+    match counter.ask(&Changing { version: since }) {
+        Ok((now, changes)) => Reply::Changed(now, since, changes),
+        Err(fault) => Reply::NotTold(fault),
     }
 }
 
@@ -59,6 +69,7 @@ pub(crate) fn inquire<C: Counter, P: Waiting<C>>(
 {
     match inquiry {
         Inquiry::Report(agents) => cut(counter, agents),
+        Inquiry::Changes(since) => changes(counter, since),
         Inquiry::Plan(agent) => plan(counter, agent),
         Inquiry::Cell(cell) => probe(counter, cell),
         Inquiry::At(time, cell) => standing(counter, time, cell),

@@ -4,28 +4,22 @@
 //! the text of a map before it. `answers` finds the
 //! reply to a request by way of a `Counter`, and where the session then is (`drafts`); `gathering`
 //! keeps edits and watches, and makes commits of them; `keeping` is what keeps what a line did before
-//! it is answered. `trials` asks what a commit would change: what
-//! changed between two reports (`changing`) is what one ascending list has and the other hasn't
-//! (`differing`, `ordered`). `replies` are data, `writers` and `refusals` their texts.
+//! it is answered. `replies` are data, `writers` and `refusals` their texts.
 #![tactic(auto)]
 
 mod answers;
 mod bounds;
-mod changing;
 mod dialogues;
-mod differing;
 mod drafts;
 mod gathering;
 mod hearing;
 mod inquiries;
 mod keeping;
 mod listing;
-mod ordered;
 mod refusals;
 mod replies;
 mod serving;
 mod sessions;
-mod trials;
 mod waiting;
 mod writers;
 

@@ -4,9 +4,10 @@ ghost use Rattle.std.specs.List.{join_with_byte};
 ghost use Rattle.std.specs.Io.KnownBytes.{Appends};
 ghost use Rattle.desk_report.specs.Bytes.{AppendsFront, Puts};
 ghost use Rattle.desk_report.specs.Words.{word_text};
-ghost use Rattle.session_protocol.specs.RefusalText.{asked_words, fault_word, fault_words, refusal_text, refusal_words, refused_line, thing_words};
+ghost use Rattle.session_protocol.specs.RefusalText.{asked_words, fault_word, fault_words, refusal_text, refusal_words, refused_line};
+ghost use Rattle.session_protocol.specs.RefusalText.{since_words, thing_words};
 
-use desk_commits::{AskFault, Refusal};
+use desk_commits::{AskFault, Refusal, SinceFault};
 use desk_report::{Sink, Word, WriteFailed, put_all, put_line, put_more};
 use scene_edits::{EditFault, Thing};
 
@@ -116,5 +117,22 @@ pub(crate) fn put_not_asked<W: Sink>(sink: &mut W, fault: AskFault) -> Result<()
         AskFault::UnknownAgent => put_line(sink, b"refused", &[Word::Text(b"unknown-agent")]),
         AskFault::OutOfMap => put_line(sink, b"refused", &[Word::Text(b"out-of-map")]),
         AskFault::OutOfMemory => put_line(sink, b"refused", &[Word::Text(b"memory")]),
+    }
+}
+
+/// Puts why it isn't told what changed, as a line of its own.
+pub(crate) fn put_not_told<W: Sink>(sink: &mut W, fault: SinceFault) -> Result<(), WriteFailed>
+    ensures { Puts W.held W.broken sink.old sink.new result (refused_line (since_words fault)) }
+{
+    match fault {
+        SinceFault::Ahead { now } => {
+            put_line(sink, b"refused", &[Word::Text(b"ahead"), Word::Number(now)])
+        }
+        SinceFault::Forgotten { first } => put_line(
+            sink,
+            b"refused",
+            &[Word::Text(b"forgotten"), Word::Number(first)],
+        ),
+        SinceFault::OutOfMemory => put_line(sink, b"refused", &[Word::Text(b"memory")]),
     }
 }

@@ -1,4 +1,4 @@
-use desk_commits::{AskFault, Reading, Refusal};
+use desk_commits::{AskFault, Reading, Refusal, SinceFault};
 use desk_report::Changes;
 use grid_cells::{Agent, List};
 use plan_table::Row;
@@ -30,6 +30,10 @@ pub(crate) enum Reply {
     Refused(Refusal),
     /// The version that a commit would make, and what it would change.
     Would(u64, Changes),
+    /// The version, an earlier one, and what changed since that.
+    Changed(u64, u64, Changes),
+    /// Why it isn't told what changed.
+    NotTold(SinceFault),
     Shown(Reading),
     /// A distance in steps, if there is one.
     Far(Option<u32>),

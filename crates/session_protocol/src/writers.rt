@@ -6,9 +6,11 @@ ghost use Rattle.session_protocol.specs.Replies.{bad_word, begins_as_listed, cel
 ghost use Rattle.session_protocol.specs.Replies.{standing_line, version_line, reported_text, reply_text, would_text};
 
 use crate::listing::put_listing;
-use crate::refusals::{put_not_asked, put_refused};
+use crate::refusals::{put_not_asked, put_not_told, put_refused};
 use crate::replies::{BadLine, Reply};
-use desk_report::{Changes, Report, Sink, Word, WriteFailed, put_line, write_report, write_trial};
+use desk_report::{
+    Changes, Report, Sink, Word, WriteFailed, put_line, write_changes, write_report, write_trial,
+};
 use grid_cells::{Agent, List};
 use plan_table::Row;
 
@@ -107,6 +109,8 @@ pub(crate) fn put_reply<W: Sink>(sink: &mut W, reply: &Reply) -> Result<(), Writ
         Reply::Cancelled => put_line(sink, b"cancelled", &[]),
         Reply::Refused(refusal) => put_refused(sink, *refusal),
         Reply::Would(version, changes) => put_would(sink, *version, changes),
+        Reply::Changed(version, since, changes) => write_changes(changes, *version, *since, sink),
+        Reply::NotTold(fault) => put_not_told(sink, *fault),
         Reply::Shown(reading) => put_report(sink, reading.version, &reading.report),
         Reply::Far(distance) => put_line(sink, b"distance", &[Word::given(*distance)]),
         Reply::NotAsked(fault) => put_not_asked(sink, *fault),
