@@ -8,7 +8,7 @@ use Rattle.plan_table.specs.Route.{tracks_of, last_of}
 use Rattle.plan_table.specs.declared.plans.Row.{Row}
 use Rattle.plan_table.specs.declared.tracks.Mode.{Mode}
 use Rattle.desk_audit.specs.Filing.{Files, KeepsFiled}
-use Rattle.desk_audit.specs.Index.{pass, HasComeToRest, AddsPath, HasPath, HasPaths, HasRests, AllRestFrom, IsShareOf}
+use Rattle.desk_audit.specs.Index.{pass, HasComeToRest, HasPath, HasPaths, HasRests, AllRestFrom, IsShareOf}
 use Rattle.desk_audit.specs.declared.tables.Table.{Table}
 use Rattle.desk_audit.specs.declared.sightings.Share.{Share}
 use Rattle.desk_audit.specs.declared.sightings.Sightings.{Sightings}
@@ -31,12 +31,6 @@ pub keeps_path : (moments moments' passes passes' rests : Table) (agent : ℕ) (
 keeps_path moments moments' passes passes' rests agent path first_rest share keeps_m keeps_p has = record {
   seen = λ time cell early there of. keeps_m cell time _ (has.seen time cell early there of);
   passed = λ time cell early there of late rest. keeps_p cell 0 _ (has.passed time cell early there of late rest);
-}
-
-pub added_path : (moments moments' passes passes' rests : Table) (agent : ℕ) (path : List Point) (first_rest : ℕ) (share : Share) → AddsPath moments moments' passes passes' rests agent path first_rest share (last_index path + 1) → HasPath moments' passes' rests agent path first_rest share
-added_path moments moments' passes passes' rests agent path first_rest share adds = record {
-  seen = λ time cell early there of. adds.seen time cell (omega arith) there of;
-  passed = λ time cell early there of late rest. adds.passed time cell (omega arith) there of late rest;
 }
 
 pub share_is : (mode : Mode) (rows : List (ℕ × Row)) (share : Share) (index : Sightings) → Rattle.desk_audit.specs.Filing.IsFiled index.rests → HasRests (tracks_of mode rows) index.rests → AllRestFrom (tracks_of mode rows) index.first_rest → HasPaths index.moments index.passes index.rests rows index.first_rest share → IsShareOf (tracks_of mode rows) share index

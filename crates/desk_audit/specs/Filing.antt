@@ -7,7 +7,7 @@ use Rattle.desk_audit.specs.declared.tables.Table.{Table}
 
 -- the bucket of a cell and a number, of that many
 unfoldable pub bucket_of : ℕ → Point → ℕ → ℕ
-bucket_of many cell number = (cell.y * 77777 + cell.x * 67 + number) % many
+bucket_of many cell number = (cell.y * 196613 + cell.x * 769 + number) % many
 
 -- the bucket of a slot
 abbrev pub slot_bucket : ℕ → Slot → ℕ

@@ -35,20 +35,26 @@ AllRestFrom fleet first = (agent time : ℕ) (cell : Point) → HasComeToRest fl
 abbrev pub IsOf : Share → ℕ → Type 0
 IsOf share time = time % share.many ≡ share.number
 
--- the tables keep what was filed, and have the places of the agent's path at the share's times before that one,
--- those where another rests by cell alone, too
-pub record AddsPath (moments moments' passes passes' rests : Table) (agent : ℕ) (path : List Point) (first_rest : ℕ) (share : Share) (end : ℕ) : Type 0 where
+-- the tables have the places of the agent's path at those of the share's times, and where another rests by cell alone, too
+pub record HasPlaces (moments passes rests : Table) (agent : ℕ) (path : List Point) (first_rest : ℕ) (share : Share) (IsAmong : ℕ → Type 0) : Type 0 where
+  pub seen : (time : ℕ) (cell : Point) → IsAmong time → place path time ≡ Some cell → IsOf share time → Files moments cell time (pass time agent)
+  pub passed : (time : ℕ) (cell : Point) → IsAmong time → place path time ≡ Some cell → IsOf share time → first_rest < time → HasFiled rests cell 0 → Files passes cell 0 (pass time agent)
+
+-- the tables keep what was filed, and have the places of the agent's path at those of the share's times
+pub record AddsPlaces (moments moments' passes passes' rests : Table) (agent : ℕ) (path : List Point) (first_rest : ℕ) (share : Share) (IsAmong : ℕ → Type 0) : Type 0 where
   pub moments_filed : IsFiled moments'
   pub passes_filed : IsFiled passes'
   pub keeps_moments : KeepsFiled moments moments'
   pub keeps_passes : KeepsFiled passes passes'
-  pub seen : (time : ℕ) (cell : Point) → time < end → place path time ≡ Some cell → IsOf share time → Files moments' cell time (pass time agent)
-  pub passed : (time : ℕ) (cell : Point) → time < end → place path time ≡ Some cell → IsOf share time → first_rest < time → HasFiled rests cell 0 → Files passes' cell 0 (pass time agent)
+  pub has : HasPlaces moments' passes' rests agent path first_rest share IsAmong
+
+-- likewise, of all times of its path
+abbrev pub AddsPath : Table → Table → Table → Table → Table → ℕ → List Point → ℕ → Share → Type 0
+AddsPath moments moments' passes passes' rests agent path first_rest share = AddsPlaces moments moments' passes passes' rests agent path first_rest share (λ time. time ≤ last_index path)
 
 -- the tables have the agent's path at the share's times
-pub record HasPath (moments passes rests : Table) (agent : ℕ) (path : List Point) (first_rest : ℕ) (share : Share) : Type 0 where
-  pub seen : (time : ℕ) (cell : Point) → time ≤ last_index path → place path time ≡ Some cell → IsOf share time → Files moments cell time (pass time agent)
-  pub passed : (time : ℕ) (cell : Point) → time ≤ last_index path → place path time ≡ Some cell → IsOf share time → first_rest < time → HasFiled rests cell 0 → Files passes cell 0 (pass time agent)
+abbrev pub HasPath : Table → Table → Table → ℕ → List Point → ℕ → Share → Type 0
+HasPath moments passes rests agent path first_rest share = HasPlaces moments passes rests agent path first_rest share (λ time. time ≤ last_index path)
 
 -- the tables have each agent's path at the share's times
 pub record HasPaths (moments passes rests : Table) (rows : List (ℕ × Row)) (first_rest : ℕ) (share : Share) : Type 0 where

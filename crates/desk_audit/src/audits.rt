@@ -14,7 +14,7 @@ use crate::sightings::{Share, Sightings};
 use crate::threads::{in_scope, part_of};
 use desk_report::{Report, with_totals};
 use grid_cells::{List, OutOfMemory};
-use mapf_rules::{Conflict, sorted};
+use mapf_rules::Conflict;
 use scene_edits::Scene;
 use std::alloc::Global;
 use std::sync::Wait;
@@ -28,15 +28,16 @@ pub(crate) const MOST_WORKERS: u32 = 64;
 pub(crate) const MOST_SHARES: u32 = 8;
 
 // The entries of all pieces in the order in which they are listed, each once. Those of a piece are in
-// that order, and the sort merges what is in order.
+// that order, and this sort merges what is in order.
 fn merged(mut entries: Vec<Conflict>) -> Result<List<Conflict>, OutOfMemory>
     ensures { IfOk result (ListsAll listing_key (Contains entries.items)) }
 {
-    if entries.sort().is_err() {
+    let Ok(()) = entries.sort() else {
         drop(entries);
         return Err(OutOfMemory);
-    }
-    Ok(sorted(entries))
+    };
+    entries.dedup();
+    Ok(List::new(entries))
 }
 
 // The report of the scene, whose part of all agents that is.

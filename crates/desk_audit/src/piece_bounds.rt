@@ -1,5 +1,6 @@
 //! The lower bounds of a piece's agents, noted place by place: by their paths, and for many agents of one goal by one field.
-ghost use Rattle.std.specs.Prelude.{◌≡◌, ◌+◌, ◌-◌, ◌≤◌, ◌<◌, ◌⊎◌, ℕ, IfOk, IfSome, Option, Some, None, length, slice_get, slice_index_or, slice_set};
+ghost use Rattle.std.specs.Prelude.{◌≡◌, ◌+◌, ◌-◌, ◌≤◌, ◌<◌, ◌⊎◌, ℕ, IfOk, IfSome, Option, Some, None};
+ghost use Rattle.std.specs.Prelude.{length, slice_get, slice_index_or, slice_set};
 ghost use Rattle.plan_table.specs.declared.plans.Row.{Row};
 ghost use Rattle.scene_edits.specs.Scene.{IsRowOn};
 ghost use Rattle.desk_report.specs.Report.{IsBound};

@@ -8,6 +8,15 @@ use crate::tables::Pass;
 use grid_cells::{Agent, Cell, OutOfMemory};
 use std::alloc::Global;
 
+/// The number of the share that has the time, of so many. Where there is one alone, it divides nothing.
+pub(crate) fn number_at(time: u32, many: usize) -> usize
+    requires { 0 < many }
+    ensures is { result ≡ time % many }
+    ensures bound { result < many }
+{
+    if many == 1 { 0 } else { time as usize % many }
+}
+
 /// The share of the index that has the time.
 pub(crate) fn share_at(index: &[Sightings], time: u32) -> &Sightings
     requires some { 0 < length index.now }
@@ -16,7 +25,7 @@ pub(crate) fn share_at(index: &[Sightings], time: u32) -> &Sightings
     ensures moments { IsFiled result.now.moments }
     ensures rests { IsFiled result.now.rests }
 {
-    &index[time as usize % index.len()]
+    &index[number_at(time, index.len())]
 }
 
 /// The other agents that are filed by the cell alone, in any share.

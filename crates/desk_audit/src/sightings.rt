@@ -1,12 +1,11 @@
 //! The index of an audit: which agents are in which cell at which time. It is made once, from the
 //! plans alone, share by share of the times, and lent to all pieces.
-ghost use Rattle.std.specs.Prelude.{◌≡◌, ◌+◌, ◌<◌, IfOk, OnOk, Some};
-ghost use Rattle.grid_cells.specs.Cell.{Point};
-ghost use Rattle.plan_table.specs.Path.{last_index, place};
+ghost use Rattle.std.specs.Prelude.{◌≡◌, ◌<◌, IfOk, OnOk};
 ghost use Rattle.plan_table.specs.Route.{tracks_of};
 ghost use Rattle.desk_audit.specs.Filing.{IsFiled, Files, HasFiled, KeepsFiled};
-ghost use Rattle.desk_audit.specs.Index.{IsOf, IsShareOf, HasRests, AllRestFrom, AddsPath, HasPaths, pass};
+ghost use Rattle.desk_audit.specs.Index.{IsShareOf, HasRests, AllRestFrom, AddsPath, AddsPlaces, HasPaths};
 
+use crate::shares::number_at;
 use crate::tables::{Pass, Table};
 use grid_cells::{Agent, Cell, OutOfMemory, Step};
 use plan_table::{Mode, Plan, Plans};
@@ -47,7 +46,7 @@ impl Sightings {
     {
         let agents = plans.count() as usize;
         let cells = cells_of(plans) / share.many as usize;
-        let mut moments = Table::new(alloc, cells, cells)?;
+        let mut moments = Table::new(alloc, cells.saturating_mul(2), cells)?;
         let mut rests = Table::new(alloc, agents, agents)?;
         let mut passes = Table::new(alloc, agents, 0)?;
         file_rests(&mut rests, mode, plans)?;
@@ -143,14 +142,9 @@ fn file_place(
     requires passes { IsFiled passes.old }
     requires rests { IsFiled rests.now }
     requires some { 0 < share.many }
-    ensures moments { OnOk result (IsFiled moments.new) }
-    ensures passes { OnOk result (IsFiled passes.new) }
-    ensures keeps_moments { OnOk result (KeepsFiled moments.old moments.new) }
-    ensures keeps_passes { OnOk result (KeepsFiled passes.old passes.new) }
-    ensures seen { OnOk result ((cell : Point) → place plan.now time ≡ Some cell → IsOf share time → Files moments.new cell time (pass time agent)) }
-    ensures passed { OnOk result ((cell : Point) → place plan.now time ≡ Some cell → IsOf share time → first_rest < time → HasFiled rests.now cell 0 → Files passes.new cell 0 (pass time agent)) }
+    ensures { OnOk result (AddsPlaces moments.old moments.new passes.old passes.new rests.now agent plan.now first_rest share (λ at. at ≡ time)) }
 {
-    if time % share.many != share.number {
+    if number_at(time, share.many as usize) != share.number as usize {
         return Ok(());
     }
     let cell = plan.at(Step::new(time));
@@ -172,7 +166,7 @@ fn file_path(
     requires passes { IsFiled passes.old }
     requires rests { IsFiled rests.now }
     requires some { 0 < share.many }
-    ensures { OnOk result (AddsPath moments.old moments.new passes.old passes.new rests.now agent plan.now first_rest share (last_index plan.now + 1)) }
+    ensures { OnOk result (AddsPath moments.old moments.new passes.old passes.new rests.now agent plan.now first_rest share) }
 {
     for time in 0..plan.last() + 1 {
         file_place(moments, passes, rests, agent, plan, first_rest, share, time)?;

@@ -45,14 +45,15 @@ impl Slot {
     }
 }
 
-// The bucket of the cell and the number, of that many.
+// The bucket of the cell and the number, of that many. Cells of a row lie 769 apart and rows further
+// than a row is long on most maps, so that places of paths of fewer steps meet only by the remainder.
 #[tactic(auto, unfolding(crate::specs::Filing::bucket_of))]
 pub(crate) fn bucket(many: usize, cell: Cell, number: u32) -> usize
     requires { 0 < many }
     ensures is { result ≡ bucket_of many cell number }
     ensures bound { result < many }
 {
-    let place = u64::from(cell.y()) * 77_777 + u64::from(cell.x()) * 67;
+    let place = u64::from(cell.y()) * 196_613 + u64::from(cell.x()) * 769;
     ((place + u64::from(number)) % many as u64) as usize
 }
 

@@ -4,7 +4,7 @@ use Rattle.plan_table.specs.Plans.{row_of}
 use Rattle.plan_table.specs.declared.plans.Row.{Row}
 use Rattle.plan_table.proofs.Fleets.{below_rank_more, all_agents, row_here}
 use Rattle.desk_audit.specs.Index.{HasPath}
-use Rattle.desk_audit.proofs.Paths.{keeps_path, added_path}
+use Rattle.desk_audit.proofs.Paths.{keeps_path}
 use Rattle.desk_audit.proofs.sightings.file_paths.Goals as goal
 
 pub loop-rank-preserved : goal.loop-rank-preserved
@@ -22,7 +22,7 @@ loop-rank-preserved c =
           (λ a k lt is row live. keeps_path _ _ _ _ _ a row.plan c.args.first_rest c.args.share adds.keeps_moments adds.keeps_passes (c.loop-rank.invariant.paths a k lt is row live))
           (λ row live.
           let same : c.entry_at-entry.result.1.now ≡ row = same_Some _ row (sym here.0 ∙ live) in
-          subst (λ (r : Row). HasPath moments passes c.args.rests.now agent r.plan c.args.first_rest c.args.share) same (added_path _ _ _ _ _ agent _ c.args.first_rest c.args.share adds));
+          subst (λ (r : Row). HasPath moments passes c.args.rests.now agent r.plan c.args.first_rest c.args.share) same adds.has);
     }
 
 pub returns : goal.returns
