@@ -9,9 +9,8 @@ use Rattle.commit_log.specs.Crashes.{Counts, IsLogOf, MayLeave}
 abbrev pub texts_of : List Entry → List (List ℕ)
 texts_of entries = map (λ entry. text_of (entry_lines entry)) entries
 
--- the log has these entries and nothing else, and a crash leaves them all
-pub record IsLogged (text kept : Option (List ℕ)) (count : ℕ) (check : List ℕ) (journal : List Entry) : Type 0 where
-  pub head : List ℕ
+-- the log has that head, these entries and nothing else, and a crash leaves them all
+pub record IsLogged (head : List ℕ) (text kept : Option (List ℕ)) (count : ℕ) (check : List ℕ) (journal : List Entry) : Type 0 where
   pub counts : Counts head (texts_of journal) count check
   pub text_is : text ≡ Some (log_text head (texts_of journal))
   pub kept_is : kept ≡ text
@@ -24,6 +23,5 @@ pub record LeavesEntries (head left : List ℕ) (before journal : List Entry) : 
   pub stands : IsLogOf head (texts_of (before ++ more)) left
 
 -- and so whatever a crash leaves
-pub record IsLoggedInPart (text kept : Option (List ℕ)) (before journal : List Entry) : Type 0 where
-  pub head : List ℕ
+pub record IsLoggedInPart (head : List ℕ) (text kept : Option (List ℕ)) (before journal : List Entry) : Type 0 where
   pub leaves : (left : List ℕ) → MayLeave kept text left → LeavesEntries head left before journal

@@ -94,6 +94,13 @@ fn fault_of(text: &[u8], front: &[u8], why: ReadFault) -> LogFault {
     }
 }
 
+// The fault of the line behind a front of the log.
+fn fault_behind(front: &[u8]) -> LogFault {
+    LogFault::BadLine {
+        line: count_lines(front).saturating_add(1),
+    }
+}
+
 /// Reads a log: the entries that are whole, with their commit lines. What a crash may have left of one
 /// more stands behind them.
 ///
@@ -120,9 +127,7 @@ pub fn read_log(alloc: Global, text: &[u8]) -> Result<LogRead, LogFault>
                 } = found;
                 look_at_entry(alloc, entry, before(text, rest))?;
                 if count >= u64::from(MOST_ENTRIES) {
-                    return Err(LogFault::BadLine {
-                        line: count_lines(before(text, rest)).saturating_add(1),
-                    });
+                    return Err(fault_behind(before(text, rest)));
                 }
                 journal.extend_from_slice(entry)?;
                 count += 1;

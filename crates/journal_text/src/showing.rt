@@ -9,12 +9,19 @@ use desk_commits::Commit;
 use desk_report::Spout;
 use std::alloc::Global;
 
+// How many bytes there is room for before the lines are written: most entries, and their commit lines
+// in a log, fit.
+const ROOM: usize = 128;
+
 /// The lines that are written of the entry; none where memory is wanting.
 pub fn written_entry(alloc: Global, entry: &Commit) -> Option<Vec<u8>>
     ensures written { IfSome result (λ lines. lines.items ≡ text_of (entry_lines entry.now)) }
     ensures lawful { IfSome result (λ lines. IsEntry entry.now) }
 {
-    let mut sink = Spout::new(Vec::new(alloc));
+    let Ok(text) = Vec::with_capacity(alloc, ROOM) else {
+        return None;
+    };
+    let mut sink = Spout::new(text);
     match entry.put_into(&mut sink) {
         Ok(()) => Some(sink.into_inner()),
         Err(_) => None,

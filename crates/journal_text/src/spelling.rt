@@ -31,7 +31,7 @@ pub(crate) fn is_written<T: Written>(
     ensures spelled { IfOk result (λ same. IsTrue same ↔ (T.text value.now ≡ line.now ++ codes "\n")) }
     ensures lawful { OnOk result (T.lawful value.now) }
 {
-    let mut sink = Spout::new(Vec::new(alloc));
+    let mut sink = Spout::new(Vec::with_capacity(alloc, line.len() + 1)?);
     match value.put_into(&mut sink) {
         Ok(()) => Ok(is_whole(sink.into_inner().as_slice(), line)),
         Err(_) => Err(OutOfMemory),
@@ -42,7 +42,7 @@ pub(crate) fn is_written<T: Written>(
 pub(crate) fn is_head(alloc: Global, head: &Head, line: &[u8]) -> Result<bool, OutOfMemory>
     ensures { IfOk result (λ same. IsTrue same ↔ (line_text (head_words head.now) ≡ line.now ++ codes "\n")) }
 {
-    let mut sink = Spout::new(Vec::new(alloc));
+    let mut sink = Spout::new(Vec::with_capacity(alloc, line.len() + 1)?);
     match put_head(&mut sink, head) {
         Ok(()) => Ok(is_whole(sink.into_inner().as_slice(), line)),
         Err(_) => Err(OutOfMemory),

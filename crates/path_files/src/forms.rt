@@ -1,7 +1,8 @@
 ghost use Rattle.std.specs.Prelude.{◌≡◌, ◌+◌, ◌^◌, ◌<◌, length};
 ghost use Rattle.bench_reader.specs.Lines.{lines_of};
 ghost use Rattle.bench_reader.specs.Words.{words_of};
-ghost use Rattle.path_files.specs.Forms.{is_of_agent, is_of_json, is_of_schedule, is_of_session, is_of_times, told_by, usual_behind, form_of, is_of_paths, has_paths};
+ghost use Rattle.path_files.specs.Forms.{is_of_agent, is_of_json, is_of_schedule, is_of_session, is_of_times};
+ghost use Rattle.path_files.specs.Forms.{told_by, usual_behind, form_of, is_of_paths, has_paths};
 ghost use Rattle.path_files.specs.Lines.{written_from};
 
 use crate::columns::column_in;

@@ -4,7 +4,8 @@ ghost use Rattle.std.specs.Option.{option_copied, option_map};
 ghost use Rattle.serde_json.specs.View.{items_view, view};
 ghost use Rattle.scene_edits.specs.declared.scenes.TheConstants.{MOST_AGENTS};
 ghost use Rattle.path_files.specs.Answers.{IsRead};
-ghost use Rattle.path_files.specs.Robots.{cell_in, list_in, model_fault, model_fault_in, number_below, of_agent, path_of, paths_from, paths_in, place_at, starts_from, starts_in, team_size, told_paths};
+ghost use Rattle.path_files.specs.Robots.{cell_in, list_in, model_fault, model_fault_in, number_below, of_agent, path_of};
+ghost use Rattle.path_files.specs.Robots.{paths_from, paths_in, place_at, starts_from, starts_in, team_size, told_paths};
 
 use crate::faults::{Member, PathsFault};
 use crate::moves::{cell, path_from};

@@ -3,7 +3,7 @@ use Rattle.desk_commits.specs.Entries.{Entry}
 use Rattle.commit_log.specs.Text.{log_text}
 use Rattle.commit_log.specs.Crashes.{Counts, MayLeave}
 use Rattle.desk_log.specs.Keeping.{texts_of, LeavesEntries}
-use Rattle.desk_log.proofs.keeping.put_entries.Given as goal
+use Rattle.desk_log.proofs.putting.put_entries.Given as goal
 
 -- the entries before and those that were put so far
 abbrev pub invariant-loop-entry : goal.invariant-loop-entry

@@ -5,7 +5,7 @@ use Rattle.commit_log.specs.Text.{log_text}
 use Rattle.commit_log.specs.Crashes.{Counts}
 use Rattle.desk_log.specs.Keeping.{texts_of, LeavesEntries}
 use Rattle.desk_log.proofs.Logging.{texts_taken, leaves-put, leaves-all, settled-leaves}
-use Rattle.desk_log.proofs.keeping.put_entries.Goals as goal
+use Rattle.desk_log.proofs.putting.put_entries.Goals as goal
 
 pub loop-entry-init : goal.loop-entry-init
 loop-entry-init g c = record {
