@@ -8,7 +8,7 @@ use Rattle.desk_commits.specs.Entries.{Entry}
 use Rattle.desk_commits.specs.Replays.{IsLegal}
 use Rattle.desk_commits.specs.State.{DeskState, after}
 use Rattle.desk_shared.specs.Calls.{IsDeskAtClose, IsFirst, IsJoinOf, IsSplit}
-use Rattle.desk_shared.specs.Passes.{PassState, Held, Sharing, AreOfPlanners, HasJust, own_of, version_at}
+use Rattle.desk_shared.specs.Passes.{PassState, Held, Sharing, AreOfPlanners, ExtendsSeen, HasJust, own_of, version_at}
 use Rattle.shared_runs.proofs.Gathering.{own_at, own_kept, one_more_joined}
 use Rattle.desk_shared.specs.Windows.{window_on}
 use Rattle.shared_runs.specs.Hosts.{AreSeated, HasHosted, Hosts, Inputs, IsCompared, IsEnded, IsSeated}
@@ -76,10 +76,9 @@ module _ (shared : Sharing) (inputs : Inputs) where
       }
 
   -- the desk that was closed, and what is told of it
-  pub hosts : (start : DeskState) (planners many : ℕ) (first last : PassState) (desk : DeskState) (end : HostEnd) → many ≡ planners + 1 → length end.planners.items ≡ planners → IsFirst start many first → HasHosted shared inputs first last 1 end.planners.items end.operator → IsDeskAtClose last desk → end.desk ≡ desk → IfOk end.same (IsCompared desk) → Hosts inputs start planners end
-  hosts start planners many first last desk end one_more all_told is hosted closed same compared =
+  pub hosts : (start : DeskState) (planners many : ℕ) (first last : PassState) (desk : DeskState) (end : HostEnd) → ((found : List Entry) → ExtendsSeen last found → AreOfPlanners (planners + 1) found) → length end.planners.items ≡ planners → IsFirst start many first → HasHosted shared inputs first last 1 end.planners.items end.operator → IsDeskAtClose last desk → end.desk ≡ desk → IfOk end.same (IsCompared desk) → Hosts inputs start planners end
+  hosts start planners many first last desk end numbered all_told is hosted closed same compared =
       let began : last.start ≡ start = hosted.start ∙ is.start in
-      let shared_for : last.planners ≡ planners + 1 = hosted.planners ∙ is.shared ∙ one_more in
       let zeroth : last.planner ≡ 0 = hosted.planner ∙ is.planner in
       let on = closed.goes_on in
       let own : own_of 0 closed.found ≡ own_of 0 last.made = subst (λ (n : ℕ). own_of n closed.found ≡ own_of n last.made) zeroth on.own in
@@ -91,7 +90,7 @@ module _ (shared : Sharing) (inputs : Inputs) where
         entries = closed.found;
         legal = subst (λ (s : DeskState). IsLegal s closed.found) began on.legal;
         within = subst (λ (s : DeskState). version_at s closed.found ≤ s.limit) began on.within;
-        numbered = subst (λ (n : ℕ). AreOfPlanners n closed.found) shared_for on.numbered;
+        numbered = numbered closed.found on;
         operator = subst (λ (s : DeskState). IsSeated shared inputs s closed.found 0 end.operator) is.start served;
         all_told = all_told;
         seated = subst (λ (s : DeskState). AreSeated shared inputs s closed.found 1 end.planners.items) is.start seated;

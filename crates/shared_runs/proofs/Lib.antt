@@ -6,3 +6,7 @@ mod ScriptFaults
 mod Drilled
 mod Sitting
 mod Joining
+mod Seen
+mod KeptLog
+mod Scribing
+pub mod Sent

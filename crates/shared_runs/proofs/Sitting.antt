@@ -1,5 +1,5 @@
 -- A seat over a window leaves it on its shared desk, for its planner.
-use Rattle.std.proofs.Common.{◌≡◌, ℕ, List, Option, Result, Ok, Err, refl, sym, ap, subst, ◌∙◌}
+use Rattle.std.proofs.Common.{◌≡◌, ℕ, Result, Ok, Err, refl, sym, ap, subst, ◌∙◌}
 use Rattle.session_protocol.specs.declared.bounds.ServeFault.{ServeFault}
 use Rattle.session_protocol.specs.declared.bounds.ServeFault.TheVariants.{ReadFailed}
 use Rattle.session_protocol.specs.declared.drafts.Session.TheVariants.{Idle}

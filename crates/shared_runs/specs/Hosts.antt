@@ -1,5 +1,5 @@
 -- Planners hosted over one shared desk: their sessions, each in a thread of its own, the operator's, and the desk as it was closed (this project's choice).
-use Rattle.std.specs.Prelude.{◌≡◌, ◌↔◌, IsTrue, IfOk, ℕ, ◌+◌, ◌<◌, ◌≤◌, Bool, List, [], ◌∷◌, length, All, Option, Result}
+use Rattle.std.specs.Prelude.{◌≡◌, ◌↔◌, IsTrue, IfOk, ℕ, ◌+◌, ◌<◌, ◌≤◌, Bool, List, [], ◌∷◌, length, All, Result}
 use mathlib.Core.List.{IsPrefix}
 use Rattle.desk_report.specs.Report.{IsReportOf}
 use Rattle.desk_report.specs.declared.reports.Report.{Report}
@@ -75,8 +75,8 @@ pub record Hosts (inputs : Inputs) (start : DeskState) (planners : ℕ) (end : H
   pub closed : end.desk ≡ after start entries
   pub compared : IfOk end.same (IsCompared end.desk)
 
--- why planners aren't hosted to their end: too many are told before all else
+-- why so many planners, and the pass of a log beside them where there is one, aren't hosted to their end: too many are told before all else
 abbrev pub IsHostFault : ℕ → HostFault → Type 0
-IsHostFault planners TooManyPlanners = MOST_HOSTED < planners
-IsHostFault planners PassLost = planners ≤ MOST_HOSTED
-IsHostFault planners OutOfMemory = planners ≤ MOST_HOSTED
+IsHostFault many TooManyPlanners = MOST_HOSTED < many
+IsHostFault many PassLost = many ≤ MOST_HOSTED
+IsHostFault many OutOfMemory = many ≤ MOST_HOSTED

@@ -1,3 +1,5 @@
 pub mod Drills
 pub mod DrillFaults
+pub mod Gates
 pub mod Hosts
+pub mod Logged

@@ -23,6 +23,9 @@ use std::time::Clock;
 /// The most scripts of a drill.
 pub const MOST_SCRIPTS: usize = 255;
 
+/// No changes are kept, since no line of version 1 asks for them.
+const NO_HISTORY: u32 = 0;
+
 /// Serves scripts of planners at once, each in a thread of its own, over one shared desk of the
 /// scene of a map and the agents of the first tasks of a scenario. Writes the version and the
 /// report of a last reading, and whether an audit of the closed desk, by so many threads, gives the
@@ -61,6 +64,7 @@ pub fn run_drill<R: Threads + Wait + Sync, G: Gate, W: Sink>(
         alloc,
         problem,
         workers,
+        NO_HISTORY,
         scripts,
         &AtGate { gate },
         &First,
@@ -68,9 +72,9 @@ pub fn run_drill<R: Threads + Wait + Sync, G: Gate, W: Sink>(
     )
 }
 
-/// Runs a drill as `run_drill` does, in that version of lines, with someone who goes along: they are
-/// told when each script's thread begins, by its number from 0, and hear the first word of each line
-/// that it is answered.
+/// Runs a drill as `run_drill` does, in that version of lines, over a desk that keeps so many changes of
+/// its report, with someone who goes along: they are told when each script's thread begins, by its
+/// number from 0, and hear the first word of each line that it is answered.
 ///
 /// # Errors
 ///
@@ -81,6 +85,7 @@ pub fn hear_drill<R: Threads + Wait + Clock + Sync, H: Hearing + Sync, W: Sink>(
     problem: Problem<'_>,
     workers: u32,
     version: LinesVersion,
+    history: u32,
     scripts: Vec<Vec<u8>>,
     hearing: &H,
     writer: &mut W,
@@ -94,7 +99,7 @@ pub fn hear_drill<R: Threads + Wait + Clock + Sync, H: Hearing + Sync, W: Sink>(
 {
     let spoken = Spoken { version };
     drill(
-        rt, alloc, problem, workers, scripts, hearing, &spoken, writer,
+        rt, alloc, problem, workers, history, scripts, hearing, &spoken, writer,
     )
 }
 
@@ -104,6 +109,7 @@ fn drill<R: Threads + Wait + Sync, H: Hearing + Sync, P: Serving<R>, W: Sink>(
     alloc: Global,
     problem: Problem<'_>,
     workers: u32,
+    history: u32,
     scripts: Vec<Vec<u8>>,
     hearing: &H,
     serving: &P,
@@ -121,7 +127,9 @@ fn drill<R: Threads + Wait + Sync, H: Hearing + Sync, P: Serving<R>, W: Sink>(
         return Err(RunFault::TooManyScripts);
     }
     let texts = scripts.as_slice();
-    let ended = drilled(rt, alloc, problem, workers, texts, hearing, serving);
+    let ended = drilled(
+        rt, alloc, problem, workers, history, texts, hearing, serving,
+    );
     drop(scripts);
     let (reading, same) = match ended {
         Ok(end) => end,
@@ -141,6 +149,7 @@ fn drilled<R: Threads + Wait + Sync, H: Hearing + Sync, P: Serving<R>>(
     alloc: Global,
     problem: Problem<'_>,
     workers: u32,
+    history: u32,
     scripts: &[Vec<u8>],
     hearing: &H,
     serving: &P,
@@ -156,7 +165,7 @@ fn drilled<R: Threads + Wait + Sync, H: Hearing + Sync, P: Serving<R>>(
         Ok(scene) => scene,
         Err(fault) => return Err(fault),
     };
-    let (shared, first) = share(alloc, scene, scripts.len() as u32 + 1)?;
+    let (shared, first) = share(alloc, scene, scripts.len() as u32 + 1, history)?;
     let (first, ended) = serve_scripts(rt, alloc, &shared, first, scripts, hearing, serving);
     match ended {
         Ok(()) => {}

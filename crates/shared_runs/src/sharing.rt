@@ -16,11 +16,13 @@ use std::alloc::Global;
 use std::sync::Wait;
 use std::thread::Threads;
 
-/// The desk of the scene, shared by so many planners, and the first pass.
+/// The desk of the scene, which keeps so many changes of its report, shared by so many planners, and the
+/// first pass.
 pub(crate) fn share(
     alloc: Global,
     scene: Scene,
     planners: u32,
+    history: u32,
 ) -> Result<(SharedDesk, Pass), RunFault>
     requires { (1 ≤ planners) × (planners ≤ 256) }
     ensures owned { IfOk result (λ shared. Owns shared.0 shared.1) }
@@ -30,7 +32,9 @@ pub(crate) fn share(
     let Some(limit) = Limit::new(MOST_ENTRIES) else {
         unreachable!()
     };
-    match SharedDesk::share(alloc, Desk::open(alloc, scene, limit), planners) {
+    let mut desk = Desk::open(alloc, scene, limit);
+    desk.keep_history(history as usize);
+    match SharedDesk::share(alloc, desk, planners) {
         Ok(shared) => Ok(shared),
         Err(OutOfMemory) => Err(RunFault::OutOfMemory),
     }

@@ -2,9 +2,13 @@
 ghost use Rattle.std.specs.Prelude.{◌≡◌, IfErr, IfOk};
 ghost use Rattle.desk_shared.specs.Passes.{Owns};
 ghost use Rattle.shared_runs.specs.Hosts.{IsEnded};
+ghost use Rattle.shared_runs.specs.Logged.{HasSeenTo};
 
+use crate::hosts::dated::Dated;
+use crate::hosts::gates::Gate;
+use crate::hosts::waiting::AtGate;
 use core::thread::Stack;
-use desk_shared::{Pass, SharedDesk, Window};
+use desk_shared::{Pass, SharedDesk};
 use solver_check::{Outcome, SeatFault, Seats};
 use std::alloc::Global;
 use std::snapshot::Snapshot;
@@ -46,13 +50,29 @@ pub(crate) struct Start {
     unstarted: AtomicU32,
     /// Held until all have their threads.
     pub gate: Mutex<()>,
+    /// Where answers wait for a log, if there is one.
+    pub log: Option<Gate>,
+    /// The version at which the desk was shared.
+    pub version: u64,
 }
 
 impl Start {
-    pub fn new() -> Start {
+    pub fn new(log: Option<Gate>, version: u64) -> Start
+        ensures version { result.version ≡ version }
+        ensures log { result.log ≡ log }
+    {
         Start {
             unstarted: AtomicU32::new(NOBODY),
             gate: Mutex::new(()),
+            log,
+            version,
+        }
+    }
+
+    // The session of a planner has ended.
+    fn leave<R: Wait>(&self, rt: &R) {
+        if let Some(gate) = &self.log {
+            gate.leave(rt);
         }
     }
 }
@@ -68,16 +88,20 @@ pub(crate) fn sit<R: Wait + Clock, S: Seats>(
     number: u32,
     start: &Start,
 ) -> Ended
-    requires { Owns desk.now pass }
+    requires owned { Owns desk.now pass }
+    requires seen { HasSeenTo start.now.version pass.known }
     ensures { IsEnded desk.now (S.inputs seats.now number) pass result.0 result.1 }
 {
     if start.unstarted.load(Ordering::SeqCst) == number {
         seats.miss(rt, number);
+        start.leave(rt);
         return (pass, Err(SeatFault::NoThread));
     }
     drop(start.gate.lock(rt));
-    let mut window = Window::new(rt, desk, pass);
-    let ended = seats.seat(rt, alloc, number, &mut window);
+    let mut window = Dated::new(rt, desk, pass, start.version);
+    let mut waiting = AtGate::new(rt, start.log.as_ref(), start.version);
+    let ended = seats.seat(rt, alloc, number, &mut window, &mut waiting);
+    start.leave(rt);
     (window.into_pass(), ended)
 }
 
@@ -93,7 +117,8 @@ pub(crate) fn begin<'s, E: 's, R: Wait + Clock + Sync, S: Seats>(
     number: u32,
     start: &'s Start,
 ) -> Sitting<'s, S>
-    requires { Owns desk.now pass }
+    requires owned { Owns desk.now pass }
+    requires seen { HasSeenTo start.now.version pass.known }
     ensures begun { IfOk result (λ child. child.promise.desk.now ≡ desk.now) }
     ensures seated { IfOk result (λ child. (child.promise.seats.now ≡ seats.now) × (child.promise.number ≡ number)) }
     ensures before { IfOk result (λ child. child.promise.before.value ≡ pass) }
@@ -109,7 +134,8 @@ pub(crate) fn begin<'s, E: 's, R: Wait + Clock + Sync, S: Seats>(
         scope,
         promise,
         move || -> Ended
-            requires { Owns desk.now pass }
+            requires owned { Owns desk.now pass }
+            requires seen { HasSeenTo start.now.version pass.known }
             ensures { IsEnded desk.entry.now (S.inputs seats.entry.now number) pass result.0 result.1 }
         { sit(rt, alloc, desk, pass, seats, number, start) },
     );

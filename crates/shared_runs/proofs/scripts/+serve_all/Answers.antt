@@ -1,6 +1,6 @@
 use Rattle.std.proofs.Common.{rules, ◌≡◌, ◌+◌, length, ap, ◌∙◌, Ok, Err, inl, inr}
 use Rattle.std.proofs.lemmas.Result.{on_ok_weaker}
-use Rattle.solver_check.specs.Inputs.{Input, told}
+use Rattle.solver_check.specs.Inputs.{told}
 use Rattle.shared_runs.specs.Drills.{inputs_of}
 use Rattle.shared_runs.proofs.Numbering.{may_give, may_still_split, is_given}
 use Rattle.shared_runs.proofs.ScriptSessions.{served, served_on, still_for}

@@ -1,7 +1,7 @@
 use Rattle.std.proofs.Common.{refl}
 use Rattle.shared_runs.proofs.Sitting.{as_promised}
-use Rattle.shared_runs.proofs.hosts.threads.operate.Goals as goal
-use Rattle.shared_runs.proofs.hosts.threads.operate.Goals.{in-Ok, in-Err}
+use Rattle.shared_runs.proofs.hosts.operating.operate.Goals as goal
+use Rattle.shared_runs.proofs.hosts.operating.operate.Goals.{in-Ok, in-Err}
 
 pub returns : goal.returns
 returns g c =
