@@ -50,7 +50,8 @@ fn put_words(text: &mut String, words: &Words) -> Result<(), AllocError> {
 fn put_serve(text: &mut String, words: &ServeWords) -> Result<(), AllocError> {
     text.push_str("serve")?;
     put_desk(text, words)?;
-    put_lines(text, words.lines, LinesVersion::One)
+    put_lines(text, words.lines, LinesVersion::One)?;
+    put_number(text, "history", words.history, 1_000_000)
 }
 
 fn put_desk(text: &mut String, words: &ServeWords) -> Result<(), AllocError> {
@@ -94,6 +95,7 @@ fn put_drill(text: &mut String, words: &DrillWords) -> Result<(), AllocError> {
     text.push_str("drill")?;
     put_opening(text, words.map, words.scen, words.agents, words.mode)?;
     put_lines(text, words.lines, LinesVersion::One)?;
+    put_number(text, "history", words.history, 1_000_000)?;
     put_number(text, "workers", words.workers, 4)?;
     for script in words.scripts.as_slice() {
         put_file(text, "script", Some(*script))?;
@@ -105,6 +107,7 @@ fn put_host(text: &mut String, words: &HostWords) -> Result<(), AllocError> {
     text.push_str("host")?;
     put_desk(text, &words.desk)?;
     put_lines(text, words.desk.lines, LinesVersion::Two)?;
+    put_number(text, "history", words.desk.history, 1_000_000)?;
     put_given(text, "wait", words.wait)?;
     put_number(text, "workers", words.workers, 4)?;
     for name in words.names.as_slice() {

@@ -13,6 +13,9 @@ use session_protocol::Dialogue;
 use std::alloc::Global;
 use thiserror::Error;
 
+/// How many changes of its report a desk keeps, for the line `changes`.
+const HISTORY: usize = 1_000_000;
+
 /// Why no desk was opened.
 #[derive(Clone, Copy, Debug, PartialEq, Eq, Error)]
 pub enum OpenFault {
@@ -122,11 +125,14 @@ fn opening_of(alloc: Global, texts: Texts<'_>, limit: u32) -> Opening
         return Opening::Refused(OpenFault::Limit);
     };
     match desk_of(alloc, texts, limit) {
-        Ok(desk) => Opening::Open(OpenDesk {
-            desk,
-            dialogue: Dialogue::new(),
-            lines: 0,
-        }),
+        Ok(mut desk) => {
+            desk.keep_history(HISTORY);
+            Opening::Open(OpenDesk {
+                desk,
+                dialogue: Dialogue::new(),
+                lines: 0,
+            })
+        }
         Err(fault) => Opening::Refused(fault),
     }
 }

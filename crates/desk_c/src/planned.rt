@@ -1,6 +1,7 @@
 //! Calls on numbers at what is behind a handle.
 ghost use Rattle.std.specs.Prelude.{◌≡◌};
-ghost use Rattle.desk_c.specs.Handles.{AtOpen, CommitsAt, IsUnfilled, IsUnmoved, OfOpening, TellsDistanceAt, TellsEntriesAt, TellsSolvesAt, TellsVersion, TriesAt};
+ghost use Rattle.desk_c.specs.Handles.{AtOpen, CommitsAt, IsUnfilled, IsUnmoved, OfOpening, TriesAt};
+ghost use Rattle.desk_c.specs.Handles.{TellsDistanceAt, TellsEntriesAt, TellsSolvesAt, TellsVersion};
 
 use crate::numbers::{CellNumbers, EntryNumbers};
 use crate::planning::{commit_path, distance, entries_of, give_entries, solves, try_path};

@@ -60,6 +60,7 @@ pub record AsksToServe (usual : LinesVersion) (found : Found) (words : ServeWord
   pub log : option_copied words.log ≡ first_value found (codes "log")
   pub sync : words.is_synced ≡ is_sync_named (first_value found (codes "sync"))
   pub lines : words.lines ≡ lines_named usual (first_value found (codes "lines"))
+  pub history : words.history ≡ unwrap_or (number_given found (codes "history")) 1000000
 
 pub record AsksToAudit (found : Found) (words : AuditWords) : Type 0 where
   pub map : words.map.now ≡ unwrap_or (first_value found (codes "map")) []
@@ -76,6 +77,7 @@ pub record AsksToDrill (found : Found) (words : DrillWords) : Type 0 where
   pub mode : words.mode ≡ mode_named (first_value found (codes "mode"))
   pub workers : words.workers ≡ unwrap_or (number_given found (codes "workers")) 4
   pub lines : words.lines ≡ lines_named One (first_value found (codes "lines"))
+  pub history : words.history ≡ unwrap_or (number_given found (codes "history")) 1000000
   pub scripts : texts_in words.scripts.items ≡ texts_given found (codes "script")
 
 pub record AsksToHost (found : Found) (words : HostWords) : Type 0 where
@@ -141,7 +143,7 @@ pub record AsksInWord (matches : ArgMatches) (words : Words) : Type 0 where
 
 -- a session without files
 abbrev pub usual_words : ServeWords
-usual_words = record { map = None; scen = None; agents = 0; limit = 100000; mode = Stay; journal = None; save = None; log = None; is_synced = true; lines = One }
+usual_words = record { map = None; scen = None; agents = 0; limit = 100000; mode = Stay; journal = None; save = None; log = None; is_synced = true; lines = One; history = 1000000 }
 
 -- what all words ask for: the version by its flag, before all else; that of the word that was met; or a session, where none was
 abbrev pub Asks : ArgMatches → Words → Type 0

@@ -34,7 +34,7 @@ abbrev pub word_labels : List (List ℕ × List (List ℕ × Bool))
 word_labels = (
   codes "serve",
   may (codes "map") ∷ may (codes "scen") ∷ may (codes "agents") ∷ may (codes "limit") ∷ may (codes "mode") ∷ may (codes "journal") ∷
-      may (codes "save") ∷ may (codes "log") ∷ may (codes "sync") ∷ may (codes "lines") ∷ may (codes "verbose") ∷ [],
+      may (codes "save") ∷ may (codes "log") ∷ may (codes "sync") ∷ may (codes "lines") ∷ may (codes "history") ∷ may (codes "verbose") ∷ [],
 )
     ∷ (
       codes "audit",
@@ -43,14 +43,14 @@ word_labels = (
     )
     ∷ (
       codes "drill",
-      needs (codes "map") ∷ may (codes "scen") ∷ may (codes "agents") ∷ may (codes "mode") ∷ may (codes "lines") ∷ may (codes "workers") ∷
+      needs (codes "map") ∷ may (codes "scen") ∷ may (codes "agents") ∷ may (codes "mode") ∷ may (codes "lines") ∷ may (codes "history") ∷ may (codes "workers") ∷
           may (codes "verbose") ∷ needs (codes "script") ∷ [],
     )
     ∷ (
       codes "host",
       needs (codes "map") ∷ may (codes "scen") ∷ may (codes "agents") ∷ may (codes "limit") ∷ may (codes "mode") ∷ may (codes "journal") ∷
-          may (codes "save") ∷ may (codes "lines") ∷ may (codes "wait") ∷ may (codes "workers") ∷ may (codes "verbose") ∷
-          needs (codes "name") ∷ [],
+          may (codes "save") ∷ may (codes "log") ∷ may (codes "sync") ∷ may (codes "lines") ∷ may (codes "history") ∷ may (codes "wait") ∷
+          may (codes "workers") ∷ may (codes "verbose") ∷ needs (codes "name") ∷ [],
     )
     ∷ (
       codes "check",

@@ -6,7 +6,7 @@ use crate::helping::{
     SERVE_HELP,
 };
 use crate::options::{
-    AGENTS, AGENTS_OF_PATHS, FORM, JOURNAL, JOURNAL_OF_AN_AUDIT, LIMIT, LINES, LOG, MAP,
+    AGENTS, AGENTS_OF_PATHS, FORM, HISTORY, JOURNAL, JOURNAL_OF_AN_AUDIT, LIMIT, LINES, LOG, MAP,
     MAP_OR_INPUT, MODE, NEEDED_PATHS, PATHS, QUIET, SAVE, SCEN, SCEN_OF_PATHS, SOLVES, SYNC,
     VERBOSE, VERSION, WORKERS,
 };
@@ -50,6 +50,7 @@ pub(crate) const WORDS: [Word; 7] = [
             LOG,
             SYNC,
             LINES,
+            HISTORY,
             VERBOSE,
         ],
     },
@@ -77,6 +78,7 @@ pub(crate) const WORDS: [Word; 7] = [
             AGENTS,
             MODE,
             LINES_OF_SCRIPTS,
+            HISTORY,
             WORKERS,
             VERBOSE_DRILL,
             SCRIPTS,
@@ -94,7 +96,10 @@ pub(crate) const WORDS: [Word; 7] = [
             MODE,
             JOURNAL,
             SAVE,
+            LOG,
+            SYNC,
             LINES_OF_PLANNERS,
+            HISTORY,
             WAIT,
             WORKERS,
             VERBOSE,

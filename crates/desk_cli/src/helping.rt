@@ -51,7 +51,7 @@ What solvers call an edge conflict, two agents that change places, is swap; edge
 make the same move.
 With --lines 2 also: report A.., of these agents alone; plan A, its goal and path; cell X,Y, open or
 closed; at TIME X,Y, the agents there; wait VERSION SECONDS, the version once it is above that one;
-try, what a commit would change.
+changes VERSION, what has changed in the report since; try, what a commit would change.
 
 With --save F the journal is in F when the session is over, in place of one that was there: Ctrl-D
 ends it, Ctrl-C kills it and saves nothing. With --journal F the next session goes on from there; both
@@ -95,7 +95,8 @@ else.
 
 The host waits for a planner that doesn't come, with --wait S no longer than S seconds. When all
 inputs have ended it saves the journal, with --save F, and prints audit same if a report made from
-scratch is that of the desk, else audit differs.
+scratch is that of the desk, else audit differs. With --log F each commit is in F before anybody is
+shown it, as with serve.
 
 Statuses: 0 audit same; 1 audit differs; 2 a fault, reported on standard error with the planner's NAME.
 

@@ -159,6 +159,14 @@ pub(crate) const LINES: Argument = Argument {
     ..FILE
 };
 
+pub(crate) const HISTORY: Argument = Argument {
+    name: "history",
+    value: Value::Number("N", 0, 1_000_000_000),
+    usual: &["1000000"],
+    help: "How many changes of the report are kept for the line changes, from 0 to 1000000000",
+    ..FILE
+};
+
 pub(crate) const VERBOSE: Argument = Argument {
     name: "verbose",
     short: Some('v'),

@@ -20,6 +20,9 @@ use std::alloc::{AllocError, Global};
 /// How many commits the journal takes if the words don't say.
 const USUAL_LIMIT: u32 = 100_000;
 
+/// How many changes of the report are kept if the words don't say.
+const USUAL_HISTORY: u32 = 1_000_000;
+
 /// How many threads make a report if the words don't say.
 const USUAL_WORKERS: u32 = 4;
 
@@ -33,6 +36,12 @@ fn workers_of(matches: &ArgMatches<'static>) -> u32
     ensures { result ≡ unwrap_or (number_given (found_of matches.now) (codes "workers")) 4 }
 {
     number_given(matches, "workers").unwrap_or(USUAL_WORKERS)
+}
+
+fn history_of(matches: &ArgMatches<'static>) -> u32
+    ensures { result ≡ unwrap_or (number_given (found_of matches.now) (codes "history")) 1000000 }
+{
+    number_given(matches, "history").unwrap_or(USUAL_HISTORY)
 }
 
 fn serve_words(matches: &ArgMatches<'static>, usual: LinesVersion) -> ServeWords
@@ -49,6 +58,7 @@ fn serve_words(matches: &ArgMatches<'static>, usual: LinesVersion) -> ServeWords
         log: matches.get_str("log"),
         is_synced: is_synced(matches),
         lines: lines_given(matches, usual),
+        history: history_of(matches),
     }
 }
 
@@ -76,6 +86,7 @@ fn drill_words(alloc: Global, matches: &ArgMatches<'static>) -> Result<DrillWord
         mode: mode_given(matches),
         workers: workers_of(matches),
         lines: lines_given(matches, LinesVersion::One),
+        history: history_of(matches),
         scripts,
     })
 }
@@ -144,6 +155,7 @@ pub(crate) fn usual_words() -> ServeWords
         log: None,
         is_synced: true,
         lines: LinesVersion::One,
+        history: USUAL_HISTORY,
     }
 }
 

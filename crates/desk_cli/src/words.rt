@@ -44,6 +44,8 @@ pub struct ServeWords {
     pub is_synced: bool,
     /// The version of the session's lines.
     pub lines: LinesVersion,
+    /// How many changes of the report are kept, 0 to 1,000,000,000.
+    pub history: u32,
 }
 
 impl ServeWords {
@@ -84,6 +86,8 @@ pub struct DrillWords {
     pub workers: u32,
     /// The version of the scripts' lines.
     pub lines: LinesVersion,
+    /// How many changes of the report are kept, 0 to 1,000,000,000.
+    pub history: u32,
     /// The files of the scripts, in the order of their planners.
     pub scripts: Vec<&'static str>,
 }

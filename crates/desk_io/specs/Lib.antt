@@ -5,3 +5,4 @@ pub mod ShortLines
 pub mod Opening
 pub mod Starts
 pub mod Answered
+pub mod Expectations

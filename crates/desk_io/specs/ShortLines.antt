@@ -1,5 +1,5 @@
 -- A source of lines that aren't too long: it hands on what another gives, and fails where a line has as many bytes as it may have, and no LF (this project's choice).
-use Rattle.std.specs.Prelude.{◌≡◌, ℕ, ◌+◌, ◌<◌, ◌≤◌, ◌⊎◌, if◌then◌else◌, Option, Some, Result, Ok, Err, Bool, true, nat_eq, IsTrue, is_err}
+use Rattle.std.specs.Prelude.{◌≡◌, ℕ, ◌+◌, ◌<◌, ◌≤◌, ◌⊎◌, if◌then◌else◌, Option, Some, Result, Ok, Bool, true, nat_eq, IsTrue, is_err}
 use Rattle.desk_report.specs.Bytes.{Giving}
 use Rattle.desk_report.specs.declared.bytes.source.ReadFailed.{ReadFailed}
 use Rattle.desk_io.specs.declared.short_lines.TheConstants.{MOST_LINE}

@@ -1,5 +1,5 @@
 -- Which file's bytes a text is (this project's choice).
-use Rattle.std.specs.Prelude.{◌≡◌, ◌⊎◌, ℕ, List, Any, Option, Some, None, Vec, Bool, true, false, codes, nat_eq, option_map}
+use Rattle.std.specs.Prelude.{◌≡◌, ◌⊎◌, ℕ, List, Option, Some, None, Vec, Bool, true, false, codes, nat_eq, option_map}
 use Rattle.std.specs.Borrow.{Bor}
 use Rattle.std.specs.List.{AllZip, starts_with}
 use Rattle.desk_log.specs.Reading.{IsRead}

@@ -1,8 +1,13 @@
 //! What should stand where a file of paths has a fault.
+ghost use Rattle.std.specs.Prelude.{◌≡◌};
+ghost use Rattle.desk_io.specs.Expectations.{expected_text};
+
 use path_files::PathsFault;
 
 /// What should stand in the line that a fault of a file of paths is about.
-pub(crate) fn expected(why: PathsFault) -> &'static str {
+pub(crate) fn expected(why: PathsFault) -> &'static str
+    ensures { result.now ≡ expected_text why }
+{
     match why {
         PathsFault::NoForm { .. } => {
             "0:(X,Y),.., Agent 0: (ROW,COLUMN)->.., path 0 X,Y .., {JSON}, schedule: or moves udlrw"

@@ -1,5 +1,5 @@
 //! Logs that are read as journals.
-ghost use Rattle.std.specs.Prelude.{◌≡◌, ◌⊎◌, ℕ, IfErr, IfOk};
+ghost use Rattle.std.specs.Prelude.{◌≡◌, ◌⊎◌, ◌++◌, ℕ, None, IfErr, IfOk, IfSome, codes, decimal, string_bytes};
 ghost use Rattle.desk_io.specs.Texts.{IsDamaged, ReadsAsJournal};
 
 use crate::telling::More;
@@ -9,7 +9,10 @@ use solver_check::{Fault, RunFault};
 use std::alloc::Global;
 
 /// What is noted of a log whose last entry was not finished, by how many bytes of it there are.
-pub fn tear_note(alloc: Global, bytes: usize) -> Option<String> {
+pub fn tear_note(alloc: Global, bytes: usize) -> Option<String>
+    ensures whole { bytes ≡ 0 → result ≡ None }
+    ensures torn { IfSome result (λ note. string_bytes note ≡ codes "note: log: " ++ decimal bytes ++ codes " bytes of an entry that was not finished") }
+{
     if bytes == 0 {
         return None;
     }

@@ -1,5 +1,7 @@
 //! A file that is to be written, looked at and held before.
-ghost use Rattle.std.specs.Prelude.{◌≡◌, ℕ, List, Some, IfErr, IfOk, option_map};
+ghost use Rattle.std.specs.Prelude.{◌≡◌, ℕ, List, Some, IfErr, IfOk, IfSome, OnOk, codes, option_map};
+ghost use Rattle.std.specs.Io.{StartsWith};
+ghost use Rattle.std.specs.IoError.{error_kind};
 ghost use Rattle.std.specs.Option.{option_copied};
 ghost use Rattle.desk_io.specs.Texts.{IsUnheld};
 
@@ -69,17 +71,19 @@ fn is_ready<R: Files>(rt: &R, file: &str) -> Done<()> {
             return Err(Error::new(ErrorKind::InvalidInput, "not a file"));
         }
         if there.len() > 0 {
-            begins_a_journal(rt, file)?;
+            begins_a_journal(&mut fs::open(rt, file)?)?;
         }
     }
     Ok(())
 }
 
-// Looks whether the file begins as a journal does: another one may be a map, named by mistake.
-fn begins_a_journal<R: Files>(rt: &R, file: &str) -> Done<()> {
+// Looks whether what is read begins as a journal does: another file may be a map, named by mistake.
+fn begins_a_journal<I: Read>(file: &mut I) -> Done<()>
+    ensures begins { OnOk result (IfSome (I.remaining file.old) (λ bytes. StartsWith bytes (codes "journal "))) }
+    ensures refused { IfErr result (λ why. error_kind why ≡ ErrorKind.InvalidInput) }
+{
     let mut first = [0u8; HEAD.len()];
-    let mut opened = fs::open(rt, file)?;
-    let read = opened.read_exact(&mut first);
+    let read = file.read_exact(&mut first);
     if read.is_err() || first != *HEAD {
         return Err(Error::new(ErrorKind::InvalidInput, "not a journal"));
     }

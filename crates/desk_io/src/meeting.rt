@@ -1,7 +1,8 @@
 //! How a planner is met at its pair of files: by a thread for each end, until it has come or is waited
 //! for no longer.
-ghost use Rattle.std.specs.Prelude.{◌≡◌, ◌↔◌, ◌⊎◌, IsTrue, Some};
-ghost use Rattle.std.specs.IoError.{raw_os_error};
+ghost use Rattle.std.specs.Prelude.{◌≡◌, ◌≢◌, ◌↔◌, ◌⊎◌, IfErr, IfOk, IsTrue, Some, option_to_list};
+ghost use Rattle.std.specs.Io.KnownBytes.{Consumes};
+ghost use Rattle.std.specs.IoError.{error_kind, raw_os_error};
 
 use crate::doors::{Doors, Ends, Opened, Reader, Stage, Unmet};
 use crate::pipes::{Ahead, End, one_end};
@@ -123,7 +124,7 @@ impl Doors {
                 return Ok(None);
             }
             self.reads.store(true, Ordering::SeqCst);
-            let first = read_one(&ends.input);
+            let first = read_one(&mut &ends.input);
             self.reads.store(false, Ordering::SeqCst);
             if let Some(byte) = first? {
                 return Ok(Some(byte));
@@ -134,7 +135,9 @@ impl Doors {
 
     // Waits until somebody opens the other end of a pipe, or has opened it since, or until the planner
     // isn't awaited.
-    fn wait_at<R: Wait>(&self, rt: &R, host: &HostRuntime, anchor: &str, end: End) -> Done<()> {
+    fn wait_at<R: Wait>(&self, rt: &R, host: &HostRuntime, anchor: &str, end: End) -> Done<()>
+        ensures { IfErr result (λ why. (raw_os_error why ≢ Some FULL_PROCESS) × (raw_os_error why ≢ Some FULL_SYSTEM)) }
+    {
         for _ in rt.forever() {
             if self.stage(rt) != Stage::Awaited {
                 return Ok(());
@@ -171,11 +174,13 @@ impl Doors {
     }
 }
 
-// The next byte, or none at the end. It waits for who is there and silent.
-fn read_one(input: &File) -> Done<Option<u8>> {
+// The next byte, or none at the end, or where the call was interrupted. It waits for who is there and silent.
+fn read_one<I: Read>(input: &mut I) -> Done<Option<u8>>
+    ensures next { IfOk result (λ first. Consumes (I.remaining input.old) (I.remaining input.new) (option_to_list first)) }
+    ensures failed { IfErr result (λ why. error_kind why ≢ ErrorKind.Interrupted) }
+{
     let mut first = [0u8];
-    let mut file = input;
-    match file.read(first.as_mut_slice()) {
+    match input.read(first.as_mut_slice()) {
         Ok(0) => Ok(None),
         Ok(_) => Ok(Some(first[0])),
         Err(why) if why.kind() == ErrorKind::Interrupted => Ok(None),

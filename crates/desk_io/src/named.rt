@@ -51,7 +51,8 @@ fn named_courses<F: Folder>(
     paths: Option<&'static str>,
     more: &mut More,
 ) -> Result<Option<Vec<u8>>, Fault>
-    ensures read { IfOk result (λ text. IsCourses (F.holds folder.now) (option_copied journal.entry) (option_copied paths.entry) (option_map (λ b. b.items) text)) }
+    ensures read { IfOk result (λ text. IsCourses (F.holds folder.now) (option_copied journal.entry) (option_copied paths.entry)
+        (option_map (λ b. b.items) text)) }
     ensures unread { IfErr result (IsUnreadOf (F.holds folder.now) None None (option_copied journal.entry) (option_copied paths.entry)) }
 {
     match journal {

@@ -1,14 +1,23 @@
 //! How a planner's pair of files is opened, with no wait.
-ghost use Rattle.std.specs.Prelude.{◌≡◌, ◌++◌, IfOk, codes, string_bytes};
+ghost use Rattle.std.specs.Prelude.{◌≡◌, ◌⊎◌, ◌++◌, IfErr, IfOk, codes, string_bytes};
 
 use crate::doors::{Doors, Ends, FileNames, Opened, Reader, Stage, Unmet};
 use crate::pipes::{DoorError, End, copied, is_pipe, open_door};
 use solver_check::Shown;
 use std::alloc::{AllocError, Global};
 use std::fs::File;
+use std::io::Error;
 use std::rt::Files;
 use std::sync::atomic::AtomicBool;
 use std::sync::{Mutex, Wait};
+
+/// Why there are no seats.
+#[derive(Drop)]
+pub enum PipesFault {
+    OutOfMemory,
+    /// A file of the planner of that name is another planner's already, of this host or of another one.
+    InUse { name: &'static str },
+}
 
 /// Why a planner has no pair of files.
 #[derive(Drop)]
@@ -84,7 +93,9 @@ impl Doors {
         files: &F,
         rt: &R,
         alloc: Global,
-    ) -> Result<(), DoorsFault> {
+    ) -> Result<(), DoorsFault>
+        ensures { IfErr result (λ fault. (fault ≡ DoorsFault.InUse) ⊎ (fault ≡ DoorsFault.OutOfMemory)) }
+    {
         let opened = match self.open_ends(files, rt, alloc) {
             Ok(ends) => Opened::Ends(ends),
             Err(DoorsFault::Closed(fault)) => Opened::Fault(fault),
@@ -131,7 +142,9 @@ impl Doors {
         &self,
         files: &F,
         alloc: Global,
-    ) -> Result<File, DoorsFault> {
+    ) -> Result<File, DoorsFault>
+        ensures { IfErr result (λ fault. (fault ≡ DoorsFault.InUse) ⊎ ((why : Error) × (fault ≡ DoorsFault.Closed (Unmet.NoOutput why)))) }
+    {
         match open_door(files, alloc, self.names.outward.as_str(), End::Output) {
             Ok(door) => Ok(door.file),
             Err(DoorError::InUse) => Err(DoorsFault::InUse),

@@ -1,5 +1,7 @@
 //! The desk's ends of pipes that have names, or of other files: opened with no wait, and by nobody else.
-ghost use Rattle.std.specs.Prelude.{◌≡◌, IfOk, None, is_some, string_bytes, true};
+ghost use Rattle.std.specs.Fmt.{signed_decimal};
+ghost use Rattle.std.specs.Prelude.{◌≡◌, ◌++◌, ℤ, IfErr, IfOk, None, codes, is_some, string_bytes, true};
+ghost use Rattle.std.specs.IoError.{error_kind};
 ghost use Rattle.std.specs.Option.{option_map};
 ghost use Rattle.desk_io.specs.Opening.{both_ends, one_end};
 
@@ -89,7 +91,10 @@ fn lock(file: &File) -> Result<(), DoorError> {
 }
 
 // What an open file is opened by once more, whatever its name means by then.
-fn anchor_of(alloc: Global, file: &File) -> Result<String, DoorError> {
+fn anchor_of(alloc: Global, file: &File) -> Result<String, DoorError>
+    ensures anchor { IfOk result (λ anchor. (number : ℤ) × (string_bytes anchor ≡ codes "/proc/self/fd/" ++ signed_decimal number)) }
+    ensures refused { IfErr result (λ fault. (why : Error) × (fault ≡ DoorError.Refused why) × (error_kind why ≡ ErrorKind.OutOfMemory)) }
+{
     let number = file.as_raw_fd();
     match format!(in alloc; "/proc/self/fd/{number}") {
         Ok(anchor) => Ok(anchor),

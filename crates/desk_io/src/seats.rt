@@ -1,17 +1,17 @@
 //! The seats of planners at pipes, or other files, and of the operator at standard input and output.
-ghost use Rattle.std.specs.Prelude.{◌≡◌, IfOk, length};
+ghost use Rattle.std.specs.Prelude.{◌≡◌, IfOk, false, length, true};
 ghost use Rattle.solver_check.specs.Inputs.{untold_input};
-ghost use Rattle.solver_check.specs.Seats.{Sits};
+ghost use Rattle.solver_check.specs.Seats.{Sits, StopsKeeping};
 
 use crate::doors::{Doors, Unmet};
-use crate::opening::DoorsFault;
+use crate::opening::{DoorsFault, PipesFault};
 use crate::patience::Patient;
 use crate::pipes::both_ends;
 use crate::prompting::Prompting;
 use crate::sittings::sit_between;
 use crate::steady::Steady;
 use desk_core::Awaits;
-use session_protocol::{LinesVersion, ServeFault};
+use session_protocol::{Keeper, LinesVersion, ServeFault};
 use solver_check::{Outcome, SeatFault, Seats};
 use std::alloc::Global;
 use std::fs::File;
@@ -19,14 +19,6 @@ use std::io;
 use std::io::IsTerminal;
 use std::rt::Stderr;
 use std::sync::{Mutex, Wait};
-
-/// Why there are no seats.
-#[derive(Drop)]
-pub enum PipesFault {
-    OutOfMemory,
-    /// A file of the planner of that name is another planner's already, of this host or of another one.
-    InUse { name: &'static str },
-}
 
 /// The seats of the operator, 0, and of the planners from 1 on.
 #[derive(Drop)]
@@ -96,8 +88,17 @@ impl<'a> Pipes<'a> {
     }
 
     // Serves the operator.
-    fn operate<C: Awaits>(&self, alloc: Global, counter: &mut C) -> Outcome
-        ensures { Sits C.counting (untold_input self.now.version) counter.old counter.new result }
+    fn operate<C: Awaits, K: Keeper<C>>(
+        &self,
+        alloc: Global,
+        keeper: &mut K,
+        counter: &mut C,
+    ) -> Outcome
+        requires { K.has_failed keeper.old ≡ false }
+        ensures sat { Sits C.counting (untold_input self.now.version) counter.old counter.new result }
+        ensures kept { K.has_failed keeper.new ≡ false → K.keeps keeper.old counter.old → K.keeps keeper.new counter.new }
+        ensures unkept { K.has_failed keeper.new ≡ true → StopsKeeping C.counting (untold_input self.now.version) counter.old counter.new
+            (λ told. K.keeps keeper.old counter.old → K.keeps_some keeper.new told counter.new) }
     {
         let errors = self.errors();
         // (lent, since standard input has its buffer in itself)
@@ -105,20 +106,25 @@ impl<'a> Pipes<'a> {
         let typed = self.host.stdin().is_terminal();
         let input = Prompting::new(&errors, &mut reader, typed, self.prompt);
         let output = Patient::new(self.host, io::writer(self.host));
-        let ended = sit_between(alloc, self.version, counter, input, output);
+        let ended = sit_between(alloc, self.version, keeper, counter, input, output);
         self.tell("operator", &ended);
         ended
     }
 
     // Waits for a planner, and serves it to the end of its input.
-    fn let_in<R: Wait, C: Awaits>(
+    fn let_in<R: Wait, C: Awaits, K: Keeper<C>>(
         &self,
         rt: &R,
         alloc: Global,
         doors: &Doors,
+        keeper: &mut K,
         counter: &mut C,
     ) -> Outcome
-        ensures { Sits C.counting (untold_input self.now.version) counter.old counter.new result }
+        requires { K.has_failed keeper.old ≡ false }
+        ensures sat { Sits C.counting (untold_input self.now.version) counter.old counter.new result }
+        ensures kept { K.has_failed keeper.new ≡ false → K.keeps keeper.old counter.old → K.keeps keeper.new counter.new }
+        ensures unkept { K.has_failed keeper.new ≡ true → StopsKeeping C.counting (untold_input self.now.version) counter.old counter.new
+            (λ told. K.keeps keeper.old counter.old → K.keeps_some keeper.new told counter.new) }
     {
         let (input, output) = match doors.meet(rt, self.host) {
             Ok(ends) => ends,
@@ -130,7 +136,7 @@ impl<'a> Pipes<'a> {
         if self.stages {
             let _told = eprintln!(self.errors(); "mapf_desk: {}: has come", doors.name);
         }
-        sit_between(alloc, self.version, counter, input, output)
+        sit_between(alloc, self.version, keeper, counter, input, output)
     }
 
     // Tells how a session ended: its fault, and how many lines it had where that is wanted.
@@ -146,12 +152,11 @@ impl<'a> Pipes<'a> {
             Err(fault) => {
                 let _told = eprintln!(errors; "mapf_desk: {name}: {fault}");
             }
-            Ok(lines) => {
-                if self.stages {
-                    let what = if *lines == 1 { "line" } else { "lines" };
-                    let _told = eprintln!(errors; "mapf_desk: {name}: {lines} {what}");
-                }
+            Ok(lines) if self.stages => {
+                let what = if *lines == 1 { "line" } else { "lines" };
+                let _told = eprintln!(errors; "mapf_desk: {name}: {lines} {what}");
             }
+            Ok(_) => {}
         }
     }
 }
@@ -159,22 +164,23 @@ impl<'a> Pipes<'a> {
 impl<'a> Seats for Pipes<'a> {
     ghost inputs = { λ pipes _. untold_input pipes.version };
 
-    fn seat<R: Wait, C: Awaits>(
+    fn seat<R: Wait, C: Awaits, K: Keeper<C>>(
         &self,
         rt: &R,
         alloc: Global,
         number: u32,
         counter: &mut C,
+        keeper: &mut K,
     ) -> Outcome {
         let Some(place) = number.checked_sub(1) else {
-            let ended = self.operate(alloc, counter);
+            let ended = self.operate(alloc, keeper, counter);
             self.tell_awaited(rt);
             return ended;
         };
         let Some(doors) = self.doors.get(place as usize) else {
             return Err(SeatFault::NoThread);
         };
-        let ended = self.let_in(rt, alloc, doors, counter);
+        let ended = self.let_in(rt, alloc, doors, keeper, counter);
         self.tell(doors.name.as_str(), &ended);
         ended
     }

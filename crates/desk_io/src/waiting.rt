@@ -1,7 +1,7 @@
 //! How long planners are waited for.
 use crate::doors::Stage;
-use crate::opening::DoorsFault;
-use crate::seats::{Pipes, PipesFault};
+use crate::opening::{DoorsFault, PipesFault};
+use crate::seats::Pipes;
 use std::alloc::Global;
 use std::sync::Wait;
 use std::thread;

@@ -1,4 +1,4 @@
-use Rattle.std.proofs.Common.{◌≡◌, ◌<◌, ◌++◌, ℕ, List, length, Some, None, drop, map, take, slice_index_or, subst, sym, ◌∙◌, ap, refl, append-nil, arith}
+use Rattle.std.proofs.Common.{◌≡◌, ◌<◌, ◌++◌, ℕ, List, length, Some, drop, map, take, slice_index_or, subst, sym, ◌∙◌, ap, append-nil, arith}
 use Rattle.std.specs.Prelude.{Option, Result, Ok, Err, IfOk, Vec}
 use Rattle.std.specs.Borrow.{Bor}
 use Rattle.std.specs.Global.{Global}

@@ -1,6 +1,7 @@
 mod Ending
 mod Unsent
 mod Planners
+mod HostLog
 mod LogDesk
 mod LogSession
 pub mod FilledRows

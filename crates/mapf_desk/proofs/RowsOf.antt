@@ -1,11 +1,10 @@
-use Rattle.std.proofs.Common.{◌≡◌, ℕ, List, Some, None}
-use Rattle.std.specs.Prelude.{◌⊎◌, Option, Result, Ok, Err, IfOk}
-use mathlib.Core.Logic.{inl, inr}
+use Rattle.std.proofs.Common.{◌≡◌, ℕ, List}
+use Rattle.std.specs.Prelude.{Option, Result, Ok, Err, IfOk}
+use mathlib.Core.Logic.{inr}
 use Rattle.solver_check.specs.Checks.{IsCheckFault}
 use Rattle.solver_check.specs.declared.checks.faults.CheckFault.{CheckFault}
-use Rattle.solver_check.specs.declared.faults.Fault.{Fault}
 use Rattle.desk_cli.specs.declared.words.CheckWords.{CheckWords}
-use Rattle.desk_io.specs.Texts.{IsTold, IsUnread}
+use Rattle.desk_io.specs.Texts.{IsTold}
 use Rattle.mapf_desk.specs.Rows.{IsRow, fault_row}
 use Rattle.mapf_desk.specs.declared.checking_row.Row.{Row}
 use Rattle.mapf_desk.specs.declared.statuses.RunEnd.TheVariants.{Faulty}

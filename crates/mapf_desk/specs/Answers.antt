@@ -25,7 +25,7 @@ Ends (Audit words) end =
     (end ≡ Yes) × OfFiles untold (Some words.map.now) (option_copied words.scen) (option_copied words.journal) None (HasAudited words)
 Ends (Drill words) end =
     (same : Bool) × (end ≡ answered same) × OfScripts untold words (λ map scen scripts. HasDrilled words map scen scripts same)
-Ends (Host words) end = HasHosted untold unsaid words end
+Ends (Host words) end = HasHosted untold unsaid untold unsaid words (option_copied words.desk.log) end
 Ends (Check words) end = HasCheckedPaths untold words words.more.items end
 Ends (Draw words) end =
     (end ≡ Yes) × OfFiles untold (Some words.map.now) (option_copied words.scen) (option_copied words.journal) (option_copied words.paths) (HasDrawn words)

@@ -22,6 +22,8 @@ use Rattle.mapf_desk.specs.Names.{first_repeated}
 use Rattle.mapf_desk.specs.Words.{SitsFrom}
 use Rattle.mapf_desk.specs.declared.faults.ProgramFault.{ProgramFault}
 use Rattle.mapf_desk.specs.declared.faults.ProgramFault.TheVariants as program
+use Rattle.session_lines.specs.declared.versions.LinesVersion.{LinesVersion}
+use Rattle.session_lines.specs.declared.versions.LinesVersion.TheVariants.{One, Two}
 
 -- the fault of a session that ended so
 abbrev pub fault_at_end : Result ℕ ServeFault → Option RunFault
@@ -40,6 +42,11 @@ IsLast before last = (last ≡ before) ⊎ (last ≡ Some (Serve session.WriteFa
 -- the journal's limit by the words
 abbrev pub limit_of : ServeWords → ℕ
 limit_of words = max 1 (min words.limit MOST_ENTRIES)
+
+-- how many changes of its report a desk keeps, where so many are asked for: no line of version 1 asks what changed
+abbrev pub history_for : LinesVersion → ℕ → ℕ
+history_for One history = 0
+history_for Two history = history
 
 -- the session of an input over the desk of the texts and the words
 abbrev pub SitsBy : ServeWords → (map scen journal left : Option (List ℕ)) → DeskState × Result ℕ ServeFault → Type 0

@@ -47,17 +47,25 @@ IsHad words map scen bytes None = IsTornHead bytes (head_of words map scen)
 IsHad words map scen bytes (Some text) =
     (log : LogRead) × IsRead bytes log × (log.mode ≡ words.mode) × (log.scene ≡ scene_digest map (unwrap_or scen []) words.agents) × (text ≡ log.journal.items)
 
--- a log has the entries of that journal and nothing else, and a crash leaves them all
-abbrev pub HasEntries : (text kept : Option (List ℕ)) → List Entry → Type 0
-HasEntries text kept journal = (count : ℕ) × (check : List ℕ) × IsLogged text kept count check journal
+-- a log has that head, the entries of that journal and nothing else, and a crash leaves them all
+abbrev pub HasEntries : (head : List ℕ) → (text kept : Option (List ℕ)) → List Entry → Type 0
+HasEntries head text kept journal = (count : ℕ) × (check : List ℕ) × IsLogged head text kept count check journal
 
--- at the end of a session the log has the entries of the journal of the desk; or it failed: of the answer to what isn't in it nothing went out, and
+-- a session over a desk left that one
+abbrev pub SitsOn : LinesVersion → Bounds → (left0 left1 held0 held1 : Option (List ℕ)) → (start desk : DeskState) → Result ℕ ServeFault → Type 0
+SitsOn version bounds left0 left1 held0 held1 start desk ended =
+    (last : Session) × Serves (answering_in version desk_counting) bounds left0 left1 held0 held1 (Idle, start) (last, desk) ended
+
+-- and of the answer to what its last line did nothing went out, since it wasn't kept
+abbrev pub StopsOn : LinesVersion → (held0 held1 : Option (List ℕ)) → (start desk : DeskState) → (IsKept : DeskState → Type 0) → Type 0
+StopsOn version held0 held1 start desk IsKept = (last : Session) × StopsUnkept (answering_in version desk_counting) held0 held1 (Idle, start) (last, desk) (λ told. IsKept told.1)
+
+-- at the end of a session the log has its head and the entries of the journal of the desk; or it failed: of the answer to what isn't in it nothing went out, and
 -- whatever a crash leaves stands for the entries that were answered, and maybe more
-abbrev pub IsKept : LinesVersion → (held0 held1 text kept : Option (List ℕ)) → (has_failed : Bool) → (Had : Type 0) → (start desk : DeskState) → Type 0
-IsKept version held0 held1 text kept false Had start desk = Had → HasEntries text kept desk.journal
-IsKept version held0 held1 text kept true Had start desk =
-    (last : Session) × StopsUnkept (answering_in version desk_counting) held0 held1 (Idle, start) (last, desk)
-    (λ told. Had → IsLoggedInPart text kept told.1.journal desk.journal)
+abbrev pub IsKept : LinesVersion → (head : List ℕ) → (held0 held1 text kept : Option (List ℕ)) → (has_failed : Bool) → (Had : Type 0) → (start desk : DeskState) → Type 0
+IsKept version head held0 held1 text kept false Had start desk = Had → HasEntries head text kept desk.journal
+IsKept version head held0 held1 text kept true Had start desk =
+    StopsOn version held0 held1 start desk (λ told. Had → IsLoggedInPart head text kept told.journal desk.journal)
 
 -- a session over the text of a map and the desk of what its log had, and what it left
 pub record SatOver (words : ServeWords) (map : List ℕ) (scen : Option (List ℕ)) (bytes : List ℕ) (bounds : Bounds) (left0 left1 held0 held1 : Option (List ℕ)) (ended : Result ℕ ServeFault) (IsLeft : DeskState → DeskState → Type 0) : Type 0 where
@@ -81,26 +89,26 @@ bounds_behind (Some map) text = run_bounds
 bounds_behind None text = bounds_after text run_bounds
 
 -- and so over the texts of files, where the map may come first from the input
-pub record SatFrom (words : ServeWords) (map scen : Option (List ℕ)) (bytes : List ℕ) (left0 left1 held0 held1 : Option (List ℕ)) (ended : Result ℕ ServeFault) (IsLeft : DeskState → DeskState → Type 0) : Type 0 where
+pub record SatFrom (words : ServeWords) (map scen : Option (List ℕ)) (bytes : List ℕ) (left0 left1 held0 held1 : Option (List ℕ)) (ended : Result ℕ ServeFault) (IsLeft : List ℕ → DeskState → DeskState → Type 0) : Type 0 where
   pub text : List ℕ
   pub between : Option (List ℕ)
   pub heard : IsMapFrom map left0 between text
-  pub sat : SatOver words text scen bytes (bounds_behind map text) between left1 held0 held1 ended IsLeft
+  pub sat : SatOver words text scen bytes (bounds_behind map text) between left1 held0 held1 ended (IsLeft text)
 
 -- and so to the end of an input, whose answers went into a buffer
-pub record SatToEnd (words : ServeWords) (map scen : Option (List ℕ)) (bytes : List ℕ) (IsLeft : List Entry → Type 0) : Type 0 where
+pub record SatToEnd (words : ServeWords) (map scen : Option (List ℕ)) (bytes : List ℕ) (IsLeft : List ℕ → List Entry → Type 0) : Type 0 where
   pub left0 : Option (List ℕ)
   pub left1 : Option (List ℕ)
   pub held0 : Option (List ℕ)
   pub held1 : Option (List ℕ)
   pub lines : ℕ
-  pub sat : SatFrom words map scen bytes left0 left1 held0 held1 (Ok lines) (λ start desk. IsLeft desk.journal)
+  pub sat : SatFrom words map scen bytes left0 left1 held0 held1 (Ok lines) (λ text start desk. IsLeft text desk.journal)
 
--- a session without a fault over the texts of files and the log that had those bytes, where they are told, left a log of a head and the entries of its desk, all of which a crash leaves
+-- a session without a fault over the texts of files and the log that had those bytes, where they are told, left a log of the head of the words over the text of the map and of the entries of its desk, all of which a crash leaves
 pub record HasLogged (had : Option (List ℕ)) (has_left : List ℕ → Type 0) (words : ServeWords) (map scen : Option (List ℕ)) : Type 0 where
   pub bytes : List ℕ
   pub told : IsTold had bytes
-  pub sat : SatToEnd words map scen bytes (λ journal. had ≡ Some bytes → (head : List ℕ) × has_left (log_text head (texts_of journal)))
+  pub sat : SatToEnd words map scen bytes (λ text journal. had ≡ Some bytes → has_left (log_text (head_of words text scen) (texts_of journal)))
 
 -- a session without a fault over the texts of the files of the words: with a log where they name one, and else its journal was saved where they say
 abbrev pub HasServed : (holds : List ℕ → Option (List ℕ)) → (has_saved : Savings) → (had : List ℕ → Option (List ℕ)) → (has_left : Savings) → ServeWords → (log : Option (List ℕ)) → Type 0

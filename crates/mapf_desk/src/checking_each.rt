@@ -129,7 +129,8 @@ fn rows_of<R: Threads + Sync, F: Folder + Sync>(
     words: &CheckWords,
     files: &[&'static str],
 ) -> Result<Vec<Row>, AllocError>
-    ensures { IfOk result (λ rows. AreRows (IsRow (F.holds folder.now) words.now (unwrap_or (bytes_of texts.entry.map) []) (bytes_of texts.entry.scen)) files.now rows.items) }
+    ensures { IfOk result (λ rows. AreRows (IsRow (F.holds folder.now) words.now (unwrap_or (bytes_of texts.entry.map) []) (bytes_of texts.entry.scen))
+        files.now rows.items) }
 {
     let mut slots = empty_slots(alloc, files.len())?;
     let fill = move |place: usize, slot: &mut Option<Row>|

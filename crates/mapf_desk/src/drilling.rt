@@ -5,6 +5,7 @@ ghost use Rattle.shared_runs.specs.Drills.{Drills, inputs_of};
 ghost use Rattle.solver_check.specs.Opens.{bytes_of};
 ghost use Rattle.mapf_desk.specs.Drilled.{FailsDrillOver, HasDrilled, IsUndrilled, LacksDrillTasks, OfScripts};
 
+use crate::serving::history_for;
 use desk_cli::DrillWords;
 use desk_io::{
     Folder, More, Noting, Tallies, Texts, all_bytes, finish, problem_of, read_from, tell_stage,
@@ -114,6 +115,7 @@ fn drill_onto<R: Threads + Wait + Clock + Sync, W: Sink>(
         problem,
         workers,
         words.lines,
+        history_for(words.lines, words.history),
         scripts,
         tallies,
         writer,

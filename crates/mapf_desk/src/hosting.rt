@@ -1,20 +1,24 @@
 //! The word `host`.
-ghost use Rattle.std.specs.Prelude.{◌≡◌, IfOk, length};
+ghost use Rattle.std.specs.Prelude.{IfOk};
+ghost use Rattle.std.specs.Option.{option_copied};
 ghost use Rattle.desk_io.specs.Texts.{untold};
 ghost use Rattle.mapf_desk.specs.Ends.{unsaid};
-ghost use Rattle.mapf_desk.specs.Hosted.{HasHosted};
+ghost use Rattle.mapf_desk.specs.Hosted.{HasHosted, HasHostedFiles};
 
 use crate::faults::ProgramFault;
-use crate::hosted::{end_hosted, fault_of, out_of_memory};
+use crate::host_logging::host_logged;
+use crate::hosted::{end_hosted, out_of_memory};
+use crate::logs::Logs;
 use crate::opening::open_named;
 use crate::reading::let_go;
 use crate::saving::Saver;
-use crate::seating::host_seated;
+use crate::seating::host_at;
 use crate::statuses::RunEnd;
 use core::thread::Stack;
-use desk_cli::{HostWords, SESSION_PROMPT};
-use desk_io::{Folder, More, Pipes, Steady, System};
-use shared_runs::{HostFault, MOST_HOSTED};
+use desk_cli::HostWords;
+use desk_io::{Folder, More, Steady, System};
+use desk_log::LogKeeper;
+use log_file::LogFile;
 use std::fs::File;
 use std::rt::Files;
 use std::sync::Wait;
@@ -23,7 +27,7 @@ use std::thread::{Promise, Scope, Threads};
 use std::time::Clock;
 
 /// The bytes of stack of the thread that hosts, in which each planner takes some.
-const HOST_STACK: usize = 4_194_304;
+const HOST_STACK: usize = 16_777_216;
 
 /// Hosts planners of other processes on one desk, as the words ask for, and the operator at standard
 /// input and output, until all their inputs have ended; saves the desk's journal where they ask for
@@ -40,13 +44,13 @@ pub fn host_files<R: Threads + Wait + Clock + Sync>(
     stages: bool,
     more: &mut More,
 ) -> Result<RunEnd, ProgramFault>
-    ensures { IfOk result (HasHosted untold unsaid words.now) }
+    ensures { IfOk result (HasHosted untold unsaid untold unsaid words.now (option_copied words.now.desk.log)) }
 {
     thread::scope(
         thread::scope_env(),
         rt,
         move |scope| -> Result<RunEnd, ProgramFault>
-            ensures { IfOk result (HasHosted untold unsaid words.entry.now) }
+            ensures { IfOk result (HasHosted untold unsaid untold unsaid words.entry.now (option_copied words.entry.now.desk.log)) }
         { host_apart(rt, host, scope, words, stages, more) },
     )
 }
@@ -58,7 +62,7 @@ struct Hosting<'a> {
 }
 
 impl<'a> Promise<Result<RunEnd, ProgramFault>> for Hosting<'a> {
-    ghost kept_by = { λ hosting ended. IfOk ended (HasHosted untold unsaid hosting.words.now) };
+    ghost kept_by = { λ hosting ended. IfOk ended (HasHosted untold unsaid untold unsaid hosting.words.now (option_copied hosting.words.now.desk.log)) };
 }
 
 // Hosts the planners of the words, in a thread of its own.
@@ -70,13 +74,13 @@ fn host_apart<'s, E: 's, R: Threads + Wait + Clock + Sync>(
     stages: bool,
     more: &'s mut More,
 ) -> Result<RunEnd, ProgramFault>
-    ensures { IfOk result (HasHosted untold unsaid words.now) }
+    ensures { IfOk result (HasHosted untold unsaid untold unsaid words.now (option_copied words.now.desk.log)) }
 {
     let started = Stack::new().stack_size(HOST_STACK).spawn_scoped_with(
         scope,
         Hosting { words },
         move || -> Result<RunEnd, ProgramFault>
-            ensures { IfOk result (HasHosted untold unsaid words.entry.now) }
+            ensures { IfOk result (HasHosted untold unsaid untold unsaid words.entry.now (option_copied words.entry.now.desk.log)) }
         { host_named(rt, host, words, stages, more) },
     );
     match started {
@@ -93,7 +97,7 @@ fn host_named<R: Threads + Wait + Clock + Sync>(
     stages: bool,
     more: &mut More,
 ) -> Result<RunEnd, ProgramFault>
-    ensures { IfOk result (HasHosted untold unsaid words.now) }
+    ensures { IfOk result (HasHosted untold unsaid untold unsaid words.now (option_copied words.now.desk.log)) }
 {
     let steady = Steady::new(host, host.stderr());
     host_system(rt, host, &steady, words, stages, more)
@@ -111,12 +115,35 @@ fn host_system<
     stages: bool,
     more: &mut More,
 ) -> Result<RunEnd, ProgramFault>
-    ensures { IfOk result (HasHosted untold unsaid words.now) }
+    ensures { IfOk result (HasHosted untold unsaid untold unsaid words.now (option_copied words.now.desk.log)) }
 {
-    host_over(rt, host, out, &System(out), words, stages, more)
+    host_files_in(rt, host, out, &System(out), words, stages, more)
 }
 
-// Hosts them over the desk of the files of a folder.
+// Hosts them over the desk of the files of a folder: with a log where the words name one.
+fn host_files_in<
+    R: Threads + Wait + Clock + Sync,
+    P: AllocGlobal + Print,
+    F: Folder + Saver + Logs,
+>(
+    rt: &R,
+    host: &HostRuntime,
+    out: &P,
+    files: &F,
+    words: &HostWords,
+    stages: bool,
+    more: &mut More,
+) -> Result<RunEnd, ProgramFault>
+    ensures { IfOk result (HasHosted (F.holds files.now) (F.has_saved files.now) (F.had files.now) (F.has_left files.now) words.now
+        (option_copied words.now.desk.log)) }
+{
+    match words.desk.log {
+        Some(name) => host_logged(rt, host, out, files, words, name, stages, more),
+        None => host_over(rt, host, out, files, words, stages, more),
+    }
+}
+
+// Hosts them over the desk of the files of a folder, without a log.
 fn host_over<R: Threads + Wait + Clock + Sync, P: AllocGlobal + Print, F: Folder + Saver>(
     rt: &R,
     host: &HostRuntime,
@@ -126,48 +153,23 @@ fn host_over<R: Threads + Wait + Clock + Sync, P: AllocGlobal + Print, F: Folder
     stages: bool,
     more: &mut More,
 ) -> Result<RunEnd, ProgramFault>
-    ensures { IfOk result (HasHosted (F.holds files.now) (F.has_saved files.now) words.now) }
+    ensures { IfOk result (HasHostedFiles (F.holds files.now) (F.has_saved files.now) words.now) }
 {
     let alloc = host.alloc();
     let (desk, held) = match open_named(alloc, files, words, more) {
         Ok(opened) => opened,
         Err(fault) => return Err(fault),
     };
-    let planners = match planners_of(words) {
-        Ok(planners) => planners,
-        Err(fault) => {
-            drop(desk);
-            let_go(files, held);
-            return Err(fault);
-        }
-    };
-    let (names, version) = (words.names.as_slice(), words.desk.lines);
-    let pipes = match Pipes::new(alloc, host, names, version, stages, SESSION_PROMPT) {
-        Ok(pipes) => pipes,
-        Err(fault) => {
-            drop(desk);
-            let_go(files, held);
-            return Err(fault_of(fault));
-        }
-    };
-    let end = match host_seated(rt, alloc, desk, &pipes, planners, words) {
+    let no_log: Option<LogKeeper<LogFile>> = None;
+    let (end, none) = match host_at(rt, host, desk, no_log, words, stages) {
         Ok(end) => end,
         Err(fault) => {
             let_go(files, held);
             return Err(fault);
         }
     };
+    drop(none);
     let ended = end_hosted(out, files, &end, held, more);
     drop(end);
     ended
-}
-
-// How many planners the words name.
-fn planners_of(words: &HostWords) -> Result<u32, ProgramFault>
-    ensures { IfOk result (λ planners. planners ≡ length words.now.names.items) }
-{
-    match u32::try_from(words.names.len()) {
-        Ok(planners) if planners <= MOST_HOSTED => Ok(planners),
-        _ => Err(ProgramFault::Host(HostFault::TooManyPlanners)),
-    }
 }

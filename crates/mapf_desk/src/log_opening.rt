@@ -5,18 +5,18 @@ ghost use Rattle.desk_log.specs.Reading.{IsRead, IsTornHead};
 ghost use Rattle.solver_check.specs.Opens.{bytes_of};
 ghost use Rattle.single_runs.specs.Opened.{OpensDesk};
 ghost use Rattle.mapf_desk.specs.Ends.{limit_of};
-ghost use Rattle.mapf_desk.specs.Logged.{IsHad};
+ghost use Rattle.mapf_desk.specs.Logged.{IsHad, head_of};
 
 use crate::faults::{LogRefused, ProgramFault};
 use crate::log_resuming::resumed;
 use crate::logs::{Logs, Opened};
-use crate::serving::limit_of;
+use crate::serving::{history_for, limit_of};
 use commit_log::{SceneDigest, head_text, scene_digest};
 use desk_cli::ServeWords;
 use desk_core::Desk;
 use desk_io::{More, Texts, bytes_in};
 use desk_log::{LogFault, LogKeeper, LogRead, is_torn_head, read_log};
-use single_runs::open_desk;
+use single_runs::open_keeping;
 use solver_check::{Fault, Problem, RunFault};
 use std::alloc::Global;
 
@@ -48,7 +48,8 @@ fn ready<R: AllocGlobal + Eprint, B: Logs>(
         × OpensDesk map.now (bytes_of scen.entry) words.now.agents words.now.mode (limit_of words.now) journal ready.0) }
     ensures sound { IfOk result (λ ready. ready.1.has_failed ≡ false) }
     ensures kept { IfOk result (λ ready. B.Open.text opened.log ≡ Some opened.bytes.items
-        → IsLogged (B.Open.text ready.1.writer.log) (B.Open.kept ready.1.writer.log) ready.1.writer.count ready.1.writer.check ready.0.journal) }
+        → IsLogged (head_of words.now map.now (bytes_of scen.entry)) (B.Open.text ready.1.writer.log) (B.Open.kept ready.1.writer.log)
+        ready.1.writer.count ready.1.writer.check ready.0.journal) }
 {
     let alloc = rt.alloc();
     let scene = scene_digest(map, bytes_in(scen), words.agents);
@@ -107,7 +108,8 @@ pub(crate) fn ready_over<R: AllocGlobal + Eprint, B: Logs>(
         journal ready.0) }
     ensures sound { IfOk result (λ ready. ready.1.has_failed ≡ false) }
     ensures kept { IfOk result (λ ready. B.Open.text opened.log ≡ Some opened.bytes.items
-        → IsLogged (B.Open.text ready.1.writer.log) (B.Open.kept ready.1.writer.log) ready.1.writer.count ready.1.writer.check ready.0.journal) }
+        → IsLogged (head_of words.now (unwrap_or (bytes_of texts.entry.map) heard.now) (bytes_of texts.entry.scen)) (B.Open.text ready.1.writer.log)
+        (B.Open.kept ready.1.writer.log) ready.1.writer.count ready.1.writer.check ready.0.journal) }
 {
     match texts.map {
         Some(map) => ready(rt, logs, map, texts.scen, words, opened, more),
@@ -131,7 +133,9 @@ fn opened_desk(
         agents: Some(words.agents),
         mode: words.mode,
     };
-    open_desk(alloc, problem, limit_of(words), journal)
+    let limit = limit_of(words);
+    let history = history_for(words.lines, words.history);
+    open_keeping(alloc, problem, limit, journal, history)
 }
 
 // The log of that head that the bytes are; none where they are a front of the head.

@@ -1,7 +1,7 @@
 //! A log that is gone on with, or begun.
 ghost use Rattle.std.specs.Prelude.{◌≡◌, ℕ, List, [], Some, IfOk, MatchOption, OnOk, length, take};
 ghost use Rattle.commit_log.specs.Crashes.{Counts};
-ghost use Rattle.commit_log.specs.Text.{log_text};
+ghost use Rattle.commit_log.specs.Text.{head_text, log_text};
 ghost use Rattle.desk_log.specs.Keeping.{IsLogged};
 ghost use Rattle.desk_log.specs.Reading.{IsRead};
 
@@ -27,8 +27,9 @@ pub(crate) fn resumed<R: AllocGlobal + Eprint, B: Logs>(
     more: &mut More,
 ) -> Result<LogWriter<B::Open>, ProgramFault>
     ensures { IfOk result (λ writer. B.Open.text opened.log ≡ Some opened.bytes.items → MatchOption had.now
-        (IsLogged (B.Open.text writer.log) (B.Open.kept writer.log) writer.count writer.check [])
-        (λ log. (read : IsRead opened.bytes.items log) → IsLogged (B.Open.text writer.log) (B.Open.kept writer.log) writer.count writer.check read.entries)) }
+        (IsLogged head.now (B.Open.text writer.log) (B.Open.kept writer.log) writer.count writer.check [])
+        (λ log. (read : IsRead opened.bytes.items log)
+        → IsLogged (head_text log.mode log.scene) (B.Open.text writer.log) (B.Open.kept writer.log) writer.count writer.check read.entries)) }
 {
     let Opened {
         name,

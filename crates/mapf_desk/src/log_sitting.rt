@@ -1,20 +1,26 @@
 //! A session whose commits stand in a log before they are answered.
-ghost use Rattle.std.specs.Prelude.{◌≡◌, ℕ, List, Option, Some, IfOk, unwrap_or};
+ghost use Rattle.std.specs.Prelude.{◌≡◌, ℕ, List, Option, Some, IfOk, false, true, unwrap_or};
+ghost use Rattle.desk_log.specs.Keeping.{IsLogged, IsLoggedInPart};
 ghost use Rattle.solver_check.specs.Opens.{bytes_of};
-ghost use Rattle.mapf_desk.specs.Logged.{IsKept, IsMapFrom, SatFrom, bounds_behind};
+ghost use Rattle.mapf_desk.specs.Logged.{IsKept, IsMapFrom, SatFrom, StopsOn, SitsOn, bounds_behind, head_of};
 
 use crate::faults::ProgramFault;
 use crate::log_opening::{no_memory, ready_over, run_fault};
 use crate::logs::{Logs, OpenLog, Opened};
+use commit_log::Log;
 use desk_cli::ServeWords;
+use desk_core::Desk;
 use desk_io::{Answers, Lines, More, Outlet, Texts};
-use desk_log::LogKeeper;
-use desk_report::{Source, Spout};
+use desk_log::{HasHead, HeadedKeeper, LogKeeper};
+use desk_report::{Sink, Source, Spout};
+use plan_table::Mode;
+use session_lines::LinesVersion;
 use session_protocol::{Bounds, ServeFault, hear_map, serve_kept};
 use solver_check::{BOUNDS, MOST_BYTES, MOST_LINES, RunFault};
 use std::alloc::Global;
 use std::cell::RefCell;
 use std::io::{Read, Write};
+use std::marker::{Brand, PhantomData};
 
 /// What a session left: its log, and how it ended. Where the log has failed, what the last line did isn't
 /// all there, and wasn't answered.
@@ -43,7 +49,8 @@ pub(crate) fn sit<R: AllocGlobal + Eprint, B: Logs, I: Read + Drop, O: Write + D
 ) -> Result<Sat<B::Open>, ProgramFault>
     ensures { IfOk result (λ sat. (left1 held0 held1 : Option (List ℕ)) × SatFrom words.now (bytes_of texts.entry.map) (bytes_of texts.entry.scen)
         opened.bytes.items (I.remaining input) left1 held0 held1 sat.ended
-        (IsKept words.now.lines held0 held1 (B.Open.text sat.log) (B.Open.kept sat.log) sat.has_failed (B.Open.text opened.log ≡ Some opened.bytes.items))) }
+        (λ text. IsKept words.now.lines (head_of words.now text (bytes_of texts.entry.scen)) held0 held1 (B.Open.text sat.log) (B.Open.kept sat.log)
+        sat.has_failed (B.Open.text opened.log ≡ Some opened.bytes.items))) }
 {
     let alloc = rt.alloc();
     let Ok(mut reader) = Lines::new(alloc, input, outlet) else {
@@ -58,16 +65,19 @@ pub(crate) fn sit<R: AllocGlobal + Eprint, B: Logs, I: Read + Drop, O: Write + D
         }
     };
     let map = first.as_slice();
-    let (mut desk, mut keeper) = match ready_over(rt, logs, texts, map, words, opened, more) {
+    let (mut desk, keeper) = match ready_over(rt, logs, texts, map, words, opened, more) {
         Ok(ready) => ready,
         Err(fault) => return Err(fault),
     };
     let mut writer = Spout::new(Answers::new(outlet));
-    let lines = words.lines;
-    let ended = serve_kept(
+    let (keeper, ended) = serve_headed::<Brand, B::Open, _, _>(
         alloc,
-        lines,
-        &mut keeper,
+        words.lines,
+        words.mode,
+        words.agents,
+        texts,
+        map,
+        keeper,
         &mut desk,
         &mut reader,
         &mut writer,
@@ -75,6 +85,40 @@ pub(crate) fn sit<R: AllocGlobal + Eprint, B: Logs, I: Read + Drop, O: Write + D
     );
     drop(desk);
     Ok(sat_of(keeper, ended))
+}
+
+// Serves the session over a log of that head, which is that of the mode, the agents and the texts (at
+// these the clauses alone look).
+fn serve_headed<H: HasHead, L: Log + Drop, S: Source, W: Sink>(
+    alloc: Global,
+    lines: LinesVersion,
+    mode: Mode,
+    agents: u32,
+    texts: Texts<'_>,
+    heard: &[u8],
+    keeper: LogKeeper<L>,
+    desk: &mut Desk,
+    reader: &mut S,
+    writer: &mut W,
+    bounds: Bounds,
+) -> (LogKeeper<L>, Result<u32, ServeFault>)
+    requires sound { keeper.has_failed ≡ false }
+    ensures session { SitsOn lines bounds (S.left reader.old) (S.left reader.new) (W.held writer.old) (W.held writer.new)
+        desk.old desk.new result.1 }
+    ensures kept { result.0.has_failed ≡ false
+        → IsLogged H.head (L.text keeper.writer.log) (L.kept keeper.writer.log) keeper.writer.count keeper.writer.check desk.old.journal
+        → IsLogged H.head (L.text result.0.writer.log) (L.kept result.0.writer.log) result.0.writer.count result.0.writer.check desk.new.journal }
+    ensures unkept { result.0.has_failed ≡ true → StopsOn lines (W.held writer.old) (W.held writer.new) desk.old desk.new
+        (λ told. IsLogged H.head (L.text keeper.writer.log) (L.kept keeper.writer.log) keeper.writer.count keeper.writer.check desk.old.journal
+        → IsLoggedInPart H.head (L.text result.0.writer.log) (L.kept result.0.writer.log) told.journal desk.new.journal) }
+{
+    let mut headed: HeadedKeeper<L, H> = HeadedKeeper {
+        keeper,
+        of: PhantomData,
+    };
+    let ended = serve_kept(alloc, lines, &mut headed, desk, reader, writer, bounds);
+    let HeadedKeeper { keeper, of: _ } = headed;
+    (keeper, ended)
 }
 
 // Hears the map's text, where none was read, and else no text; and says what may be heard behind it.

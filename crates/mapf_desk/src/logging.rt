@@ -3,7 +3,7 @@ ghost use Rattle.std.specs.Prelude.{◌≡◌, ℕ, None, Some, Ok, Err, IfOk, O
 ghost use Rattle.std.specs.Option.{option_copied};
 ghost use Rattle.solver_check.specs.Opens.{bytes_of};
 ghost use Rattle.mapf_desk.specs.Files.{LacksScen, OfFiles};
-ghost use Rattle.mapf_desk.specs.Logged.{HasEntries, HasLogged, HasServed, SatToEnd};
+ghost use Rattle.mapf_desk.specs.Logged.{HasEntries, HasLogged, HasServed, SatToEnd, head_of};
 
 use crate::closing::{fault_of, note_end, outcome_of};
 use crate::faults::{LogRefused, ProgramFault};
@@ -104,7 +104,8 @@ fn sit_typed<R: AllocGlobal + Clock + Print + Eprint + Input, B: Logs>(
     more: &mut More,
 ) -> Result<B::Open, ProgramFault>
     ensures { IfOk result (λ log. SatToEnd words.now (bytes_of texts.entry.map) (bytes_of texts.entry.scen) opened.bytes.items
-        (λ journal. B.Open.text opened.log ≡ Some opened.bytes.items → HasEntries (B.Open.text log) (B.Open.kept log) journal)) }
+        (λ text journal. B.Open.text opened.log ≡ Some opened.bytes.items
+        → HasEntries (head_of words.now text (bytes_of texts.entry.scen)) (B.Open.text log) (B.Open.kept log) journal)) }
 {
     let (mut reader, output) = (rt.reader(), io::writer(rt));
     let input = Prompting::new(rt, &mut reader, typed, words.prompt());
@@ -137,7 +138,7 @@ fn outcome<L: OpenLog + Drop>(
 }
 
 // The run's fault, where it is one.
-fn run_fault_in(fault: &ProgramFault) -> Option<RunFault> {
+pub(crate) fn run_fault_in(fault: &ProgramFault) -> Option<RunFault> {
     match fault {
         ProgramFault::Desk(Fault::Run(why)) => Some(*why),
         _ => None,

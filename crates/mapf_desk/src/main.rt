@@ -21,6 +21,7 @@ mod closing;
 mod drawing;
 mod drilling;
 mod faults;
+mod host_logging;
 mod hosted;
 mod hosting;
 mod log_opening;

@@ -12,11 +12,11 @@ ghost use Rattle.desk_commits.specs.declared.limits.TheConstants.{MOST_ENTRIES};
 use crate::faults::ProgramFault;
 use crate::reading::{let_go, read_named};
 use crate::saving::{Held, Saver};
-use crate::serving::limit_of;
+use crate::serving::{history_for, limit_of};
 use desk_cli::{HostWords, ServeWords};
 use desk_core::Desk;
 use desk_io::{Detailed, Folder, More, Texts, problem_of};
-use single_runs::open_desk;
+use single_runs::open_keeping;
 use solver_check::{Fault, RunFault};
 use std::alloc::Global;
 
@@ -27,7 +27,7 @@ fn is_among(name: &str, names: &[&'static str]) -> bool
 }
 
 // The first planner whose name another has before it, where there is one.
-fn named_twice(names: &[&'static str]) -> Option<&'static str>
+pub(crate) fn named_twice(names: &[&'static str]) -> Option<&'static str>
     ensures { option_copied result ≡ first_repeated [] names.now }
 {
     for (place, name) in names.iter().enumerate() {
@@ -46,7 +46,9 @@ fn open_texts(alloc: Global, texts: Texts<'_>, words: &ServeWords) -> Result<Des
         (max 1 (min words.now.limit MOST_ENTRIES)) (bytes_of texts.entry.journal)) }
 {
     let problem = problem_of(texts, Some(words.agents), words.mode);
-    open_desk(alloc, problem, limit_of(words), texts.journal)
+    let limit = limit_of(words);
+    let history = history_for(words.lines, words.history);
+    open_keeping(alloc, problem, limit, texts.journal, history)
 }
 
 /// The desk of the files that the words name, which is to be shared by the planners of the words; and

@@ -5,7 +5,7 @@ ghost use Rattle.desk_commits.specs.declared.limits.TheConstants.{MOST_ENTRIES};
 ghost use Rattle.solver_check.specs.Opens.{bytes_of};
 ghost use Rattle.mapf_desk.specs.Files.{IsUnready, LacksScen};
 ghost use Rattle.mapf_desk.specs.Files.{OfFiles};
-ghost use Rattle.mapf_desk.specs.Ends.{HasServeFault, HasNoFault, IsLeftBySession, IsFaultOfOpening, SitsBy};
+ghost use Rattle.mapf_desk.specs.Ends.{HasServeFault, HasNoFault, IsLeftBySession, IsFaultOfOpening, SitsBy, history_for};
 
 use crate::closing::{end_desk, fault_of, note_end, outcome_of};
 use crate::reading::{let_go, read_named};
@@ -14,7 +14,7 @@ use desk_cli::ServeWords;
 use desk_core::{Desk, Limit, MOST_ENTRIES};
 use desk_io::{Answers, Folder, Lines, More, Outlet, Prompting, Texts, send_last};
 use desk_report::Spout;
-use session_protocol::ServeFault;
+use session_protocol::{LinesVersion, ServeFault};
 use single_runs::serve_desk;
 use solver_check::{Fault, RunFault};
 use std::alloc::Global;
@@ -135,6 +135,17 @@ pub(crate) fn limit_of(words: &ServeWords) -> Limit
     }
 }
 
+// How many changes of its report a desk keeps for lines of that version, where so many are asked for:
+// none in version 1, which has no line that asks for them.
+pub(crate) fn history_for(lines: LinesVersion, history: u32) -> u32
+    ensures { result ≡ history_for lines history }
+{
+    match lines {
+        LinesVersion::One => 0,
+        LinesVersion::Two => history,
+    }
+}
+
 // Serves a session from a reader to an outlet, and hands back the desk.
 fn serve_lines<I: Read + Drop, O: Write + Drop>(
     alloc: Global,
@@ -161,6 +172,7 @@ fn serve_lines<I: Read + Drop, O: Write + Drop>(
         limit_of(words),
         words.mode,
         texts.journal,
+        history_for(words.lines, words.history),
         &mut reader,
         &mut writer,
     )

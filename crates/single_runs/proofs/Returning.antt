@@ -45,7 +45,7 @@ failed fault = Err fault
 
 module _ (scene : SceneState) (limit larger : ℕ) (desk : DeskState) (on : GoesOn (opening scene limit) desk) (lawful : IsJournal (log_of desk)) (more : limit ≤ larger) where
   -- the entries that made the desk, its journal, and its mode
-  is_made : desk ≡ record { scene = scene_after scene on.entries; journal = on.entries; limit = limit }
+  is_made : desk ≡ record { start = scene; scene = scene_after scene on.entries; journal = on.entries; limit = limit }
   is_made = on.made ∙ entries_make_the_scene_holds (opening scene limit) on.entries
 
   same_log : log_of desk ≡ record { mode = scene.mode; entries = on.entries }

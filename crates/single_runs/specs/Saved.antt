@@ -28,7 +28,7 @@ saved_text desk = journal_text desk.scene.mode desk.journal
 
 -- the desk with that limit
 abbrev pub under : ℕ → DeskState → DeskState
-under limit desk = record { scene = desk.scene; journal = desk.journal; limit = limit }
+under limit desk = record { start = desk.start; scene = desk.scene; journal = desk.journal; limit = limit }
 
 -- whatever journal was committed at the opening of a scene, and whatever session the desk was then served, in whichever version of lines: what is saved of
 -- it, committed at the opening of the same scene under the same limit or a greater one, gives a desk of the same scene and

@@ -18,7 +18,7 @@ pub use auditing::run_audit;
 pub use courses::Courses;
 pub use drawing::run_draw;
 pub use laws::saved_desks_come_back;
-pub use opening::open_desk;
+pub use opening::{open_desk, open_keeping};
 pub use paging::run_page;
 pub use saving::{DeskJournal, save_desk, save_journal};
 pub use serving::{run_serve, serve_desk};

@@ -31,6 +31,32 @@ pub fn open_desk(
     }
 }
 
+/// The desk that `open_desk` opens, which from there on keeps so many changes of its report.
+///
+/// # Errors
+///
+/// As `open_desk`.
+pub fn open_keeping(
+    alloc: Global,
+    problem: Problem<'_>,
+    limit: Limit,
+    journal: Option<&[u8]>,
+    history: u32,
+) -> Result<Desk, RunFault>
+    ensures opened { IfOk result (OpensDesk problem.entry.map.now (bytes_of problem.entry.scen) (unwrap_or problem.entry.agents 0) problem.entry.mode
+        limit (bytes_of journal.entry)) }
+    ensures refused { IfErr result (IsDeskFault problem.entry.map.now (bytes_of problem.entry.scen) (unwrap_or problem.entry.agents 0) problem.entry.mode
+        limit (bytes_of journal.entry)) }
+{
+    match open_desk(alloc, problem, limit, journal) {
+        Ok(mut desk) => {
+            desk.keep_history(history as usize);
+            Ok(desk)
+        }
+        Err(fault) => Err(fault),
+    }
+}
+
 // The desk that is opened on the scene and commits the entries of a journal's text.
 fn replayed(
     alloc: Global,

@@ -5,7 +5,7 @@ ghost use Rattle.single_runs.specs.Runs.{Runs};
 ghost use Rattle.single_runs.specs.Sittings.{SitsOverFiles, SitsOver, sink_failed, source_failed};
 ghost use Rattle.solver_check.specs.Opens.{bytes_of};
 
-use crate::opening::open_desk;
+use crate::opening::open_keeping;
 use desk_core::{Desk, Limit};
 use desk_report::{Sink, Source};
 use plan_table::Mode;
@@ -45,6 +45,7 @@ pub fn run_serve<R: Source, W: Sink>(
         limit,
         mode,
         None,
+        0,
         reader,
         writer,
     ) {
@@ -59,8 +60,9 @@ pub fn run_serve<R: Source, W: Sink>(
     }
 }
 
-/// Serves a session in that version of lines as `run_serve` does, over a desk that first commits a journal's entries, and
-/// hands back the desk as the session left it, beside how many lines the session had, or its fault.
+/// Serves a session in that version of lines as `run_serve` does, over a desk that first commits a journal's entries and
+/// then keeps so many changes of its report, and hands back the desk as the session left it, beside how many lines the
+/// session had, or its fault.
 ///
 /// # Errors
 ///
@@ -75,6 +77,7 @@ pub fn serve_desk<R: Source, W: Sink>(
     limit: Limit,
     mode: Mode,
     journal: Option<&[u8]>,
+    history: u32,
     reader: &mut R,
     writer: &mut W,
 ) -> Result<(Desk, Result<u32, ServeFault>), RunFault>
@@ -93,7 +96,7 @@ pub fn serve_desk<R: Source, W: Sink>(
             mode,
         };
         return serve_over(
-            alloc, version, problem, limit, journal, reader, writer, BOUNDS,
+            alloc, version, problem, limit, journal, history, reader, writer, BOUNDS,
         );
     }
     let text = match hear_map(alloc, reader, MOST_BYTES) {
@@ -111,7 +114,7 @@ pub fn serve_desk<R: Source, W: Sink>(
         mode,
     };
     serve_over(
-        alloc, version, problem, limit, journal, reader, writer, rest,
+        alloc, version, problem, limit, journal, history, reader, writer, rest,
     )
 }
 
@@ -122,6 +125,7 @@ fn serve_over<R: Source, W: Sink>(
     problem: Problem<'_>,
     limit: Limit,
     journal: Option<&[u8]>,
+    history: u32,
     reader: &mut R,
     writer: &mut W,
     bounds: Bounds,
@@ -132,7 +136,7 @@ fn serve_over<R: Source, W: Sink>(
     ensures failed { R.failed reader.new ≡ (R.failed reader.old || source_failed result) }
     ensures broken { W.broken writer.new ≡ (W.broken writer.old || sink_failed result) }
 {
-    match open_desk(alloc, problem, limit, journal) {
+    match open_keeping(alloc, problem, limit, journal, history) {
         Ok(mut desk) => {
             let ended = serve_in(alloc, version, &mut desk, reader, writer, bounds);
             Ok((desk, ended))

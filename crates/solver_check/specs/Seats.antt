@@ -2,6 +2,7 @@
 use Rattle.std.specs.Prelude.{◌≡◌, ℕ, List, Option, Some, None, Result, Ok, Err}
 use Rattle.session_protocol.specs.Answer.{answering_in}
 use Rattle.desk_commits.specs.Counting.{Counting}
+use Rattle.session_protocol.specs.Keeping.{StopsUnkept}
 use Rattle.session_protocol.specs.Session.{Serves}
 use Rattle.session_protocol.specs.declared.bounds.ServeFault.{ServeFault}
 use Rattle.session_protocol.specs.declared.bounds.ServeFault.TheVariants.{ReadFailed}
@@ -26,6 +27,11 @@ pub record IsHeard {S : Type 0} (counting : Counting S) (input : Input) (old new
   pub of : IsOf input.bytes left0
   pub last : Session
   pub session : Serves (answering_in input.lines counting) seat_bounds left0 left1 held0 held1 (Idle, old) (last, new) ended
+
+-- what a line did wasn't kept: of its answer nothing went out, and those of all lines before it did
+abbrev pub StopsKeeping : {S : Type 0} → Counting S → Input → S → S → (S → Type 0) → Type 0
+StopsKeeping counting input old new IsKept =
+    (held0 held1 : Option (List ℕ)) × (last : Session) × StopsUnkept (answering_in input.lines counting) held0 held1 (Idle, old) (last, new) (λ told. IsKept told.1)
 
 -- what came of a seat: the input was heard to its end; a line was too long, of which no more was read; the session ended before, at its fault; its last answers weren't sent; or nothing was heard
 abbrev pub Sits : {S : Type 0} → Counting S → Input → S → S → Result ℕ SeatFault → Type 0

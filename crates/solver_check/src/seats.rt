@@ -1,7 +1,8 @@
-ghost use Rattle.solver_check.specs.Seats.{Sits};
+ghost use Rattle.std.specs.Prelude.{◌≡◌, false, true};
+ghost use Rattle.solver_check.specs.Seats.{Sits, StopsKeeping};
 
 use desk_core::Awaits;
-use session_protocol::ServeFault;
+use session_protocol::{Keeper, ServeFault};
 use std::alloc::Global;
 use std::io;
 use std::sync::Wait;
@@ -59,19 +60,25 @@ pub trait Seats: Sync {
     /// What the planner of each number writes, and in which version of lines.
     ghost inputs: { Self → ℕ → Input };
 
-    /// Lets the planner of that number in, and serves it to the end of its input.
+    /// Lets the planner of that number in, and serves it to the end of its input. What a line did is kept
+    /// before it is answered.
     ///
     /// # Errors
     ///
     /// It could not be let in, and nothing was heard; or its session's fault.
-    fn seat<R: Wait, C: Awaits>(
+    fn seat<R: Wait, C: Awaits, K: Keeper<C>>(
         &self,
         rt: &R,
         alloc: Global,
         number: u32,
         counter: &mut C,
+        keeper: &mut K,
     ) -> Outcome
-        ensures { Sits C.counting (inputs self.now number) counter.old counter.new result };
+        requires sound { K.has_failed keeper.old ≡ false }
+        ensures sat { Sits C.counting (inputs self.now number) counter.old counter.new result }
+        ensures kept { K.has_failed keeper.new ≡ false → K.keeps keeper.old counter.old → K.keeps keeper.new counter.new }
+        ensures unkept { K.has_failed keeper.new ≡ true → StopsKeeping C.counting (inputs self.now number) counter.old counter.new
+            (λ told. K.keeps keeper.old counter.old → K.keeps_some keeper.new told counter.new) };
 
     /// No thread starts for the planner of that number: it isn't let in, and nothing is heard.
     fn miss<R: Wait>(&self, rt: &R, number: u32);

@@ -1,4 +1,4 @@
-use Rattle.std.proofs.Common.{rules, arith, ◌≡◌, ◌<◌, ◌++◌, ℕ, List, length, drop, map, take, Some, IfOk, slice_index_or, subst, sym, ◌∙◌}
+use Rattle.std.proofs.Common.{rules, ◌≡◌, ◌++◌, length, drop, map, take, Some, IfOk, subst, ◌∙◌}
 use Rattle.std.specs.Prelude.{[], unwrap_or}
 use Rattle.solver_check.specs.Opens.{bytes_of}
 use Rattle.mapf_desk.specs.Rows.{IsFilled, IsRow}

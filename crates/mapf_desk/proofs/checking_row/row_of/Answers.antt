@@ -1,4 +1,4 @@
-use Rattle.std.proofs.Common.{rules, ◌≡◌}
+use Rattle.std.proofs.Common.{rules}
 use Rattle.std.specs.Prelude.{[], unwrap_or}
 use mathlib.Core.Logic.{inl}
 use Rattle.solver_check.specs.Opens.{bytes_of}
