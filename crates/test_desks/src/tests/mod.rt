@@ -1,12 +1,16 @@
 //! What only calls can try: lists of calls, how often indexes are built, shared desks by their passes,
-//! pieces that run at once, small bounds, refusals and faults that no program meets.
+//! pieces that run at once, small bounds, writes that fail, refusals and faults that no program meets.
 mod bounds;
 mod build;
 mod calls;
+mod chances;
+mod differences;
 mod drives;
 mod droughts;
 mod faults;
+mod fronts;
 mod gates;
+mod histories;
 mod indexes;
 mod refusal_lines;
 mod reports;
