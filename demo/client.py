@@ -61,6 +61,48 @@ class Seat(Session):
         super().__init__(open(f"{name}.in", "w"), open(f"{name}.out"))
 
 
+# The first words of a report's lines that come and go, in the order of the report.
+ORDER = ("agent", "vertex", "parked", "edge", "follow", "swap", "cycle", "visit")
+
+
+def order(line):
+    """Where a line stands among those of a report."""
+    words = line.split()
+    return ORDER.index(words[0]), [int(it) for it in words[1:] if it.isdigit()]
+
+
+class Report:
+    """A desk's report, kept by what has changed in it: a session of version 2 of lines."""
+
+    def __init__(self, session):
+        self.session, self.version, self.lines, self.totals = session, None, {}, []
+
+    def refresh(self):
+        """Takes in what has changed; at first, and where the desk has forgotten that, the whole report."""
+        told = ["refused"] if self.version is None else self.session.ask(f"changes {self.version}")
+        if told[0].startswith("refused"):
+            self.lines, told = {}, self.session.ask("report")
+        self.version, self.totals = int(told[0].split()[1]), told[-5:]
+        for line in told[1:-5]:
+            self.take(line)
+
+    def take(self, line):
+        """One line of the answer. An agent has one line, so a new one takes the place of the old one."""
+        entry = line.removeprefix("gone ")
+        head, number = entry.split()[:2]
+        place = f"agent {number}" if head == "agent" else entry
+        if entry != line:
+            del self.lines[place]
+        elif head in ORDER:
+            self.lines[place] = entry
+
+    def text(self):
+        """The lines of the report, as `report` is answered."""
+        parts = [[it for it in self.lines.values() if it.split()[0] in words] for words in (ORDER[:1], ORDER[1:-1], ORDER[-1:])]
+        counted = [line for name, part in zip(("agents", "conflicts", "blocked"), parts) for line in (f"{name} {len(part)}", *sorted(part, key=order))]
+        return [f"version {self.version}", *counted, *self.totals]
+
+
 def path_line(agent, cells):
     return f"path {agent} " + " ".join(f"{x},{y}" for x, y in cells)
 

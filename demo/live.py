@@ -21,19 +21,20 @@ import time
 sys.dont_write_bytecode = True
 
 from client import Seat
-from watcher import EMPTY, Watcher, event_of
+from watcher import Picture, Watcher
 
 HERE = os.path.dirname(os.path.abspath(__file__))
 PAGE_OPTIONS = ("--map", "--scen", "--agents", "--mode", "--journal")  # of the host's, those that `page` takes too
 LAST_CALL = "  begin();\n}());"  # of page/page.js
-REST = 0.15  # seconds between two looks, and two events to a browser
+REST = 0.1  # seconds between two looks at new versions
+PULSE = 1  # seconds until a browser that is sent nothing is sent a remark
 
 
 class Browser(http.server.BaseHTTPRequestHandler):
-    """A browser's question, in a thread of its own, and what all of them are shown: the page, and the latest picture."""
+    """A browser's question, in a thread of its own, and what all of them are shown: the page, and a picture that changes."""
 
     timeout = 30  # seconds that a browser may leave unread what it is sent
-    page, picture = b"", EMPTY
+    page, picture = b"", Picture()
 
     def do_GET(self):
         is_here = self.headers.get("Host", "").split(":")[0] in ("127.0.0.1", "localhost")
@@ -54,14 +55,12 @@ class Browser(http.server.BaseHTTPRequestHandler):
         self.wfile.write(self.page)
 
     def send_changes(self):
-        """The latest picture as often as the browser takes one; where there is none, a remark, which tells whether it's still there."""
+        """The picture, and what changes in it; where nothing does, a remark, which tells whether the browser is still there."""
         self.send_head("text/event-stream")
-        shown = EMPTY
-        while shown.over is None:
-            picture = Browser.picture
-            self.wfile.write(b":\n\n" if picture is shown else event_of(shown, picture))
-            shown = picture
-            time.sleep(REST)
+        many, is_over = -1, False
+        while not is_over:
+            events, many, is_over = Browser.picture.events_after(many, PULSE)
+            self.wfile.write(events or b":\n\n")
 
     def log_message(self, *_):
         pass
@@ -106,23 +105,23 @@ def listen(host, names, are_over):
 
 
 def follow(name, size, are_over):
-    """Sits at the seat of that name, and takes pictures until the other sessions are over, or the host is."""
+    """Sits at the seat of that name, and keeps the picture until the other sessions are over, or the host is."""
     try:
         seat = Seat(name)
-        watcher = Watcher(seat, size)
-        Browser.picture = watcher.look()
+        watcher = Watcher(seat, size, Browser.picture)
+        watcher.look()
         while not are_over.is_set():
-            if seat.ask(f"wait {watcher.version} 1") != f"version {watcher.version}":
-                Browser.picture = watcher.look()
+            if watcher.is_behind(1) and watcher.look():
                 time.sleep(REST)
-        Browser.picture = watcher.look()
+        while watcher.is_behind(0):
+            watcher.look()
         seat.close()
     except (EOFError, OSError):
         pass
 
 
 def hosted(desk, words, names, size):
-    """Runs the host until it ends, and takes pictures of what its desk has; gives its status."""
+    """Runs the host until it ends, and keeps the picture of what its desk has; gives its status."""
     are_over, why = threading.Event(), "live.py has ended"
     with tempfile.TemporaryDirectory() as folder:
         name = f"{folder}/live"
@@ -139,7 +138,7 @@ def hosted(desk, words, names, size):
             host.terminate()
             host.wait()
             following.join(1)
-            Browser.picture = Browser.picture._replace(over=why)
+            Browser.picture.end(why)
             time.sleep(3 * REST)
 
 

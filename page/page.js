@@ -155,7 +155,7 @@
   const state = {
     now: 0, step: 0, playing: false, speed: 4, loop: false, before: 0, toldAt: 0,
     kinds: new Set(SHOWN.filter(doesCount)), from: null, to: null, allPaths: false,
-    picked: null, chosen: null, listed: [], rows: {}, scale: 1, left: 0, top: 0,
+    picked: null, chosen: null, listed: [], rows: { shown: [] }, scale: 1, left: 0, top: 0,
     isFitted: true, isStale: true, isDue: false, frames: 0, look: {}, ground: null,
   };
 
@@ -636,11 +636,11 @@
     const list = element('list');
     const from = Math.max(0, Math.floor(list.scrollTop / ROW) - 4);
     const shown = state.listed.slice(from, from + Math.ceil(list.clientHeight / ROW) + 8);
-    if (state.rows.from !== from || state.rows.listed !== state.listed || state.rows.many !== shown.length) {
-      state.rows = { from, listed: state.listed, many: shown.length };
+    if (state.rows.from !== from || state.rows.many !== state.listed.length || shown.some((it, at) => it !== state.rows.shown[at])) {
+      state.rows = { from, shown, many: state.listed.length };
       element('rows').replaceChildren(...shown.map((finding, index) => rowOf(finding, from + index)));
     }
-    Array.from(element('rows').children).forEach((row, index) => markRow(row, shown[index]));
+    shown.forEach((finding, index) => markRow(element('rows').children[index], finding));
     const at = shown.indexOf(state.chosen);
     list.setAttribute('aria-activedescendant', at < 0 ? '' : 'row-' + (from + at));
   }
