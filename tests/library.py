@@ -51,7 +51,8 @@ def line(chance):
     edits = (f"agent {agent} {cell(chance)} {cell(chance)}", f"path {agent} {path(chance)}", f"tail {agent} {time} {path(chance)}", f"drop {agent}")
     more_edits = (f"goal {agent} {cell(chance)}", f"open {cell(chance)}", f"close {cell(chance)}")
     gathered = ("begin", "begin", "try", "try", "commit", "cancel", "watch map", f"watch agent {agent}", f"watch cell {cell(chance)}")
-    asked = ("version", "report", f"report {agent}", f"plan {agent}", f"cell {cell(chance)}", f"at {time} {cell(chance)}", "wait 0 1")
+    asked = ("version", "report", f"report {agent}", f"plan {agent}", f"cell {cell(chance)}", f"at {time} {cell(chance)}")
+    asked += ("wait 0 1", f"changes {chance.randrange(9)}")
     others = (f"distance {agent} {cell(chance)}", "solves vertex swap", "", "# x", "what", "path x", "\xff\x00", f"path 0 {'0,0 ' * chance.randrange(2000)}")
     return chance.choice(edits + edits + more_edits + gathered + asked + others)
 

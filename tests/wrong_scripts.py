@@ -53,6 +53,8 @@ SCRIPTS = [
      'left: state.left', 'page_zooms_and_moves'),
     ('goal_told_as_start', "from ' + placeOf(agent, 0).join(',')",
      "from ' + agent.goal.join(',')", 'page_picks_agents'),
+    ('rows_made_anew_each_time', 'if (state.rows.from !== from ||',
+     'if (true ||', 'page_first_click_after_typing'),
 ]
 
 # The same of the files by which demo/live.py shows a host, each row with its file.
@@ -69,10 +71,16 @@ LIVE_SCRIPTS = [
      '', 'live_tells_the_end'),
     ('demo/watcher.py', 'map_of_the_start', 'if edited != self.edited:',
      'if self.edited is None:', 'live_follows_commits'),
+    ('demo/watcher.py', 'ways_round_not_asked_for', 'max(AT_ONCE, len(self.picture.texts["scene"].places) // LOOKS)',
+     '0', 'live_follows_commits'),
+    ('demo/watcher.py', 'all_sent_each_time', 'if many >= self.first:',
+     'if many == count:', 'live_follows_a_large_fleet'),
+    ('demo/live.js', 'cells_of_before', 'if (isElsewhere(finding, moved)) { lines.push(finding.line); }',
+     '', 'live_tells_where_they_are'),
     ('demo/live.py', 'one_browser_alone', 'http.server.ThreadingHTTPServer',
      'http.server.HTTPServer', 'live_two_browsers'),
-    ('demo/live.py', 'who_has_gone_stays', 'self.wfile.write(b":\\n\\n" if picture is shown else event_of(shown, picture))',
-     'picture is shown or self.wfile.write(event_of(shown, picture))', 'live_two_browsers'),
+    ('demo/live.py', 'who_has_gone_stays', 'self.wfile.write(events or b":\\n\\n")',
+     'events and self.wfile.write(events)', 'live_two_browsers'),
     ('demo/live.py', 'host_left_behind', 'host.terminate()',
      'pass', 'live_tells_the_end'),
 ]
@@ -112,7 +120,7 @@ def main():
         for file, row in rows:
             why = fault(program, room, file, row)
             failed += why is not None
-            print(f"{row[0]}: {why or 'refused by ' + row[3]}", flush=True)
+            print(f"{row[0]}: {'FAILED: ' + why if why else 'refused by ' + row[3]}", flush=True)
     print(f"{len(rows) - failed} passed, {failed} failed")
     return 1 if failed else 0
 

@@ -135,9 +135,9 @@ def half_a_planner():
 
 def silent_for_longer_than_the_wait():
     """Who has opened both has come, though it says nothing for longer than others are waited for."""
-    with Hosted(["east", "west"], "--wait", "1") as hosted:
+    with Hosted(["east", "west"], "--wait", "3") as hosted:
         east = Seat("east")
-        time.sleep(2)
+        time.sleep(4)
         east.ask(b"version", b"version 0")
         east.close()
         hosted.ends(2, b"audit same\n", b"mapf_desk: west: never came\n")
@@ -160,7 +160,7 @@ GOING = {
 def names_that_go():
     """Whatever becomes of its names, a planner is waited for no longer than so many seconds; the rest is served, saved and audited."""
     for what, shell in GOING.items():
-        with Hosted(["away", "east"], "--wait", "1", "--save", "kept") as hosted:
+        with Hosted(["away", "east"], "--wait", "3", "--save", "kept") as hosted:
             east = Seat("east")
             half = opened("away.in", os.O_WRONLY) if "behind" in what else None
             subprocess.run(["sh", "-c", shell], check=True)

@@ -12,6 +12,7 @@ STEPS = 100  # in which the agents stay in one cell, before all go to the next o
 SQUARE = b"type octile\nheight 2\nwidth 2\nmap\n..\n..\n"
 CROWDED = b" ".join([b"0,0"] * STEPS + [b"1,0"])
 BYTES = 40, 100  # that a conflict takes, at least and at most
+MOST_A_RECORD = 64  # bytes that a record of what came or went takes
 PAGES = 1024  # that the host may have more, of 4 kB each: a third of what the crowd's conflicts take
 
 
@@ -70,10 +71,9 @@ class Beside:
         return self.kinds
 
 
-def crowd_in_one_cell():
-    """Memory grows by the conflicts; the commits of another planner go on meanwhile, and each is answered."""
-    put("square", SQUARE)
-    with Hosted(["crowd", "west"], ground="square") as hosted:
+def crowded(*words):
+    """The bytes that a conflict takes in a crowd at a host with those words, and the longest wait of another planner for its commit."""
+    with Hosted(["crowd", "west"], *words, ground="square") as hosted:
         crowd, west = hosted.seats()
         beside, kinds, held = Beside(west), {}, []
         for agents in (range(10, 60), range(60, 110)):
@@ -88,11 +88,19 @@ def crowd_in_one_cell():
             pass
         want("what the crowd is answered", (set(kinds), kinds[b"version"]), ({b"version", b"solves"}, 200))
         want("what the other planner is answered", (set(others), others[b"version"] > 20), ({b"version"}, True))
-        each = (held[1] - held[0]) * 1024 / (conflicts_of(100) - conflicts_of(50))
-        print(f"crowd_in_one_cell: {each:.0f} bytes a conflict; another's commit took {1000 * beside.longest:.0f} ms at most")
-        want(f"whether {each:.0f} bytes a conflict are usual", BYTES[0] < each < BYTES[1], True)
         crowd.close(), west.close()
         hosted.ends(0, b"audit same\n", b"")
+    return (held[1] - held[0]) * 1024 / (conflicts_of(100) - conflicts_of(50)), beside.longest
+
+
+def crowd_in_one_cell():
+    """Memory grows by the conflicts, and by the records of those that came, where they are kept; the commits of another planner go on
+    meanwhile, and each is answered."""
+    put("square", SQUARE)
+    (conflict, longest), (both, _) = crowded("--history", "0"), crowded()
+    print(f"crowd_in_one_cell: {conflict:.0f} bytes a conflict, {both - conflict:.0f} a record; another's commit took {1000 * longest:.0f} ms at most")
+    want(f"whether {conflict:.0f} bytes a conflict are usual", BYTES[0] < conflict < BYTES[1], True)
+    want(f"whether {both - conflict:.0f} bytes a record are usual", 0 < both - conflict <= MOST_A_RECORD, True)
     remove("square")
 
 

@@ -1,10 +1,13 @@
 """The recipes of demo/, run as they are written."""
 import os
+import random
 import signal
 import subprocess
 import sys
 
-from .running import PATIENCE, Program, TOP, Wrong, bytes_of, is_answered, is_fault, run, want
+from .chances import AGENTS, STARTS, Desk, some_edit
+from .plain import Scene, line_of
+from .running import PATIENCE, Program, TOP, Wrong, bytes_of, is_answered, is_fault, put, remove, run, want
 
 DEMO = f"{TOP}/demo"
 
@@ -55,6 +58,40 @@ def demo_client_asks_remarks():
     ran = subprocess.run(words, capture_output=True, timeout=PATIENCE, text=True, cwd=DEMO)
     want("what it hears", ran.stdout.splitlines(), [*["None"] * 4, "bad 5 word", str(HEARD), "version 0", "0"])
     want("how it ends", (ran.returncode, ran.stderr), (0, ""))
+
+
+KEPT = """import sys
+from client import Desk, Report
+desk = Desk(*sys.argv[1:])
+report, again = Report(desk), 0
+for number, line in enumerate(sys.stdin):
+    desk.ask(line[:-1])
+    if number % 3 == 0:
+        again += report.version is None or desk.ask(f"changes {report.version}")[0].startswith("refused forgotten ")
+        report.refresh()
+        if report.text() != desk.ask("report"):
+            print("differs after", line)
+print(again, desk.close())
+"""
+
+
+def demo_client_keeps_a_report():
+    """What the client keeps of a report by `changes` alone is the report, while others' edits come and go; if the desk keeps few changes the
+    client takes the whole report now and then, and else once."""
+    chance = random.Random(30)
+    put("scene", Scene(3, 2, "stay").text().encode())
+    for mode, words, most in (("stay", (), 1), ("disappear", (), 1), ("stay", ("--history", "9"), 200)):
+        desk, lines = Desk(mode), [line_of(("agent", agent, *it)) for agent, it in enumerate(STARTS)]
+        for _ in range(300):
+            edit = some_edit(chance, desk.scene, chance.randrange(AGENTS))
+            desk.refusal(len(desk.entries), [], [edit])
+            lines.append(line_of(edit))
+        words = [sys.executable, "-B", "-c", KEPT, Program.path, "serve", "--map", os.path.abspath("scene"), "--mode", mode, "--lines", "2", *words]
+        ran = subprocess.run(words, input="".join(lines), capture_output=True, timeout=PATIENCE, text=True, cwd=DEMO)
+        want("how it ends", (ran.returncode, ran.stderr, ran.stdout.split()[-1:]), (0, "", ["0"]))
+        again = int(ran.stdout.split()[0])
+        want("how often the whole report was taken", most == 1 == again or 1 < again < most, True)
+    remove("scene")
 
 
 def demo_fleet():
@@ -108,5 +145,6 @@ def demo_maps():
 
 
 def tests():
-    for test in (demo_maps, demo_session, demo_drill, demo_client, demo_client_asks_remarks, demo_fleet, demos_called_wrongly, demo_audit):
+    for test in (demo_maps, demo_session, demo_drill, demo_client, demo_client_asks_remarks, demo_client_keeps_a_report,
+                 demo_fleet, demos_called_wrongly, demo_audit):
         yield test.__name__, test

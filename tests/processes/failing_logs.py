@@ -52,7 +52,7 @@ def log_on_a_small_disk():
     for sync in ("on", "off"):
         count = sum(len(log_of(entries[:it])) <= 4096 for it in range(1, 201))
         put("more", b"version\n%s\n" % lines[count])
-        ended = on_a_disk("size=8k", script, b"", "serve", "--map", "wide", "--log", "disk/log", "--sync", sync)
+        ended = on_a_disk(f"a log on a full disk, with sync {sync}", "size=8k", script, b"", "serve", "--map", "wide", "--log", "disk/log", "--sync", sync)
         if ended:
             torn = bytes_of("torn")
             said = answers(1, count) + f"status 2\nversion {count}\nversion {count + 1}\n"

@@ -105,9 +105,10 @@ ROWS = [
 
 
 def rows_of_two_planners(rows):
-    """Calls of two planners by turns, each line refused until there is memory for it; those that take none are never refused."""
+    """Calls of two planners by turns, each line refused until there is memory for it; those that take none are never refused. No history is
+    kept, whose want of memory would make others take some."""
     put("tasks", b"version 1\n" + b"0 m 3 1 0 0 2 0 2\n" * 2)
-    with growths_apart(), Hosted(["east", "west"], "--scen", "tasks", "--agents", "2") as desk:
+    with growths_apart(), Hosted(["east", "west"], "--scen", "tasks", "--agents", "2", "--history", "0") as desk:
         seats = desk.seats()
         for seat in seats:
             seat.ask(b"# a line as long as those that follow\nversion", b"version 0")

@@ -163,7 +163,7 @@ def answers_unheard():
 
 def never_comes():
     """A planner that doesn't come, or opens one pipe alone, is waited for so long; the others are served meanwhile, one that comes late too."""
-    with Hosted(["away", "half", "west"], "--wait", "2") as hosted:
+    with Hosted(["away", "half", "west"], "--wait", "4") as hosted:
         half = opened("half.in", os.O_WRONLY)
         time.sleep(0.5)
         west = Seat("west")
@@ -178,7 +178,7 @@ def never_comes():
 def told_who_is_awaited():
     """Where that is wanted it is told who comes, whose session ends, and behind the operator's end who hasn't come yet."""
     for flag, stages in ([], []), (["-v"], ["east: 1 line", "east: has come", "operator: 1 line", "west: hasn't come yet"]):
-        with Hosted(["east", "west"], "--wait", "2", *flag) as hosted:
+        with Hosted(["east", "west"], "--wait", "4", *flag) as hosted:
             east = Seat("east")
             east.ask(b"version", b"version 0")
             hosted.operator.ask(b"version\n", b"version 0\n")

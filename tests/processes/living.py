@@ -1,5 +1,6 @@
 """`demo/live.py`: while planners commit, pages in browsers show what they committed, as a plain scene (plain.py) has it."""
 import importlib.util
+import json
 import os
 import random
 import signal
@@ -10,6 +11,7 @@ import threading
 import time
 
 from .browsing import Browser
+from . import shapes
 from .chances import some_edit, walk
 from .hosting import Seat
 from .pages import text_of
@@ -22,6 +24,7 @@ DEMO = "LIVE_DEMO"  # in the environment the folder whose demo/ is run in place 
 LIVE = f"{os.environ.get(DEMO, TOP)}/demo/live.py"
 NAMES = ["north", "east", "south", "west"]
 COMMITS, BURST = 40, 150
+LARGE, SIDE, ROUNDS = 1000, 128, 20  # a fleet that has some 10,000 conflicts, and how many commits of it are followed
 SHOWN = (*HEADS, "unfinished")
 TOTALS = ("sum", "makespan", "bounds", "gap")
 SEEN = """
@@ -30,11 +33,12 @@ const [kinds, totals] = arguments;
 return ['live', 'scene', 'report', 'verdict', 'about', 'listed', ...kinds.map((it) => 'count-' + it), ...totals.map((it) => 'total-' + it)].map(text);"""
 
 
-def right(scene, version):
-    """What a page is to show of the scene, by the plain program: both texts, the verdict, how many there are of each, the totals."""
-    report = scene.report()
+def right(scene, version, report=None):
+    """What a page is to show of the scene and its report, by the plain program: both texts, the verdict, how many there are of each, the totals."""
+    report = report or scene.report()
     lines = report.splitlines()
-    counts = {it: sum(line.split()[0] == it for line in lines) for it in HEADS}
+    heads = [it.split()[0] for it in lines]
+    counts = {it: heads.count(it) for it in HEADS}
     counts["unfinished"] = sum(" goal no " in it for it in lines)
     wrong = [it for it in ("vertex", "parked", "swap", "visit", "unfinished") if counts[it]]
     verdict = "\u2717 does not solve (vertex, swap)" if wrong else "\u2713 solves (vertex, swap)"
@@ -86,9 +90,27 @@ class Live:
         self.seats[planner].ask(line_of(edit)[:-1].encode(), b"version %d" % self.version)
         self.scene.make(edit)
 
-    def is_shown(self, *browsers):
-        """Each browser shows the scene within a second."""
-        began, wanted = time.monotonic(), right(self.scene, self.version)
+    def commit_at_once(self, planner, edits):
+        """A planner makes one commit of lawful edits."""
+        self.version += 1
+        lines, seat = shapes.lines_of([("begin",), *edits, ("commit",)]).encode(), self.seats[planner]
+        seat.send(lines)
+        want("the last answer", [seat.hear() for _ in lines.splitlines()][-1], b"version %d" % self.version)
+        for edit in edits:
+            self.scene.make(edit)
+
+    def report(self, planner):
+        """The report that a planner's session is answered."""
+        seat, lines = self.seats[planner], []
+        seat.send(b"report\n")
+        want("the version of the report", seat.hear(), b"version %d" % self.version)
+        while lines[-1:] != [b"end"]:
+            lines.append(seat.hear())
+        return b"\n".join([*lines, b""]).decode()
+
+    def is_shown(self, *browsers, report=None, began=None):
+        """Each browser shows the scene, and that report of it, within a second."""
+        began, wanted = began or time.monotonic(), right(self.scene, self.version, report)
         for browser in browsers:
             while (found := browser.script(SEEN, SHOWN, TOTALS)) != wanted:
                 if time.monotonic() - began > a_while():
@@ -156,6 +178,86 @@ def follows_bursts():
             live.scene.make(own[-1])
         live.version += 4 * BURST
         live.is_shown(browser)
+
+
+class Listener:
+    """One that hears all that browsers are sent."""
+
+    def __init__(self, url):
+        self.many, self.socket = 0, socket.create_connection(("127.0.0.1", int(url.split(":")[2][:-1])))
+        self.socket.sendall(b"GET /changes HTTP/1.1\r\nHost: 127.0.0.1\r\n\r\n")
+        threading.Thread(target=self.hear, daemon=True).start()
+
+    def hear(self):
+        while piece := self.socket.recv(65536):
+            self.many += len(piece)
+
+
+def other_way(chance, fleet, scene):
+    """An agent goes another way, as long as its own or not, or rests a while on it, or a cell closes."""
+    agent = chance.randrange(LARGE)
+    path, kind = fleet.paths[agent], chance.randrange(4)
+    if kind == 0:
+        return "close", chance.choice([it for it in path if it not in scene.closed] or [(0, 0)])
+    if kind == 1:
+        return "path", agent, *shapes.shortest(shapes.Chain(chance.randrange(99)), path[0], fleet.goals[agent])
+    end = (chance.randrange(SIDE), chance.randrange(SIDE)) if kind == 2 else path[-1]
+    return "path", agent, *[path[0]] * chance.randint(0, 3), *shapes.shortest(shapes.Chain(chance.randrange(99)), path[0], end)
+
+
+def is_lit(browser, time, report):
+    """That is lit which the report has of the time, of the kinds that count."""
+    words = [(it, it.split()) for it in report.splitlines()]
+    lines = [line for line, it in words if it[0] in ("vertex", "parked", "swap") and it[1] == str(time) or it[0] == "visit" and it[2] == str(time)]
+    want("the time", browser.text("#time"), str(time))
+    want(f"what is lit at time {time}", sorted(browser.texts("#lit li")), sorted(lines))
+    return len(lines)
+
+
+def follows_a_large_fleet():
+    """1,000 agents who meet some 10,000 times: within a second of each commit the page shows the report that another session has then; it is sent
+    no more than what changed."""
+    chance, fleet, lit = random.Random(89), shapes.crowd(LARGE, SIDE), 0
+    with Live(Scene(SIDE, SIDE, "stay")) as live, Browser() as browser:
+        browser.go(live.url)
+        live.commit_at_once(0, fleet.all_coming())
+        report = live.report(1)
+        want("whether it has many conflicts", report.count("\n") > 10_000, True)
+        browser.until("it is shown", lambda: browser.script(SEEN, SHOWN, TOTALS) == right(live.scene, live.version, report))
+        listener = Listener(live.url)
+        browser.until("all of it is sent", lambda: listener.many > len(report))
+        time.sleep(2)
+        whole = listener.many
+        for number in range(ROUNDS):
+            live.commit(number % 4, other_way(chance, fleet, live.scene))
+            began = time.monotonic()
+            live.shows_its_version(browser)
+            lasted, report = time.monotonic() - began, live.report((number + 1) % 4)
+            live.is_shown(browser, report=report, began=began)
+            want("whether it is shown within a second", lasted < 1 or lasted < a_while(), True)
+            lit += is_lit(browser, number, report)
+            browser.press("right")
+        time.sleep(2)
+        sent = listener.many - whole
+        want("whether much was lit", lit > 10 * ROUNDS, True)
+        want(f"whether it is sent little ({sent} of {whole} bytes)", sent < whole / 4, True)
+        want("what the page complains of", browser.complaints(), [])
+
+
+def tells_where_they_are():
+    """A line that stays is told at the cells where its agents are now: of one that misses its goal, and of a ring."""
+    ring = [(0, 0), (1, 0), (1, 1), (0, 1)]
+    turned = lambda *turns: [("path", agent, *(ring[(agent + it) % 4] for it in turns)) for agent in range(4)]
+    with Live(Scene(4, 3, "stay")) as live, Browser() as browser:
+        browser.go(live.url)
+        live.commit_at_once(0, [("agent", 4, (2, 1), (0, 2)), *(("agent", it, ring[it], ring[(it + 2) % 4]) for it in range(4))])
+        live.commit_at_once(1, [("path", 4, (2, 1), (3, 1)), *turned(0, 0, 1, 2)])
+        live.is_shown(browser)
+        browser.click("#kind-cycle")
+        want("where they are", browser.texts(".row"), ["t 1not at goal4  at 3,1", "t 1cycle0 1 2 3  at 0,0", "t 2cycle0 1 2 3  at 1,0"])
+        live.commit_at_once(2, [("path", 4, (2, 1), (2, 2)), *turned(0, 1, 2, 2)])
+        live.shows_its_version(browser)
+        want("where they are now", browser.texts(".row"), ["t 0cycle0 1 2 3  at 0,0", "t 1not at goal4  at 2,2", "t 1cycle0 1 2 3  at 1,0"])
 
 
 def commit_all(seat, edits):
@@ -272,15 +374,15 @@ def tells_the_end():
 
 
 def views():
-    for test in (follows_commits, follows_bursts, unread, two_browsers, keeps_the_view, tells_the_end):
+    for test in (follows_commits, follows_bursts, follows_a_large_fleet, tells_where_they_are, unread, two_browsers, keeps_the_view, tells_the_end):
         yield f"live_{test.__name__}", test
 
 
 class PlainSeat:
-    """A seat at a plain scene, whose desk can tell changes."""
+    """A seat at a plain scene, whose desk tells what changed since as many versions."""
 
-    def __init__(self, scene):
-        self.versions, self.answers, self.asked = [scene.copy()], [], []
+    def __init__(self, scene, history):
+        self.versions, self.history, self.answers, self.asked = [scene.copy()], history, [], []
         self.lines = self
 
     def write(self, lines):
@@ -296,31 +398,64 @@ class PlainSeat:
         scene, version = self.versions[-1], len(self.versions) - 1
         kind, *words = line.split()
         self.asked.append(kind)
+        if kind == "changes" and version - int(words[0]) > self.history:
+            return [f"refused forgotten {version - self.history}"]
         if kind == "changes":
             return [f"version {version}", *changes(self.versions[int(words[0])], int(words[0]), scene)]
-        if kind in ("begin", "watch", "drop", "try"):
-            return ["refused faulty 0 unknown-agent"]
+        if kind == "try":
+            edited = [at for at in range(1, version + 1) if self.versions[at].closed != self.versions[at - 1].closed]
+            return [f"refused stale {version} map {edited[-1]}" if edited else "refused faulty 0 unknown-agent"]
+        if kind in ("begin", "watch", "drop"):
+            return ["kept"]
         question = [kind, *(tuple(map(int, it.split(","))) if "," in it else int(it) for it in words)]
-        return [f"version {version}"] if kind == "version" else answer(scene, version, question)
+        return f"version {version}" if kind in ("version", "wait") else answer(scene, version, question)
+
+
+class PlainBrowser:
+    """What a browser makes of what it is sent."""
+
+    def __init__(self, picture):
+        self.picture, self.many, self.texts, self.wholes = picture, -1, {}, 0
+
+    def reads(self, scene, version):
+        """By what is sent it has the texts of that scene."""
+        events, self.many, _ = self.picture.events_after(self.many, 0)
+        for event in events.decode().split("\n\n")[:-1]:
+            news = json.loads(event.removeprefix("data: "))
+            self.wholes += news["whole"]
+            for name, (gone, came) in (it for it in news.items() if it[0] in ("scene", "report")):
+                self.texts[name] = [] if news["whole"] else [it for at, it in enumerate(self.texts[name]) if at not in gone]
+                for at, piece in came:
+                    self.texts[name].insert(at, piece)
+            want("the version", news["version"] <= version, True)
+        want("the scene", "\n".join([*self.texts["scene"], ""]), text_of(scene))
+        want("the report", "\n".join([*self.texts["report"], ""]), scene.report())
 
 
 def keeps_by_changes():
-    """Where a desk tells what changed, by a plain program, live.py asks its report once, and has the right one ever after."""
+    """By a plain program: live.py asks for the report once, and where the desk has forgotten what changed. Browsers have the right texts by
+    what they are sent, which is what changed, but at first, and where they are far behind."""
     asked = importlib.util.spec_from_file_location("watcher", f"{TOP}/demo/watcher.py")
     watching = importlib.util.module_from_spec(asked)
     asked.loader.exec_module(watching)
-    chance = random.Random(73)
-    seat = PlainSeat(Scene(3, 2, "stay"))
-    watcher = watching.Watcher(seat, (3, 2))
-    for _ in range(300):
-        scene = seat.versions[-1].copy()
-        for _ in range(chance.randint(1, 3)):
-            scene.make(lawful(chance, scene))
-        seat.versions.append(scene)
-        picture = watcher.look()
-        want("the report", "\n".join([*picture.report, ""]), scene.report())
-        want("the version", picture.version, len(seat.versions) - 1)
-    want("how often it asks for the report", seat.asked.count("report"), 1)
+    watching.BYTES_KEPT = 3000
+    for history, watching.AT_ONCE in ((1000, 250), (1000, 2), (2, 250)):
+        chance, seat = random.Random(73), PlainSeat(Scene(3, 2, "stay"), history)
+        watcher = watching.Watcher(seat, (3, 2), watching.Picture())
+        watcher.look()
+        near, far = PlainBrowser(watcher.picture), PlainBrowser(watcher.picture)
+        for number in range(200):
+            for _ in range(chance.randint(1, 3)):
+                scene = seat.versions[-1].copy()
+                scene.make(lawful(chance, scene))
+                seat.versions.append(scene)
+            while watcher.is_behind(0):
+                watcher.look()
+            near.reads(scene, len(seat.versions) - 1)
+            if number % 20 == 9 or chance.randrange(9) == 0:
+                far.reads(scene, len(seat.versions) - 1)
+        want("whether it asks for the report where it must", seat.asked.count("report") > 20 if history == 2 else seat.asked.count("report") == 1, True)
+        want("whether all is sent where it must be", (near.wholes, far.wholes > 1), (1, True))
 
 
 def called_wrongly():

@@ -55,6 +55,12 @@ def changes(scene, version, later):
     return lines + totals
 
 
+def records(scene, later):
+    """How many lines of agents, entries and visits went and came from the one scene to the other."""
+    (old, _), (new, _) = lists_of(scene), lists_of(later)
+    return sum(len(set(before) ^ set(after)) for (_, before), (_, after) in zip(old, new))
+
+
 def answer(scene, version, question):
     """The lines that a question is answered; a wait ends with the version."""
     kind, *words = question

@@ -1,4 +1,6 @@
 """What a session saves, and what is left where a save fails."""
+import contextlib
+import io
 import itertools
 import os
 import resource
@@ -144,9 +146,10 @@ def not_saved_on_a_full_disk():
 APART = ["unshare", "--map-root-user", "--mount", "sh", "-c"]  # a shell whose mounts nobody else sees
 
 
-def on_a_disk(how, script, given, *words):
-    """What a shell does in a folder that has `disk`, a file system mounted so; none where nobody may mount one."""
-    if subprocess.run([*APART, "mount -t tmpfs none ."], capture_output=True).returncode != 0:
+def on_a_disk(what, how, script, given, *words):
+    """What a shell does in a folder that has `disk`, a file system mounted so; none where nobody may mount one, and then that is told."""
+    if not shutil.which(APART[0]) or subprocess.run([*APART, "mount -t tmpfs none ."], capture_output=True).returncode != 0:
+        print(f"left out: {what}, since nobody may mount one here", flush=True)
         return None
     os.mkdir("disk")
     script = f"mount -t tmpfs -o {how} none disk || exit 9; {script}"
@@ -157,7 +160,7 @@ def on_a_disk(how, script, given, *words):
 
 def disk_that_is_read_alone():
     """A file system that takes no file is told before a line is read."""
-    ended = on_a_disk("ro", '"$0" serve --map m --save disk/kept -v', ADD)
+    ended = on_a_disk("a disk that is read alone", "ro", '"$0" serve --map m --save disk/kept -v', ADD)
     if ended:
         want("the end", ended, (2, b"", "mapf_desk: can't write disk/kept\n  Read-only file system (os error 30)\n"))
 
@@ -167,7 +170,7 @@ def disk_that_is_full():
     name, many = own_name("kept"), 3000
     script = 'cp journal "disk/$1"; "$0" serve --map m --save "disk/$1"; status=$?; cat "disk/$1"; exit $status'
     put("journal", JOURNAL)
-    ended = on_a_disk("size=64k", script, ADD + b"goal 0 1,0\n" * many, name)
+    ended = on_a_disk("a journal on a full disk", "size=64k", script, ADD + b"goal 0 1,0\n" * many, name)
     remove("journal")
     if ended:
         kept = kept_in(FOLDERS[0], name)
@@ -176,6 +179,24 @@ def disk_that_is_full():
         entries = b"".join(b"entry 0 %d 0 1\ngoal 0 1,0\n" % it for it in range(1, many + 1))
         want("the journal", bytes_of(kept), ONE_ENTRY.replace(b"end 1\n", entries + b"end %d\n" % (many + 1)))
         remove(kept)
+
+
+def disk_that_nobody_mounts():
+    """Where nobody may mount a disk, or nothing does, a test is left out in a line that `./test` prints again."""
+    path, here = os.environ["PATH"], os.path.abspath("tools")
+    os.mkdir(here)
+    try:
+        for lacking, tool in ((f"{here}:{path}", b"#!/bin/sh\nexit 1\n"), (here, None)):
+            remove("tools/unshare")
+            if tool:
+                put("tools/unshare", tool), os.chmod("tools/unshare", 0o755)
+            os.environ["PATH"] = lacking
+            with contextlib.redirect_stdout(io.StringIO()) as said:
+                want("the end", on_a_disk("a disk", "ro", "exit 0", b""), None)
+            want("what is told", said.getvalue(), "left out: a disk, since nobody may mount one here\n")
+    finally:
+        os.environ["PATH"] = path
+        shutil.rmtree(here)
 
 
 def limit_of_files_is_told():
@@ -244,6 +265,6 @@ def saved_into_a_folder():
 def tests():
     for test in (saved, saved_in_another_mode, saved_from_a_map_on_standard_input, not_saved_where_no_session_begins, not_saved_over_another_file,
                  broken_session_is_saved, saved_after_a_fault, not_saved_on_a_full_disk, disk_that_is_read_alone, disk_that_is_full,
-                 limit_of_files_is_told, not_saved_where_the_file_became_a_folder, kept_elsewhere_where_the_folder_went,
+                 disk_that_nobody_mounts, limit_of_files_is_told, not_saved_where_the_file_became_a_folder, kept_elsewhere_where_the_folder_went,
                  saved_in_place_of_a_link, saved_into_a_folder):
         yield test.__name__, test

@@ -151,7 +151,7 @@ def stacks_of_sessions():
             hosted.operator.ask(b"version\n", b"version 0\n")
             stacks = stacks_of(hosted.operator.process)
             # (an allocator may have mapped more of that size)
-            want(f"whether {stacks} has them, where {size} bytes are usual", (stacks.count(1 << 20) >= 3, 4 << 20 in stacks), (True, True))
+            want(f"whether {stacks} has them, where {size} bytes are usual", (stacks.count(1 << 20) >= 3, 16 << 20 in stacks), (True, True))
             for seat in seats:
                 seat.close()
             hosted.ends(*AUDITED)

@@ -1,15 +1,10 @@
-"""The word `check` with several files of paths: a line for each, by hand and as each alone is answered, and the recipe of CLI.md for thousands.
-"""
+"""The word `check` with several files of paths: a line for each, by hand and as each alone is answered."""
 import json
-import os
 import random
-import re
-import shutil
-import subprocess
 
 from .fleets import Fleet
 from .plain import ASKED
-from .running import PATIENCE, TOP, Program, Wrong, is_fault, is_run, put, remove, run, want
+from .running import is_fault, is_run, put, remove, run, want
 
 NONE_OF_THESE = "conflicts 0, vertex 0, edge 0, follow 0, swap 0, cycle 0, blocked 0"
 YES = f"solves yes, agents 1, finished 1, {NONE_OF_THESE}, sum 2, makespan 2, bounds 2, gap 0"
@@ -138,39 +133,6 @@ def files_as_each_alone():
     remove("scene", "tasks")
 
 
-def recipe():
-    """The recipe of CLI.md, for the program and the files here."""
-    with open(f"{TOP}/docs/CLI.md", encoding="utf-8") as page:
-        lines = re.search(r"^    (find plans .*\n {8}awk .*)$", page.read(), re.MULTILINE)[1]
-    for word, other in (("release/mapf_desk", Program.path), ("--map M", "--map m"), ("--scen S", "--scen s"), ("--agents K", "--agents 1")):
-        want(f"how often the recipe has {word}", lines.count(word), 1)
-        lines = lines.replace(word, other)
-    return lines
-
-
-def files_by_parallel():
-    """GNU parallel gives each run some of the files; all have their lines, and those that don't solve come last, each part by name."""
-    if lacking := [it for it in ("parallel", "find", "awk", "sort") if not shutil.which(it)]:
-        if os.environ.get("NO_BROWSER") == "failed":
-            raise Wrong(f"there is no {' and no '.join(lacking)} here")
-        print(f"left out: the recipe for thousands of files, since there is no {' and no '.join(lacking)} here", flush=True)
-        return
-    os.makedirs("plans/more", exist_ok=True)
-    kinds = [(b"path 0 0,0 1,0 2,0\n", YES), (b"path 0 0,0 1,0\n", ELSEWHERE), (b"", "solves no, no paths"), (b"path 0\n", "paths: no cells in line 1")]
-    plans = {f"plans/{'more/' if it % 3 else ''}plan{it}.paths": kinds[0 if it % 2 else it // 2 % 4] for it in range(200)}
-    for name, (text, _) in plans.items():
-        put(name, text)
-    put("plans/notes.txt", b"no plan\n")
-    how = {"capture_output": True, "text": True, "timeout": PATIENCE, "env": {**os.environ, "LC_ALL": "C", "HOME": os.getcwd()}}
-    ran = subprocess.run(["bash", "-c", recipe()], **how, stdin=subprocess.DEVNULL)
-    rows = [(name, f"{name}: {plans[name][1]}") for name in sorted(plans)]
-    solving = [it for it in rows if ": solves yes" in it[1]]
-    want("the lines", ran.stdout.splitlines(), [it[1] for it in solving + [it for it in rows if it not in solving]])
-    want("standard error", ran.stderr, "")
-    shutil.rmtree("plans")
-
-
 def tests():
     for test in (rows, standard_input, files_as_each_alone):
         yield f"several_{test.__name__}", test
-    yield "files_by_parallel", files_by_parallel

@@ -66,6 +66,13 @@ EXPECTATIONS = [
     ("--map m", b"Agent 8192: (0,0)->\n", "line 1: Agent 8192: (0,0)-> (expected 8192 agents at most)"),
     ("--map m", b"path 0 " + b"x" * 500, f"line 1: path 0 {'x' * 385} (expected path AGENT X,Y X,Y ..)"),
 ]
+# Paths whose fault names no line, and has no second one.
+NO_EXPECTATIONS = [
+    ("--map m", b'{"start":[[0]],"actualPaths":["r"]}', "bad start of agent 0"),
+    ("--map m", b'{"start":[[0,0]],"actualPaths":["rx"]}', "bad move 1 of agent 0"),
+    ("--map m --scen s", b'solution_plan\n"rr', "open quote"),
+    ("--map m", b"path 2 0,0\n", "missing agent 1"),
+]
 
 # Words of a check, the costs before the paths, and the notes: the paths are of one agent, of sum 2 and makespan 2.
 NOTES = [
@@ -114,11 +121,14 @@ def expected(text):
 
 
 def expectations():
-    """The second line of --verbose, whole, once for each of its expectations."""
+    """The second line of --verbose, whole, once for each of its expectations; where the fault names no line there is none."""
     for words, paths, line in EXPECTATIONS:
         put("faulty", paths)
         told = run(["check", *words.split(), "--paths", "faulty", "-v"])[2].partition("\n")[2]
         want(f"what is told of {paths[:100]!r}", told, f"  {line}\n")
+    for words, paths, fault in NO_EXPECTATIONS:
+        put("faulty", paths)
+        is_fault(["check", *words.split(), "--paths", "faulty", "-v"], f"paths: {fault}")
     remove("faulty")
 
 

@@ -1,20 +1,12 @@
-"""How `check --json` writes a verdict: objects by hand, and over random files the facts of the lines, also with the cells of the file.
-
-Over random files the lines of the report, which fleets.py compares with audits, are taken apart in Python, and each fact has to
-stand in the object that Python's `json` reads.
-"""
+"""How `check --json` writes a verdict: objects by hand. What it writes of random files is in judged_forms.py."""
 import json
-import random
-import re
 
 from .checks import COMES, FIELD, RING, SWAP, TASKS, TOGETHER
-from .fleets import Fleet
 from .plain import ASKED
-from .running import is_fault, is_run, put, remove, run, want
+from .running import is_fault, is_run, put, remove
 
 COUNTED = ("agents", "finished", "conflicts", "vertex", "edge", "follow", "swap", "cycle", "blocked")
 TOTALS = ("sum", "makespan", "bounds", "gap")
-FORMS = ("by_time", "by_agent", "by_session")
 
 
 def told(solves, verdict, kinds="vertex swap", *, counts=None, totals=None, wrong=(), differs=(), **lists):
@@ -108,92 +100,5 @@ def objects():
     remove("field", "tasks", "walled", "judged")
 
 
-def cell_of(word):
-    return [int(it) for it in word.split(",")]
-
-
-def number_of(word):
-    return None if word == "none" else int(word)
-
-
-def entry_of(kind, words):
-    """The object of an entry by the words of its line behind the kind."""
-    cells = [cell_of(it) for it in words if "," in it]
-    return entry(kind, int(words[0]), [int(it) for it in words[1:] if "," not in it], *cells)
-
-
-def difference_of(words):
-    what, rest = words[0], words[1:]
-    if what == "line":
-        return {"what": what, "line": int(rest[0])}
-    if "," in rest[-1]:
-        return {"what": what, "agent": int(rest[0]), "found": cell_of(rest[1]), "due": cell_of(rest[2])}
-    return {"what": what, "found": int(rest[0]), "due": int(rest[1])}
-
-
-def object_of(said, kinds):
-    """The object of a verdict, by its lines, all of which are listed."""
-    lines = [it.split() for it in said.splitlines()]
-    under = lambda *heads: [it[1:] for it in lines if it[0] in heads]
-    solves, found = under("solves") == [["yes"]], {"wrong": [], "differs": [difference_of(it) for it in under("differs")]}
-    found["wrong"] = [wrong(int(it[0]), int(it[1]), it[2], *map(cell_of, it[3:])) for it in under("wrong")]
-    if ["version", "0"] not in lines:
-        return json.loads(told(solves, "no-paths" if under("no") else "wrong-paths" if found["wrong"] else "repeated-list", kinds, **found))
-    agents = [agent(int(it[0]), int(it[2]), it[4] == "yes", number_of(it[6]), number_of(it[8])) for it in under("agent")]
-    entries = [entry_of(it[0], it[1:]) for it in lines if it[0] in ("vertex", "parked", "edge", "follow", "swap", "cycle")]
-    visits = [{"agent": int(it[0]), "time": int(it[1]), "cell": cell_of(it[2])} for it in under("visit")]
-    kinds_there = [sum(it["kind"] in names for it in entries) for names in ASKED.values()]
-    counts = (len(agents), sum(it["finished"] for it in agents), len(entries), *kinds_there, len(visits))
-    totals = [number_of(under(it)[0][0]) for it in TOTALS]
-    return json.loads(told(solves, "judged", kinds, counts=counts, totals=totals, agents=agents, entries=entries, visits=visits, **found))
-
-
-def members_once(pairs):
-    """An object, in which no member may stand twice."""
-    want("the members", len(dict(pairs)), len(pairs))
-    return dict(pairs)
-
-
-def is_object(said, right):
-    """The text is one line of ASCII, and JSON of these members in this order."""
-    want("the lines", (said.isascii(), said.count("\n"), said[-1:]), (True, 1, "\n"))
-    want("the object", json.dumps(json.loads(said, object_pairs_hook=members_once)), json.dumps(right))
-
-
-def put_spoiled(chance, fleet):
-    """Writes a map, tasks, and a file of paths in some form: of others than the tasks', or with steps that are none; gives the form and words."""
-    put("scene", fleet.map.encode()), put("tasks", fleet.scen().encode())
-    words, form = chance.choice([[], ["--scen", "tasks"], ["--scen", "tasks", "--agents", str(chance.randint(0, len(fleet.paths)))]]), chance.choice(FORMS)
-    if chance.random() < 0.3:
-        path = chance.choice(fleet.paths)
-        path[chance.randrange(len(path))] = chance.randint(0, fleet.columns), chance.randint(0, fleet.rows)
-    if chance.random() < 0.3:
-        fleet.goals[0] = fleet.cell(chance)
-    head = chance.choice(["", "", "", "agents=2\n", "starts=(0,0)\n", "goals=(1,0),(0,0)\n"]) if form == "by_time" else ""
-    put("judged", b"" if chance.random() < 0.05 else (head + getattr(fleet, form)()).encode())
-    return form, words
-
-
-def random_objects():
-    """Over random files each fact of the report's lines stands in the object, and no other; --own-cells exchanges rows and columns by agent alone."""
-    chance, seen = random.Random(41), set()
-    for _ in range(80):
-        form, words = put_spoiled(chance, Fleet(chance))
-        kinds = chance.sample(sorted(ASKED), chance.randint(1, 5))
-        words = ["check", "--map", "scene", "--paths", "judged", *words, "--mode", chance.choice(["stay", "disappear"]), "--solves", *kinds]
-        status, said, complained = run(words)
-        want("the fault", complained, "")
-        own = re.sub(r"(\d+),(\d+)", r"\2,\1", said) if form == "by_agent" else said
-        want("the cells of the file", run([*words, "--own-cells"]), (status, own, ""))
-        for more, lines in (([], said), (["--own-cells"], own)):
-            again, text, _ = run([*words, *more, "--json"])
-            want("the status", again, status)
-            is_object(text, object_of(lines, " ".join(kinds)))
-        seen |= {json.loads(text)["verdict"], form, status, *said.split()}
-    want("what was seen", seen >= {"judged", "wrong-paths", "repeated-list", *FORMS, 0, 1, "differs", "visit", "follow", "yes", "no"}, True)
-    remove("scene", "tasks", "judged")
-
-
 def tests():
     yield "verdict_objects", objects
-    yield "verdict_random_objects", random_objects

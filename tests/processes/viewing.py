@@ -349,6 +349,22 @@ def picks_agents(browser):
     want("the list of all agents", len(shown.listed()), len(shown.entries()))
 
 
+def first_click_after_typing(browser):
+    """A click on the first line goes to its conflict, also where the field that was written in is left by it."""
+    chance, clicked = random.Random(31), 0
+    shown = Shown(browser, chance, (12, 9), all_kinds(), crowd(chance, (12, 9), 9, 25))
+    browser.click("#kind-unfinished")
+    for agent in shown.scene.agents:
+        met = [it for it in sorted(shown.entries(), key=lambda it: it[0]) if agent in agents_of(it[1])]
+        browser.write("#agent", str(agent))
+        if met:
+            browser.click("#row-0")
+            want("the line that is chosen", browser.script("return Array.from(document.querySelectorAll('.row.chosen'), (it) => it.title)"), [met[0][1]])
+            want("its time", browser.text("#time"), str(met[0][0]))
+            clicked += 1
+    want("whether lines were clicked", clicked > 4, True)
+
+
 # The least size of a text in pixels, and the texts whose colour is too near to that of their ground (WCAG 2, contrast of 4.5 to 1).
 READS = """
 const light = (colour) => {
@@ -444,7 +460,8 @@ def is_quick(browser, size, steps):
 
 
 def views():
-    made = [lit_is_what_the_report_has, clicks_go_to_conflicts, verdicts_and_counts, filters, keys_and_buttons, zooms_and_moves, picks_agents, reads_well, titles]
+    made = [lit_is_what_the_report_has, clicks_go_to_conflicts, verdicts_and_counts, filters, keys_and_buttons, zooms_and_moves, picks_agents, first_click_after_typing,
+            reads_well, titles]
     for test in made:
         yield f"page_{test.__name__}", of_page(test)
     for size, steps in (((256, 256), 500), ((2048, 512), 200)):

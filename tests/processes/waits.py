@@ -4,7 +4,7 @@ import statistics
 import time
 
 from .hosting import Hosted
-from .running import want
+from .running import second, want
 
 
 def used(process):
@@ -41,7 +41,7 @@ def many_wait():
         hosted.ends(0, b"audit same\n", b"")
     median = statistics.median(took)
     print(f"many_wait: told after {1000 * median:.1f} ms in the median, {1000 * max(took):.1f} ms at most")
-    want("whether those who wait are told soon", median < SOON, True)
+    want("whether those who wait are told soon", median < SOON * second(), True)
 
 
 def waits_end():
