@@ -16,8 +16,8 @@ NONE_OF_THESE = "edge 0, follow 0, swap 0, cycle 0, blocked 0"
 SOLVES = ("paths", 0, f"solves yes, agents 2, finished 2, conflicts 0, vertex 0, {NONE_OF_THESE}, sum 18, makespan 10, bounds 12, gap 6")
 MEETS = ("meeting", 1, f"solves no, agents 2, finished 2, conflicts 1, vertex 1, {NONE_OF_THESE}, sum 12, makespan 6, bounds 12, gap 0")
 EMPTY, BROKEN = (b"", 1, "solves no, no paths"), (b"path 0\n", 2, "paths: no cells in line 1")
-# The stand-in of ssh notes the machine, and begins where a login does, with nothing of this shell's folder.
-SSH = b'#!/bin/sh\necho "$1" >> "$MACHINES"\nshift 2\ncd\nexec sh -c "$*"\n'
+# The stand-in of ssh notes the machine, and begins as a login does, in no folder of this shell's and with a SHELL, which parallel runs there.
+SSH = b'#!/bin/sh\necho "$1" >> "$MACHINES"\nshift 2\ncd\nSHELL=/bin/sh exec sh -c "$*"\n'
 
 
 def text_behind(kind):
@@ -86,9 +86,10 @@ def files_by_parallel():
             for name, kind in plans.items():
                 put(f"{folder}/{name}", text_behind(kind))
             put(f"{folder}/plans/notes.txt", b"no plan\n")
+            how["env"].pop("SHELL", None)  # (which CI doesn't always have)
             ran = subprocess.run(["bash", "-c", recipe], **how)
-            want("the lines", ran.stdout.splitlines(), right)
             want("standard error, and the machines that ran some", (ran.stderr, set(bytes_of(f"{folder}/machines").decode().split())), ("", machines))
+            want("the lines", ran.stdout.splitlines(), right)
 
 
 def tests():
