@@ -63,6 +63,13 @@ class Beside:
         except (OSError, Wrong) as why:
             self.fault = why
 
+    def goes_on(self, commits):
+        """Waits until it has had that many versions more."""
+        wanted, end = self.kinds[b"version"] + commits, time.monotonic() + PATIENCE
+        while self.kinds[b"version"] < wanted and time.monotonic() < end:
+            time.sleep(0.001)
+        want(f"whether it goes on, of which {self.kinds} are answered", self.kinds[b"version"] >= wanted, True)
+
     def end(self):
         """How many answers of which kinds it had."""
         self.is_over = True
@@ -76,8 +83,9 @@ def crowded(*words):
     with Hosted(["crowd", "west"], *words, ground="square") as hosted:
         crowd, west = hosted.seats()
         beside, kinds, held = Beside(west), {}, []
-        for agents in (range(10, 60), range(60, 110)):
-            crowd_in(crowd, agents, kinds)
+        for first in range(10, 110, 10):
+            crowd_in(crowd, range(first, first + 10), kinds)
+            beside.goes_on(2)
             held.append(memory_of(hosted.operator.process))
         others = beside.end()
         crowd.send(b"report 10\n")
@@ -90,7 +98,7 @@ def crowded(*words):
         want("what the other planner is answered", (set(others), others[b"version"] > 20), ({b"version"}, True))
         crowd.close(), west.close()
         hosted.ends(0, b"audit same\n", b"")
-    return (held[1] - held[0]) * 1024 / (conflicts_of(100) - conflicts_of(50)), beside.longest
+    return (held[9] - held[4]) * 1024 / (conflicts_of(100) - conflicts_of(50)), beside.longest
 
 
 def crowd_in_one_cell():
@@ -114,6 +122,7 @@ def crowd_without_memory():
         beside, kinds = Beside(west), {}
         leave(hosted.operator.process, PAGES)
         crowd_in(crowd, range(10, 60), kinds)
+        beside.goes_on(5)
         others = beside.end()
         want("what the crowd is answered", set(kinds), {b"version", b"solves", b"refused memory"})
         want("what the other planner is answered", (set(others) - {b"refused memory"}, others[b"version"] > 5), ({b"version"}, True))
