@@ -1,23 +1,27 @@
   // ---- Live: what live.py tells of a host is shown as it changes. This stands within page/page.js, before its last call ----
 
-  // The pieces of the two texts, in their order: what stands before the map's rows, these, and each agent's two lines; the lines of the report.
+  // The pieces of the two texts, each a node of its own, in their order: what stands before the map's rows, these, and each agent's two
+  // lines; the lines of the report.
   const pieces = { scene: [], report: [] };
-  // What the lines of the report find; how much of the places of the scene's paths is taken; whether the map has to be painted anew.
+  // What the lines of the report find; how much of the places of the scene's paths is taken.
   const found = new Map();
   let taken = 0;
-  let isMapNew = true;
 
+  function textOf(piece) { return piece.data.slice(0, -1); }
   function isAgent(piece) { return piece.startsWith('agent '); }
   function agentOf(piece) { return parseInt(piece.slice('agent '.length), 10); }
 
   // Takes out the pieces at those places, and puts in those that came, each at its place behind that. Answers those that went.
   function keepUp(name, gone, came) {
-    const went = new Set(gone);
-    const old = gone.map((at) => pieces[name][at]);
-    pieces[name] = pieces[name].filter((piece, at) => !went.has(at));
-    came.forEach(([at, piece]) => pieces[name].splice(at, 0, piece));
-    if (gone.length + came.length > 0) { element(name).textContent = pieces[name].join('\n') + '\n'; }
-    return old;
+    const went = new Set(gone.map((at) => pieces[name][at]));
+    went.forEach((piece) => piece.remove());
+    pieces[name] = pieces[name].filter((piece) => !went.has(piece));
+    for (const [at, text] of came) {
+      const piece = new Text(text + '\n');
+      element(name).insertBefore(piece, pieces[name][at] || null);
+      pieces[name].splice(at, 0, piece);
+    }
+    return Array.from(went, textOf);
   }
 
   // Reads the whole scene, and leaves room for paths that come.
@@ -27,7 +31,19 @@
     const places = new Int32Array(2 * taken + 65536);
     places.set(scene.places);
     scene.places = places;
-    isMapNew = true;
+    readLook();
+  }
+
+  // Takes a row of the map, and paints those of its cells that are others.
+  function takeRow(y, row) {
+    const brush = state.ground.getContext('2d');
+    for (let x = 0; x < scene.width; x += 1) {
+      if (row[x] !== scene.rows[y][x]) {
+        brush.fillStyle = state.look[row[x] === '.' ? 'floor' : 'wall'];
+        brush.fillRect(x, y, 1, 1);
+      }
+    }
+    scene.rows[y] = row;
   }
 
   // Takes rows and agents that came into the scene, and out those that went. Answers the agents that came.
@@ -39,10 +55,7 @@
       return lines.map(agentOf);
     }
     went.filter(isAgent).forEach((piece) => scene.byNumber.delete(agentOf(piece)));
-    for (const [at, piece] of came.filter((one) => !isAgent(one[1]))) {
-      scene.rows[at - 1] = piece;
-      isMapNew = true;
-    }
+    came.filter((one) => !isAgent(one[1])).forEach(([at, row]) => takeRow(at - 1, row));
     scene.places.set(read.places, taken);
     read.agents.forEach((agent) => scene.byNumber.set(agent.number, Object.assign(agent, { from: agent.from + taken })));
     taken += read.places.length;
@@ -70,7 +83,7 @@
 
   // What the report finds, in order of time, those of one time in the report's.
   function listFindings() {
-    report.findings = pieces.report.map((line) => found.get(line)).filter((finding) => finding !== undefined);
+    report.findings = pieces.report.map((piece) => found.get(textOf(piece))).filter((finding) => finding !== undefined);
     report.findings.sort((one, other) => one.time - other.time);
     report.counts.clear();
     report.findings.forEach(({ kind }) => report.counts.set(kind, countOf(kind) + 1));
@@ -101,8 +114,7 @@
     element('slider').max = String(horizon);
     element('agent').max = String(scene.agents.reduce((number, agent) => Math.max(number, agent.number), 0));
     showTime(state.now);
-    [tellVerdict, tellCosts, tellCounts, tellChosen, filterList, isMapNew ? readLook : turnStale].forEach((act) => act());
-    isMapNew = false;
+    [tellVerdict, tellCosts, tellCounts, tellChosen, filterList, turnStale].forEach((act) => act());
     tellStep(true);
   }
 
@@ -127,7 +139,10 @@
 
   function take(news) {
     if (news.whole) {
-      Object.assign(pieces, { scene: [], report: [] });
+      Object.keys(pieces).forEach((name) => {
+        pieces[name] = [];
+        element(name).replaceChildren();
+      });
       [found, report.costs, report.totals].forEach((it) => it.clear());
     }
     const [scenes, lines] = ['scene', 'report'].map((name) => keepUp(name, ...news[name]));

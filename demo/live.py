@@ -6,6 +6,9 @@
 It starts `DESK host ..` with a planner more, whose seat it takes, and tells on standard error where it shows what the desk
 has: the page of `DESK page`, with live.js in its script. It commits nothing. Standard input, output and the status are
 those of the host; it ends with the host, once the other sessions are over, or by Ctrl-C, which ends the host too.
+
+What commits name it reads in the host's log, which is in memory where none is asked for. A host of --journal or --save has
+none: then it asks for all cells after a wall, which on a large map takes seconds.
 """
 import argparse
 import http.server
@@ -21,11 +24,13 @@ import time
 sys.dont_write_bytecode = True
 
 from client import Seat
-from watcher import Picture, Watcher
+from picture import Picture
+from watcher import Watcher
 
 HERE = os.path.dirname(os.path.abspath(__file__))
 PAGE_OPTIONS = ("--map", "--scen", "--agents", "--mode", "--journal")  # of the host's, those that `page` takes too
 LAST_CALL = "  begin();\n}());"  # of page/page.js
+MOST_NAMES = 253  # of a host with a log, beside live.py's own
 REST = 0.1  # seconds between two looks at new versions
 PULSE = 1  # seconds until a browser that is sent nothing is sent a remark
 
@@ -67,29 +72,29 @@ class Browser(http.server.BaseHTTPRequestHandler):
 
 
 def parted(words):
-    """The words of `host` that `page` takes too, and the planners' names."""
-    kept, names, words = [], [], iter(words)
+    """The options of `host` with their values, and the planners' names."""
+    options, names, words = {}, [], iter(words)
     for word in words:
         if word == "--":
             names += words
         elif not word.startswith("-"):
             names.append(word)
         elif word not in ("-v", "--verbose"):
-            option = [word] if "=" in word else [word, next(words, "")]
-            kept += option if option[0].split("=")[0] in PAGE_OPTIONS else []
-    return kept, names
+            option, is_one, value = word.partition("=")
+            options[option] = value if is_one else next(words, "")
+    return options, names
 
 
 def page_of(desk, words):
-    """The page that `page` makes, with live.js at the end of its script, and how many columns and rows its map has."""
+    """The page that `page` makes, with live.js at the end of its script, and its map's rows."""
     ran = subprocess.run([desk, "page", *words], stdout=subprocess.PIPE, encoding="utf-8")
     if ran.returncode:
         sys.exit(ran.returncode)
-    rows, columns = re.search(r"id='scene'[^>]*>type octile\nheight (\d+)\nwidth (\d+)\n", ran.stdout).groups()
+    rows = re.search(r"id='scene'[^>]*>type octile\n.*\n.*\nmap\n([.@\n]+)", ran.stdout)[1].split()
     with open(f"{HERE}/live.js", encoding="ascii") as file:
         script = file.read()
     head, call, tail = ran.stdout.replace("\n  const horizon = ", "\n  let horizon = ", 1).rpartition(LAST_CALL)
-    return (head + script + call + tail).encode(), (int(columns), int(rows))
+    return (head + script + call + tail).encode(), rows
 
 
 def listen(host, names, are_over):
@@ -104,11 +109,11 @@ def listen(host, names, are_over):
             are_over.set()
 
 
-def follow(name, size, are_over):
+def follow(name, rows, log, are_over):
     """Sits at the seat of that name, and keeps the picture until the other sessions are over, or the host is."""
     try:
         seat = Seat(name)
-        watcher = Watcher(seat, size, Browser.picture)
+        watcher = Watcher(seat, rows, Browser.picture, log)
         watcher.look()
         while not are_over.is_set():
             if watcher.is_behind(1) and watcher.look():
@@ -120,14 +125,23 @@ def follow(name, size, are_over):
         pass
 
 
-def hosted(desk, words, names, size):
+def logged(options, names):
+    """The name of the host's log, if it has one, and the words that let it keep one in memory where none is asked for."""
+    if len(names) <= MOST_NAMES and not options.keys() & {"--log", "--sync", "--journal", "--save"}:
+        log = f"/proc/self/fd/{os.memfd_create('log', 0)}"
+        return log, ["--log", log, "--sync", "off"]
+    return options.get("--log"), []
+
+
+def hosted(desk, words, options, names, rows):
     """Runs the host until it ends, and keeps the picture of what its desk has; gives its status."""
     are_over, why = threading.Event(), "live.py has ended"
+    log, more = logged(options, names)
     with tempfile.TemporaryDirectory() as folder:
         name = f"{folder}/live"
         os.mkfifo(f"{name}.in"), os.mkfifo(f"{name}.out")
-        following = threading.Thread(target=follow, args=(name, size, are_over), daemon=True)
-        host = subprocess.Popen([desk, "-v", *words, name], stderr=subprocess.PIPE, text=True, errors="replace")
+        following = threading.Thread(target=follow, args=(name, rows, log, are_over), daemon=True)
+        host = subprocess.Popen([desk, "-v", *words[:1], *more, *words[1:], name], stderr=subprocess.PIPE, text=True, errors="replace", close_fds=False)
         try:
             following.start()
             listen(host, ["operator", *names], are_over)
@@ -151,15 +165,16 @@ def main():
     told = parser.parse_args()
     if told.words[:1] != ["host"] or re.search("--lines[ =]1( |$)", " ".join(told.words)):
         parser.error("it runs `host`, with lines of version 2")
-    words, names = parted(told.words[1:])
+    options, names = parted(told.words[1:])
+    words = [it for option in options.items() if option[0] in PAGE_OPTIONS for it in option]
     signal.signal(signal.SIGTERM, lambda *_: sys.exit(143))
     try:
-        Browser.page, size = page_of(told.desk, [*words, "--solves", *told.solves.split()])
+        Browser.page, rows = page_of(told.desk, [*words, "--solves", *told.solves.split()])
         with http.server.ThreadingHTTPServer(("127.0.0.1", told.port), Browser) as server:
             threading.Thread(target=server.serve_forever, daemon=True).start()
             print(f"live.py: http://127.0.0.1:{server.server_port}/", file=sys.stderr, flush=True)
             try:
-                return hosted(told.desk, told.words, names, size)
+                return hosted(told.desk, told.words, options, names, rows)
             finally:
                 server.shutdown()
     except KeyboardInterrupt:

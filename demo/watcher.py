@@ -1,9 +1,5 @@
 """What a planner at a shared desk sees of it, kept piece by piece: its scene and its report, by what changes."""
-import bisect
-import collections
 import itertools
-import json
-import threading
 
 LISTED = ("vertex", "parked", "edge", "follow", "swap", "cycle", "visit")
 HEADS = ("agents", "agent", "conflicts", *LISTED[:6], "blocked", "visit", "sum", "makespan", "bounds", "gap", "end")
@@ -11,7 +7,6 @@ NOBODY = 65535  # an agent that nobody has
 TRIES = 10
 AT_ONCE = 250  # lines, which any pipe holds
 LOOKS, CELLS = 8, 32_768  # after as many looks all paths were asked for; cells that a look asks for in turn
-BYTES_KEPT = 4_000_000  # of events, for browsers that are behind
 HEAD, ROW, AGENT = range(3)  # what the pieces of a scene are: the lines before the map's rows, a row, an agent's two lines
 
 
@@ -35,81 +30,20 @@ def agent_of(answer):
     return f"agent {words[1]} {words[3]} {words[2]}\npath {' '.join([words[1], *words[3:]])}" if words[0] == "plan" else None
 
 
-class Pieces:
-    """The pieces of a text, in the order of their places."""
-
-    def __init__(self):
-        self.places, self.at = [], {}
-
-    def change(self, told):
-        """Takes in what is at some places now, none where nothing is: tells where those were that went, and those that came, with where they are."""
-        told = sorted(it for it in told.items() if self.at.get(it[0]) != it[1])
-        gone = [bisect.bisect_left(self.places, place) for place, _ in told if place in self.at]
-        for index in reversed(gone):
-            del self.at[self.places.pop(index)]
-        came = [(place, piece) for place, piece in told if piece is not None]
-        self.at.update(came)
-        for place, _ in came:
-            bisect.insort(self.places, place)
-        return gone, [(bisect.bisect_left(self.places, place), piece) for place, piece in came]
-
-    def whole(self):
-        return [self.at[it] for it in self.places]
-
-
-class Picture:
-    """What browsers are to show, and the events by which they learn of it. The scene's pieces are its map's rows and each agent's two lines."""
-
-    def __init__(self):
-        self.has_changed, self.texts = threading.Condition(), {"scene": Pieces(), "report": Pieces()}
-        self.version, self.over = None, None
-        self.events, self.first, self.kept = collections.deque(), 0, 0
-
-    def change(self, version, **told):
-        """Takes in what is at some places of the texts now."""
-        with self.has_changed:
-            parts = {name: self.texts[name].change(it) for name, it in told.items()}
-            if version != self.version or any(map(any, parts.values())):
-                self.version = version
-                self.tell(parts)
-
-    def end(self, why):
-        with self.has_changed:
-            self.over = why
-            self.tell({name: ((), ()) for name in self.texts})
-
-    def event(self, is_whole, parts):
-        return f"data: {json.dumps({'version': self.version, 'whole': is_whole, 'over': self.over, **parts})}\n\n".encode()
-
-    def tell(self, parts):
-        self.events.append(self.event(False, parts))
-        self.kept += len(self.events[-1])
-        while len(self.events) > 1 and self.kept > BYTES_KEPT:
-            self.kept -= len(self.events.popleft())
-            self.first += 1
-        self.has_changed.notify_all()
-
-    def events_after(self, many, seconds):
-        """The events behind so many, once there are some or so long has gone, and how many there are then; all in one where those aren't kept."""
-        with self.has_changed:
-            self.has_changed.wait_for(lambda: self.first + len(self.events) > many, seconds)
-            count = self.first + len(self.events)
-            if many >= self.first:
-                return b"".join(itertools.islice(self.events, many - self.first, None)), count, self.over is not None
-            return self.event(True, {name: ((), list(enumerate(it.whole()))) for name, it in self.texts.items()}), count, self.over is not None
-
-
 class Watcher:
-    """Keeps a picture of what a desk has: its report by `changes`, the paths of agents that these name, and the map's rows where `try` tells
-    of edits. What changes nothing of the report, as a way round of the same length, is found as all agents are asked for in turn."""
+    """Keeps a picture of what a desk has: its report by `changes`, and the paths and cells that these or the entries of its log name. Without
+    a log all cells are asked for in turn where `try` tells of edits of the map, and at each version all agents: a way round of the same
+    length changes nothing of the report. The rows are the map's that the desk began with."""
 
-    def __init__(self, seat, size, picture):
-        self.seat, self.size, self.picture, self.version = seat, size, picture, None
-        # The places of the scene where something may have changed that nothing tells of, in the order in which they are asked for.
+    def __init__(self, seat, rows, picture, log=None):
+        self.seat, self.size, self.picture, self.version = seat, (len(rows[0]), len(rows)), picture, None
+        # The places of the scene where something may have changed, in the order in which they are asked for: of a row at which columns.
         self.edited, self.doubts = None, {}
-        self.told = {}  # of each place of the scene the last answer
+        # Of each place of the scene the last answer.
+        self.told = {(HEAD, 0): f"type octile\nheight {len(rows)}\nwidth {len(rows[0])}\nmap", **{(ROW, y): row for y, row in enumerate(rows)}}
         # `try` then tells of each edit of the map since: it makes the commit stale.
         self.ask_all(["begin", "watch map", f"drop {NOBODY}"])
+        self.log, self.read = log and open(log, encoding="ascii"), 0  # up to which of its entries it is read
 
     def ask_all(self, lines):
         """The answers to lines, each of which has one of one line."""
@@ -132,10 +66,11 @@ class Watcher:
             told = dict.fromkeys(self.picture.texts["report"].places)
         while not answer[0].startswith("version "):
             answer = self.seat.ask("report")
-        version = int(answer[0].split()[1])
-        if version != self.version:
+        before, self.version = self.version, int(answer[0].split()[1])
+        if self.log:
+            self.read_log()
+        elif before != self.version:
             self.doubts |= dict.fromkeys(it for it in self.picture.texts["scene"].places if it[0] == AGENT)
-        self.version = version
         for line in answer[1:]:
             if line.startswith("gone "):
                 told[place_of(line[5:])] = None
@@ -143,24 +78,43 @@ class Watcher:
                 told[place_of(line)] = line
         return told
 
+    def read_log(self):
+        """Doubts the agents and cells that the log's entries name, up to the version."""
+        while self.read < self.version:
+            word, thing, *_ = self.log.readline().split(None, 2)
+            if word in ("open", "close"):
+                x, y = map(int, thing.split(","))
+                self.doubts[ROW, y] = {*self.doubts.get((ROW, y), ()), x}
+            elif word in ("agent", "drop", "goal", "path", "tail"):
+                self.doubts[AGENT, int(thing)] = None
+            elif word == "commit":
+                self.read = int(thing)
+
     def hear_edits(self):
         """Doubts all cells if one was opened or closed."""
         edited = self.seat.ask("try")[0].split(" ")[3:]
         if edited != self.edited:
-            self.doubts = dict.fromkeys((ROW, y) for y in range(self.size[1])) | self.doubts
+            self.doubts = dict.fromkeys(((ROW, y) for y in range(self.size[1])), range(self.size[0])) | self.doubts
             self.edited = edited
 
     def questions(self, place):
         kind, number = place
-        return [f"plan {number}"] if kind == AGENT else [f"cell {x},{number}" for x in range(self.size[0])]
+        return [f"plan {number}"] if kind == AGENT else [f"cell {x},{number}" for x in self.doubts[place]]
+
+    def answered(self, place, answers):
+        """What is at that place of the scene, by the answers to its questions."""
+        if place[0] == AGENT:
+            return next(answers)
+        row = list(self.told[place])
+        for x in self.doubts[place]:
+            row[x] = "." if next(answers) == "cell open" else "@"
+        return "".join(row)
 
     def hear_scene(self, places):
         """What is at those of these places of the scene now where it isn't as it was told last."""
-        answers, found, at = self.ask_all([line for place in places for line in self.questions(place)]), {}, 0
+        answers, found = iter(self.ask_all([line for place in places for line in self.questions(place)])), {}
         for place in places:
-            many = 1 if place[0] == AGENT else self.size[0]
-            told = answers[at] if place[0] == AGENT else "".join("." if it == "cell open" else "@" for it in answers[at:at + many])
-            at += many
+            told = self.answered(place, answers)
             if told != self.told.get(place):
                 self.told[place] = told
                 found[place] = agent_of(told) if place[0] == AGENT else told
@@ -182,16 +136,17 @@ class Watcher:
     def look(self):
         """Takes into the picture what has changed up to a version; if others commit each time that it looks, up to one of several.
         Says whether that version is a new one."""
-        report, scene, before = {}, {}, self.version
+        report, before = {}, self.version
+        scene = dict(self.told) if before is None else {}
         for number in itertools.count():
             told = self.hear_report()
-            self.hear_edits()
+            if not self.log:
+                self.hear_edits()
             places = self.due(told, before is None)
             report, scene = {**report, **told}, {**scene, **self.hear_scene(places)}
-            self.doubts = {it: None for it in self.doubts if it not in places}
+            self.doubts = {it: columns for it, columns in self.doubts.items() if it not in places}
             is_one = self.seat.ask("version") == f"version {self.version}"
             if self.is_whole(report, scene) and (is_one or number >= TRIES):
                 break
-        head = f"type octile\nheight {self.size[1]}\nwidth {self.size[0]}\nmap"
-        self.picture.change(self.version, report=report, scene={(HEAD,): head, **scene})
+        self.picture.change(self.version, report=report, scene=scene)
         return self.version != before

@@ -1,5 +1,5 @@
 """`demo/live.py`: while planners commit, pages in browsers show what they committed, as a plain scene (plain.py) has it."""
-import importlib.util
+import importlib
 import json
 import os
 import random
@@ -25,6 +25,7 @@ LIVE = f"{os.environ.get(DEMO, TOP)}/demo/live.py"
 NAMES = ["north", "east", "south", "west"]
 COMMITS, BURST = 40, 150
 LARGE, SIDE, ROUNDS = 1000, 128, 20  # a fleet that has some 10,000 conflicts, and how many commits of it are followed
+SIZE, WALLS, LITTLE = (2048, 512), 12, 10_000  # the largest map, how many walls are built on it, and as many bytes as one may cost
 SHOWN = (*HEADS, "unfinished")
 TOTALS = ("sum", "makespan", "bounds", "gap")
 SEEN = """
@@ -56,13 +57,13 @@ def a_while():
 class Live:
     """A host that live.py runs and shows, for four planners."""
 
-    def __init__(self, scene, *words, names=NAMES):
+    def __init__(self, scene, *words, names=NAMES, host=()):
         put("live_map", scene.text().encode())
         self.names, self.scene, self.version = names, scene, 0
         self.leave()
         for name in names:
             os.mkfifo(f"{name}.in"), os.mkfifo(f"{name}.out")
-        words = [sys.executable, "-B", LIVE, *words, Program.path, "host", "--map", "live_map", *names]
+        words = [sys.executable, "-B", LIVE, *words, Program.path, "host", "--map", "live_map", *host, *names]
         self.process = subprocess.Popen(words, stdin=subprocess.DEVNULL, stdout=subprocess.PIPE, stderr=subprocess.PIPE, text=True)
         STARTED.add(self.process)
         told = self.process.stderr.readline()
@@ -124,6 +125,11 @@ class Live:
         """The host's process."""
         with open(f"/proc/{self.process.pid}/task/{self.process.pid}/children") as file:
             return [int(it) for it in file.read().split()]
+
+    def bytes(self):
+        """How many bytes live.py has read and written."""
+        with open(f"/proc/{self.process.pid}/io") as file:
+            return sum(int(it.split()[1]) for it in file if it.startswith(("rchar", "wchar")))
 
     def costs(self):
         """How many threads live.py has, and files open."""
@@ -244,6 +250,66 @@ def follows_a_large_fleet():
         want("what the page complains of", browser.complaints(), [])
 
 
+# Counts the cells that are painted on the map, and the letters that come into the scene's text.
+COUNTED = """
+const [columns, rows] = arguments, fill = CanvasRenderingContext2D.prototype.fillRect;
+Object.assign(window, { painted: 0, written: 0 });
+CanvasRenderingContext2D.prototype.fillRect = function (x, y, across, down) {
+  if (this.canvas.width === columns && this.canvas.height === rows) { window.painted += across * down; }
+  fill.call(this, x, y, across, down);
+};
+const count = (changed) => changed.addedNodes.forEach((it) => { window.written += it.data.length; });
+new MutationObserver((all) => all.forEach(count)).observe(document.getElementById('scene'), { childList: true });"""
+ROW = "return document.getElementById('scene').textContent.split('\\n')[4 + arguments[0]]"
+
+
+def follows_a_large_map():
+    """On the largest map a wall on nobody's path costs as little as another commit: live.py neither asks for the map again nor sends it,
+    and the page paints that cell alone, and puts that row alone into its text."""
+    chance, (columns, rows) = random.Random(83), SIZE
+    with Live(Scene(*SIZE, "stay"), names=NAMES[:1]) as live, Browser() as browser:
+        browser.go(live.url)
+        live.commit(0, ("agent", 0, (0, 0), (9, 0)))
+        live.shows_its_version(browser)
+        listener = Listener(live.url)
+        browser.until("all of it is sent", lambda: listener.many > columns * rows)
+        browser.press(*"+" * 10)
+        browser.script(COUNTED, *SIZE)
+        for number in range(WALLS):
+            x, y = cell = (columns // 2 + chance.randint(-9, 9), rows // 2 + chance.randint(-9, 9))
+            is_closed, before, sent = cell in live.scene.closed, live.bytes(), listener.many
+            live.commit(0, ("open" if is_closed else "close", cell))
+            row = "".join("@" if (it, y) in live.scene.closed else "." for it in range(columns))
+            browser.until("the text has it", lambda: browser.script(ROW, y) == row)
+            live.shows_its_version(browser)
+            want(f"whether {cell} is drawn as a wall", is_drawn(browser, "--wall", cell, 0.47), not is_closed)
+            want("how many cells were painted", browser.script("return window.painted"), number + 1)
+            want("how many letters were written", browser.script("return window.written"), (number + 1) * (columns + 1))
+            costs = (listener.many - sent, live.bytes() - before)
+            want(f"whether it costs little: {costs} bytes sent, and read and written", max(costs) < LITTLE, True)
+        want("what the page complains of", browser.complaints(), [])
+
+
+def goes_on_from_a_log():
+    """A host that has a log is shown by that: what its entries did before, and what others do."""
+    chance, scene, version = random.Random(97), Scene(3, 2, "stay"), 0
+    try:
+        for _ in range(2):
+            with Live(scene, host=("--log", "live_log")) as live, Browser() as browser:
+                live.version = version
+                browser.go(live.url)
+                for number in range(12):
+                    live.is_shown(browser)
+                    live.commit(number % 4, lawful(chance, live.scene))
+                live.is_shown(browser)
+                for seat in live.seats:
+                    seat.close()
+                live.ends(0, "audit same\n")
+                version = live.version
+    finally:
+        remove("live_log")
+
+
 def tells_where_they_are():
     """A line that stays is told at the cells where its agents are now: of one that misses its goal, and of a ring."""
     ring = [(0, 0), (1, 0), (1, 1), (0, 1)]
@@ -292,9 +358,10 @@ def unread():
 
 
 def two_browsers():
-    """A browser that comes later shows all, both show what comes then, and one that goes away leaves neither thread nor file behind."""
+    """A browser that comes later shows all, both show what comes then, and one that goes away leaves neither thread nor file behind; of a
+    host without a log."""
     chance = random.Random(67)
-    with Live(Scene(3, 2, "stay")) as live, Browser() as one:
+    with Live(Scene(3, 2, "stay"), host=("--save", "live_saved")) as live, Browser() as one:
         one.go(live.url)
         for number in range(12):
             live.commit(number % 4, lawful(chance, live.scene))
@@ -314,6 +381,7 @@ def two_browsers():
             live.is_shown(one)
         one.go(live.url)
         live.is_shown(one)
+    remove("live_saved")
 
 
 def keeps_the_view():
@@ -374,7 +442,8 @@ def tells_the_end():
 
 
 def views():
-    for test in (follows_commits, follows_bursts, follows_a_large_fleet, tells_where_they_are, unread, two_browsers, keeps_the_view, tells_the_end):
+    for test in (follows_commits, follows_bursts, follows_a_large_fleet, follows_a_large_map, goes_on_from_a_log, tells_where_they_are,
+                 unread, two_browsers, keeps_the_view, tells_the_end):
         yield f"live_{test.__name__}", test
 
 
@@ -434,28 +503,43 @@ class PlainBrowser:
 
 def keeps_by_changes():
     """By a plain program: live.py asks for the report once, and where the desk has forgotten what changed. Browsers have the right texts by
-    what they are sent, which is what changed, but at first, and where they are far behind."""
-    asked = importlib.util.spec_from_file_location("watcher", f"{TOP}/demo/watcher.py")
-    watching = importlib.util.module_from_spec(asked)
-    asked.loader.exec_module(watching)
-    watching.BYTES_KEPT = 3000
-    for history, watching.AT_ONCE in ((1000, 250), (1000, 2), (2, 250)):
-        chance, seat = random.Random(73), PlainSeat(Scene(3, 2, "stay"), history)
-        watcher = watching.Watcher(seat, (3, 2), watching.Picture())
-        watcher.look()
-        near, far = PlainBrowser(watcher.picture), PlainBrowser(watcher.picture)
-        for number in range(200):
-            for _ in range(chance.randint(1, 3)):
-                scene = seat.versions[-1].copy()
-                scene.make(lawful(chance, scene))
-                seat.versions.append(scene)
-            while watcher.is_behind(0):
+    what they are sent, which is what changed, but at first, and where they are far behind. With a log and without."""
+    sys.path.insert(0, f"{TOP}/demo")
+    picture, watching = map(importlib.import_module, ("picture", "watcher"))
+    picture.BYTES_KEPT = 3000
+    try:
+        for log in (None, "plain_log"):
+            for history, watching.AT_ONCE, watching.CELLS in ((1000, 250, 6), (1000, 2, 3), (2, 250, 3)):
+                is_kept_by_changes(watching, picture.Picture(), history, log)
+    finally:
+        remove("plain_log")
+
+
+def is_kept_by_changes(watching, picture, history, log):
+    """The same of a desk that tells what changed since as many versions, and keeps that log; its last entry may not be shown yet."""
+    chance, seat, written = random.Random(73), PlainSeat(Scene(3, 2, "stay"), history), open(log or os.devnull, "w")
+    watcher = watching.Watcher(seat, ["...", "..."], picture, log)
+    watcher.look()
+    near, far = PlainBrowser(picture), PlainBrowser(picture)
+    for number in range(200):
+        for _ in range(chance.randint(1, 3)):
+            scene, version = seat.versions[-1].copy(), len(seat.versions)
+            edit = lawful(chance, scene)
+            written.write(f"entry 1 {version - 1} 1 1\nwatch map\n{line_of(edit)}commit {version} 0123456789abcdef\n")
+            written.flush()
+            if history > 2 and chance.randrange(4) == 0:
                 watcher.look()
-            near.reads(scene, len(seat.versions) - 1)
-            if number % 20 == 9 or chance.randrange(9) == 0:
-                far.reads(scene, len(seat.versions) - 1)
-        want("whether it asks for the report where it must", seat.asked.count("report") > 20 if history == 2 else seat.asked.count("report") == 1, True)
-        want("whether all is sent where it must be", (near.wholes, far.wholes > 1), (1, True))
+            scene.make(edit)
+            seat.versions.append(scene)
+        while watcher.is_behind(0):
+            watcher.look()
+        near.reads(scene, len(seat.versions) - 1)
+        if number % 20 == 9 or chance.randrange(9) == 0:
+            far.reads(scene, len(seat.versions) - 1)
+    written.close()
+    want("whether it asks for the report where it must", seat.asked.count("report") > 20 if history == 2 else seat.asked.count("report") == 1, True)
+    want("whether all is sent where it must be", (near.wholes, far.wholes > 1), (1, True))
+    want("whether it asks for what the log names alone", seat.asked.count("try"), 0 if log else seat.asked.count("version"))
 
 
 def called_wrongly():
