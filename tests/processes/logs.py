@@ -44,6 +44,8 @@ def logged_as_its_journal():
         for torn in (b"", b"entry 0 5 0 1\nclose 8,1\ncommit 6 "):
             put("log", text + torn)
             is_run([*words[:4], "log", *words[4:]], b"", (status, said, tear_note(len(torn))))
+            if words[0] == "page":
+                is_run([*words[:3], "--log", "log"], b"", (status, said, tear_note(len(torn))))
             want("the log that was only read", bytes_of("log"), text + torn)
             if "other" in words:
                 want("what is saved", bytes_of("other"), bytes_of("journal"))

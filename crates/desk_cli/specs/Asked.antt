@@ -1,6 +1,6 @@
 -- What the words ask for, by what the parser found in them (this project's choice).
 use Rattle.std.specs.Prelude.{◌≡◌, ◌≢◌, ◌⊎◌, ℕ, Bool, List, [], Option, Some, None, false, true, codes, option_map, unwrap_or}
-use Rattle.std.specs.Option.{option_copied}
+use Rattle.std.specs.Option.{option_copied, option_or}
 use Rattle.session_lines.specs.Kinds.{named_kinds}
 use Rattle.session_lines.specs.declared.versions.LinesVersion.{LinesVersion}
 use Rattle.session_lines.specs.declared.versions.LinesVersion.TheVariants.{One, Two}
@@ -117,7 +117,7 @@ pub record AsksToPage (found : Found) (words : PageWords) : Type 0 where
   pub scen : option_copied words.scen ≡ first_value found (codes "scen")
   pub agents : words.agents ≡ number_given found (codes "agents")
   pub mode : words.mode ≡ mode_named (first_value found (codes "mode"))
-  pub journal : option_copied words.journal ≡ first_value found (codes "journal")
+  pub journal : option_copied words.journal ≡ option_or (first_value found (codes "journal")) (first_value found (codes "log"))
   pub paths : option_copied words.paths ≡ option_map file_named (first_value found (codes "paths"))
   pub kinds : words.kinds ≡ kinds_named (option_map raw_values (matched_of found (codes "solves")))
   pub title : option_copied words.title ≡ first_value found (codes "title")

@@ -65,8 +65,8 @@ word_labels = (
     )
     ∷ (
       codes "page",
-      needs (codes "map") ∷ may (codes "scen") ∷ may (codes "agents") ∷ may (codes "mode") ∷ may (codes "journal") ∷ may (codes "paths") ∷
-          may (codes "solves") ∷ may (codes "title") ∷ may (codes "verbose") ∷ [],
+      needs (codes "map") ∷ may (codes "scen") ∷ may (codes "agents") ∷ may (codes "mode") ∷ may (codes "journal") ∷ may (codes "log") ∷
+          may (codes "paths") ∷ may (codes "solves") ∷ may (codes "title") ∷ may (codes "verbose") ∷ [],
     )
     ∷ []
 

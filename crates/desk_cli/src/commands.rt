@@ -11,7 +11,7 @@ use crate::options::{
     VERBOSE, VERSION, WORKERS,
 };
 use crate::picture_options::{
-    AGENTS_OF_A_PICTURE, AT, JOURNAL_OF_A_PICTURE, SHOWN, SOLVES_OF_A_PICTURE, TITLE,
+    AGENTS_OF_A_PICTURE, AT, JOURNAL_OF_A_PICTURE, LOG_OF_A_PAGE, SHOWN, SOLVES_OF_A_PICTURE, TITLE,
 };
 use crate::planner_options::{
     LINES_OF_PLANNERS, LINES_OF_SCRIPTS, NAMES, SCRIPTS, VERBOSE_DRILL, WAIT,
@@ -154,6 +154,7 @@ pub(crate) const WORDS: [Word; 7] = [
             AGENTS_OF_A_PICTURE,
             MODE,
             JOURNAL_OF_A_PICTURE,
+            LOG_OF_A_PAGE,
             PATHS,
             SOLVES,
             TITLE,

@@ -1,6 +1,6 @@
 //! The options of the words that show a scene, in a picture or a page.
 use crate::arguments::{Argument, Value};
-use crate::options::{AGENTS_OF_PATHS, FILE, JOURNAL, SOLVES};
+use crate::options::{AGENTS_OF_PATHS, FILE, JOURNAL, LOG, SOLVES};
 
 pub(crate) const AGENTS_OF_A_PICTURE: Argument = Argument {
     help: "How many agents the scenario gives, from 0 to 8192; if it isn't given as many as there are paths, or 0 without paths",
@@ -11,6 +11,12 @@ pub(crate) const JOURNAL_OF_A_PICTURE: Argument = Argument {
     excluded: &["paths"],
     help: "A journal, whose entries are committed first",
     ..JOURNAL
+};
+
+pub(crate) const LOG_OF_A_PAGE: Argument = Argument {
+    excluded: &["journal", "paths"],
+    help: "A log, whose entries are committed first",
+    ..LOG
 };
 
 pub(crate) const AT: Argument = Argument {

@@ -161,7 +161,7 @@ pub struct PageWords {
     /// How many agents the scenario gives, 0 to 8,192; without it, as many as there are paths.
     pub agents: Option<u32>,
     pub mode: Mode,
-    /// The file of a journal that is committed first; none beside paths.
+    /// The file of a journal, or of a log, that is committed first; none beside paths.
     pub journal: Option<&'static str>,
     /// The file of the paths; none beside a journal.
     pub paths: Option<&'static str>,
