@@ -39,6 +39,7 @@ fn host_all<'s, E: 's, R: Threads + Wait + Clock + Sync, S: Seats, L: Log + Drop
     requires first { MaySplit desk.now first number (length outcomes.old + passes_of log) }
     requires seen { HasSeenTo start.now.version first.known }
     requires operator { first.known.planner ≡ 0 }
+    requires gated { is_some start.now.log ≡ is_some log }
     requires sound { IfSome log (λ keeper. keeper.has_failed ≡ false) }
     ensures owned { Owns desk.now result.0 }
     ensures as_many { length outcomes.new ≡ length outcomes.old }
@@ -125,6 +126,7 @@ pub(crate) fn host_threads<R: Threads + Wait + Clock + Sync, S: Seats, L: Log + 
             requires first { MaySplit desk.now first 0 (length outcomes.items + passes_of log) }
             requires seen { HasSeenTo start.now.version first.known }
             requires operator { first.known.planner ≡ 0 }
+            requires gated { is_some start.now.log ≡ is_some log }
             requires sound { IfSome log (λ keeper. keeper.has_failed ≡ false) }
             ensures owned { Owns desk.entry.now result.0 }
             ensures as_many { length result.2.items ≡ length outcomes.items }
