@@ -34,7 +34,7 @@ Sticks place rest = (words : List (List ℕ)) (next : Place) (tail : List ℕ) �
 plain-lines : (heading : Heading) (entries : List Entry) → IsJournal (record { mode = mode_of heading; entries = entries }) → are_lines (journal_lines heading entries) ≡ true
 plain-lines heading entries lawful = walk-plain Start (Over heading entries) (journal_lines heading entries) tt (walk-journal heading entries lawful.few lawful.entries)
 
-nothing : (lines : List (List (List ℕ))) (rest : List ℕ) → [] ≡ text_of lines ++ rest → (lines ≡ []) × (rest ≡ [])
+pub nothing : (lines : List (List (List ℕ))) (rest : List ℕ) → [] ≡ text_of lines ++ rest → (lines ≡ []) × (rest ≡ [])
 nothing [] rest same = (refl, sym same)
 nothing (words ∷ lines) rest same =
     absurd (omega (arith, ap length same, length-append (text_of (words ∷ lines)) rest, length-append (line_text words) (text_of lines), length-append (join_with_byte 32 words) (codes "\n")))
@@ -56,7 +56,7 @@ begins text rest place stands =
     }
 
 -- a longer front of a journal's lines gives a line that fits
-longer : (rest tail : List ℕ) (place : Place) (heading : Heading) (entries : List Entry) (more others : List (List (List ℕ))) → Sticks place rest → Walks Start (place_lines place) place → Walks Start ((place_lines place ++ more) ++ others) (Over heading entries) → rest ≡ text_of more ++ tail → 0 < length more → ⊥
+pub longer : (rest tail : List ℕ) (place : Place) (heading : Heading) (entries : List Entry) (more others : List (List (List ℕ))) → Sticks place rest → Walks Start (place_lines place) place → Walks Start ((place_lines place ++ more) ++ others) (Over heading entries) → rest ≡ text_of more ++ tail → 0 < length more → ⊥
 longer rest tail place heading entries [] others stuck walk whole same some = omega arith
 longer rest tail place heading entries (words ∷ more) others stuck walk whole same some =
     let all : Walks Start (place_lines place ++ (words ∷ (more ++ others))) (Over heading entries) =

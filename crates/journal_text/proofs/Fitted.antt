@@ -4,9 +4,7 @@ use Rattle.std.proofs.lemmas.List.Elements.{All-head, All-nil}
 use Rattle.desk_commits.specs.Entries.{Entry}
 use Rattle.journal_text.specs.Ranges.{IsEntry}
 use Rattle.journal_text.specs.Lines.{entry_lines, text_of}
-use Rattle.journal_text.specs.Fitting.{IsEntryOf, FitsSo}
-use Rattle.journal_text.specs.declared.fitting.Fit.{Fit}
-use Rattle.journal_text.specs.declared.fitting.Fit.TheVariants.{Whole, Begun, Bad}
+use Rattle.journal_text.specs.Fitting.{IsEntryOf}
 use Rattle.journal_text.specs.declared.places.Heading.{Heading}
 use Rattle.journal_text.specs.declared.places.Heading.TheVariants.{First, Second}
 use Rattle.journal_text.specs.declared.places.Place.{Place}
@@ -28,15 +26,7 @@ fitted text (Second mode) entry stands =
     let other : 49 ≡ 50 = ap (λ (t : List ℕ). get_or t 8 0) stands.split in
     absurd (omega (arith, other))
 
-fitted-one : (text : List ℕ) (heading : Heading) (entries : List Entry) → length entries ≡ 1 → Stands (behind_first text) (Between heading entries) [] → (entry : Entry) × IsEntryOf text entry
+pub fitted-one : (text : List ℕ) (heading : Heading) (entries : List Entry) → length entries ≡ 1 → Stands (behind_first text) (Between heading entries) [] → (entry : Entry) × IsEntryOf text entry
 fitted-one text heading [] one stands = absurd (omega (arith, one))
 fitted-one text heading (entry ∷ []) one stands = (entry, fitted text heading entry stands)
 fitted-one text heading (entry ∷ other ∷ entries) one stands = absurd (omega (arith, one))
-
-pub fits-so : (text rest : List ℕ) (place : Place) (fit : Fit) → Stands (behind_first text) place rest → rest ≡ []
-    → (fit ≡ Whole → (heading : Heading) × (entries : List Entry) × (place ≡ Between heading entries) × (length entries ≡ 1)) → FitsSo text fit
-fits-so text rest place Whole stands none is =
-    let one = is refl in
-    fitted-one text one.0 one.1 one.3 (rw (sym one.2, sym none) stands)
-fits-so text rest place Begun stands none is = tt
-fits-so text rest place (Bad line) stands none is = tt

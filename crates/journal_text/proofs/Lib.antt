@@ -10,3 +10,4 @@ pub mod BadLines
 pub mod OneAnswer
 pub mod ReaderSteps
 pub mod Fitted
+pub mod EntryFronts

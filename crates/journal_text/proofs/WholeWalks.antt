@@ -78,7 +78,7 @@ walk-watches heading entries head done (thing ∷ watch) edits watched count nam
       subst (λ (all : List Thing). Walks (settled heading entries next) (map watch_words watch ++ map edit_words edits) (Between heading (entries ++ entry_with head all edits ∷ []))) (append_assoc done (thing ∷ []) watch) later,
     )
 
-walk-entry : (heading : Heading) (entries : List Entry) (entry : Entry) → length entries < MOST_ENTRIES → IsEntry entry → Walks (Between heading entries) (entry_lines entry) (Between heading (entries ++ entry ∷ []))
+pub walk-entry : (heading : Heading) (entries : List Entry) (entry : Entry) → length entries < MOST_ENTRIES → IsEntry entry → Walks (Between heading entries) (entry_lines entry) (Between heading (entries ++ entry ∷ []))
 walk-entry heading entries entry room lawful =
     let head : Head = record { planner = entry.planner; base = entry.base; watches = length entry.watch; edits = length entry.edits } in (
       settled heading entries (fresh head),

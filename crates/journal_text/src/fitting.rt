@@ -1,8 +1,8 @@
 //! Whether lines are those of one entry.
-ghost use Rattle.std.specs.Prelude.{◌≡◌, List, [], IfOk, length};
+ghost use Rattle.std.specs.Prelude.{◌≡◌, ◌≢◌, ◌<◌, ℕ, List, [], IfOk, IsTrue, length, false};
 ghost use Rattle.desk_commits.specs.Entries.{Entry};
 ghost use Rattle.journal_text.specs.declared.places.Heading.{Heading};
-ghost use Rattle.journal_text.specs.Fitting.{FitsSo};
+ghost use Rattle.journal_text.specs.Fitting.{FitsSo, is_in_one};
 
 use crate::lines::whole_line;
 use crate::places::{Heading, Place};
@@ -33,7 +33,9 @@ fn before(alloc: Global) -> Place
 }
 
 // Whether an entry is read.
-fn is_behind(place: &Place) -> bool {
+fn is_behind(place: &Place) -> bool
+    ensures { IsTrue result → (heading : Heading) × (entries : List Entry) × (place.now ≡ Place.Between heading entries) × (0 < length entries) }
+{
     match place {
         Place::Between { entries, .. } => !entries.items().is_empty(),
         _ => false,
@@ -42,7 +44,9 @@ fn is_behind(place: &Place) -> bool {
 
 // How that many lines fit that lead to that place, where nothing stands behind them.
 fn fit_at(place: Place, lines: usize) -> Fit
-    ensures { result ≡ Fit.Whole → (heading : Heading) × (entries : List Entry) × (place ≡ Place.Between heading entries) × (length entries ≡ 1) }
+    ensures whole { result ≡ Fit.Whole → (heading : Heading) × (entries : List Entry) × (place ≡ Place.Between heading entries) × (length entries ≡ 1) }
+    ensures begun { result ≡ Fit.Begun → (heading : Heading) (entries : List Entry) → place ≡ Place.Between heading entries → length entries ≢ 1 }
+    ensures bad { (line : ℕ) → result ≡ Fit.Bad line → is_in_one place ≡ false }
 {
     match place {
         Place::Between { entries, .. } => match entries.items().len() {
