@@ -18,7 +18,7 @@ use Rattle.journal_text.proofs.PlainWords.{are_plain, plain-watch, plain-edit, p
 use Rattle.journal_text.proofs.PlainLines.{one-line-join}
 use Rattle.commit_log.specs.Lines.{begins_commit, is_entry_line, lines_text, IsBody}
 
-abbrev line_of : List (List ℕ) → List ℕ
+abbrev pub line_of : List (List ℕ) → List ℕ
 line_of words = join_with_byte 32 words
 
 plain-line : (words : List (List ℕ)) → are_plain words ≡ true → begins_commit (line_of words) ≡ false → is_entry_line (line_of words) ≡ true
@@ -46,7 +46,7 @@ edit-lines : (edits : List Edit) → All IsEdit edits → list_all is_entry_line
 edit-lines [] lawful = refl
 edit-lines (edit ∷ edits) lawful = rw (edit-line edit (All-head IsEdit edit edits lawful), edit-lines edits (All-tail IsEdit edit edits lawful)) refl
 
-entry-lines : (entry : Entry) → IsEntry entry → list_all is_entry_line (map line_of (entry_lines entry)) ≡ true
+pub entry-lines : (entry : Entry) → IsEntry entry → list_all is_entry_line (map line_of (entry_lines entry)) ≡ true
 entry-lines entry lawful =
     let first = plain-line (entry_words entry.planner entry.base (length entry.watch) (length entry.edits)) (plain-entry entry.planner entry.base (length entry.watch) (length entry.edits) lawful.numbers) refl in
     let both : list_all is_entry_line (map line_of (map watch_words entry.watch ++ map edit_words entry.edits)) ≡ true =
@@ -55,7 +55,7 @@ entry-lines entry lawful =
     ∙ rw (watch-lines entry.watch lawful.watch, edit-lines entry.edits lawful.edits) refl in
     rw (first, both) refl
 
-joined : (lines : List (List (List ℕ))) → text_of lines ≡ lines_text (map line_of lines)
+pub joined : (lines : List (List (List ℕ))) → text_of lines ≡ lines_text (map line_of lines)
 joined [] = refl
 joined (words ∷ lines) = ap (λ (t : List ℕ). line_text words ++ t) (joined lines)
 

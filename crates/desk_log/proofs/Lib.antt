@@ -4,3 +4,7 @@ pub mod Logging
 pub mod Found
 pub mod Spelled
 pub mod Whole
+pub mod Sealed
+pub mod OneHead
+pub mod Ahead
+pub mod Torn

@@ -1,3 +1,6 @@
+ghost use Rattle.std.specs.Prelude.{◌≡◌};
+ghost use Rattle.desk_log.specs.declared.faults.LogFault.TheVariants.{OutOfMemory};
+
 use thiserror::Error;
 
 /// Why a text is no log. Lines count from 1.
@@ -11,6 +14,8 @@ pub enum LogFault {
 }
 
 impl From<std::alloc::AllocError> for LogFault {
+    ghost from_gives = { λ _ fault. fault ≡ OutOfMemory };
+
     fn from(_refused: std::alloc::AllocError) -> LogFault {
         LogFault::OutOfMemory
     }

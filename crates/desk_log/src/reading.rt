@@ -1,10 +1,10 @@
 //! The journal that a log's entries make.
-ghost use Rattle.std.specs.Prelude.{◌≡◌, ◌++◌, OnOk, IfOk};
+ghost use Rattle.std.specs.Prelude.{◌≡◌, ◌++◌, OnOk, IfOk, MatchResult};
 ghost use Rattle.desk_report.specs.LineText.{line_text};
 ghost use Rattle.desk_commits.specs.Entries.{Entry};
 ghost use Rattle.journal_text.specs.Lines.{end_words};
 ghost use Rattle.journal_text.specs.Fitting.{IsEntryOf};
-ghost use Rattle.desk_log.specs.Reading.{heading_text, IsRead};
+ghost use Rattle.desk_log.specs.Reading.{heading_text, IsRead, IsFrontOfLog};
 
 use crate::entries::is_plain_entry;
 use crate::faults::LogFault;
@@ -61,7 +61,7 @@ fn before<'t>(text: &'t [u8], rest: &[u8]) -> &'t [u8] {
 // Looks whether what stands before a commit line is an entry, behind a front of the log. Few entries
 // need the second look.
 fn look_at_entry(alloc: Global, entry: &[u8], front: &[u8]) -> Result<(), LogFault>
-    ensures { OnOk result ((e : Entry) × IsEntryOf entry.now e) }
+    ensures { MatchResult result (λ _. (e : Entry) × IsEntryOf entry.now e) (λ fault. (e : Entry) → IsEntryOf entry.now e → fault ≡ LogFault.OutOfMemory) }
 {
     if is_plain_entry(entry) {
         return Ok(());
@@ -81,7 +81,9 @@ fn look_at_entry(alloc: Global, entry: &[u8], front: &[u8]) -> Result<(), LogFau
 }
 
 // The fault of a text behind a front of the log, at which no entry is read.
-fn fault_of(text: &[u8], front: &[u8], why: ReadFault) -> LogFault {
+fn fault_of(text: &[u8], front: &[u8], why: ReadFault) -> LogFault
+    ensures { why ≡ ReadFault.OutOfMemory → result ≡ LogFault.OutOfMemory }
+{
     match why {
         ReadFault::Damaged { at } => {
             let before = text.get(..at).unwrap_or(text);
@@ -106,9 +108,10 @@ fn fault_behind(front: &[u8]) -> LogFault {
 ///
 /// # Errors
 ///
-/// The first line that doesn't fit, or want of memory.
+/// The first line that doesn't fit, or want of memory. In a log that was kept, and in each cut of it
+/// behind its head, every line fits.
 pub fn read_log(alloc: Global, text: &[u8]) -> Result<LogRead, LogFault>
-    ensures { IfOk result (IsRead text.now) }
+    ensures { MatchResult result (IsRead text.now) (λ fault. IsFrontOfLog text.now → fault ≡ LogFault.OutOfMemory) }
 {
     let Some(head) = read_head(alloc, text)? else {
         return Err(LogFault::BadLine {

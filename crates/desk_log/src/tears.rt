@@ -1,4 +1,9 @@
 //! What stands behind the last whole entry of a log.
+ghost use Rattle.std.specs.Prelude.{◌≡◌, ◌++◌, ℕ, List, true, IfErr};
+ghost use Rattle.std.specs.List.{list_all};
+ghost use Rattle.commit_log.specs.Lines.{is_one_line, lines_text};
+ghost use Rattle.desk_log.specs.Reading.{IsTear};
+
 use crate::faults::LogFault;
 use commit_log::{Check, check_of, commit_line};
 use journal_text::{Fit, fit_entry};
@@ -10,7 +15,11 @@ pub(crate) fn count_lines(text: &[u8]) -> usize {
 }
 
 // The lines of a text, and what stands behind the last of them.
-fn split_at_last_line(text: &[u8]) -> (&[u8], &[u8]) {
+fn split_at_last_line(text: &[u8]) -> (&[u8], &[u8])
+    ensures whole { text.now ≡ result.0.now ++ result.1.now }
+    ensures lines { (lines : List (List ℕ)) × (list_all is_one_line lines ≡ true) × (result.0.now ≡ lines_text lines) }
+    ensures piece { is_one_line result.1.now ≡ true }
+{
     let mut end = text.len();
     while end > 0 && text[end - 1] != b'\n' {
         end -= 1;
@@ -30,7 +39,9 @@ pub(crate) fn look_at_tear(
     number: u64,
     before: &Check,
     lines: usize,
-) -> Result<(), LogFault> {
+) -> Result<(), LogFault>
+    ensures { IfErr result (λ fault. IsTear text.now number before.now → fault ≡ LogFault.OutOfMemory) }
+{
     let (whole, piece) = split_at_last_line(text);
     match fit_entry(alloc, whole) {
         Ok(Fit::Begun) => Ok(()),
