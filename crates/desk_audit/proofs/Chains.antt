@@ -1,7 +1,8 @@
 -- A walk along the chain of one bucket.
-use Rattle.std.proofs.Common.{◌≡◌, ◌≢◌, ℕ, ◌<◌, ◌≤◌, List, length, get_or, Some, None, Option, refl, sym, subst, arith}
+use Rattle.std.proofs.Common.{◌≡◌, ◌≢◌, ℕ, ◌<◌, ◌≤◌, List, [], length, get_or, Some, None, Option, refl, sym, subst, arith}
 use Rattle.std.specs.List.{Contains}
-use Rattle.std.proofs.lemmas.List.{get_or_default}
+use Rattle.std.specs.Prelude.{replicate}
+use Rattle.std.proofs.lemmas.List.{get_or_default, get_or-replicate, length-replicate}
 use Rattle.std.proofs.lemmas.List.Elements.{Contains-get_or}
 use Rattle.grid_cells.specs.Cell.{Point}
 use Rattle.desk_audit.specs.declared.tables.Pass.{Pass}
@@ -67,3 +68,20 @@ slot_filed table cell number place slot within is same_cell same_number =
     let there : Contains table.slots.items (get_or table.slots.items place slot) = Contains-get_or table.slots.items place slot within in
     let here : Contains table.slots.items slot = subst (λ s. Contains table.slots.items s) (sym is) there in
     (slot.pass, (slot.before, rw (← same_cell, ← same_number) here))
+
+-- where each bucket is empty and there are no slots, the table is filed
+none_last : (slots : List Slot) (many bucket : ℕ) (last : Option ℕ) → slots ≡ [] → last ≡ None → IsLastInBucket slots many bucket (length slots) last
+none_last slots many bucket last empty none = rw (none, empty) (λ k d low high. absurd (omega (arith, high)))
+
+pub empty_filed : (table : Table) (many : ℕ) → 0 < many → table.heads.items ≡ replicate many None → table.slots.items ≡ [] → IsFiled table
+empty_filed table many some heads empty =
+    let wide : many_of table ≡ many = rw heads (length-replicate many None) in
+    record {
+      some_bucket = omega (arith, some, wide);
+      heads = λ b d lt.
+          let within : b < many = omega (arith, lt, wide) in
+          none_last table.slots.items (many_of table) b (get_or table.heads.items b d) empty (rw heads (get_or-replicate many b None d within));
+      links = λ k d lt.
+          let none : length table.slots.items ≡ 0 = rw empty refl in
+          absurd (omega (arith, lt, none));
+    }

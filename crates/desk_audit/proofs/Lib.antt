@@ -1,4 +1,5 @@
 pub mod Chains
+pub mod Codes
 pub mod Places
 pub mod Paths
 pub mod Soles

@@ -16,6 +16,7 @@ mod faults;
 mod gates;
 mod indexing;
 mod lines;
+mod links;
 mod movers;
 mod parts;
 mod piece_bounds;

@@ -80,7 +80,7 @@ fn sole_mover(plans: &Plans, mode: Mode, moments: &Table, time: u32, cell: Cell)
     ensures only { (agent : ℕ) → IsSoleMover (tracks_of mode plans.now.rows) time cell agent → result ≡ Some agent }
 {
     let mut found = None;
-    let mut next = moments.heads[bucket(moments.heads.len(), cell, time)];
+    let mut next = moments.heads[bucket(moments.heads.len(), cell, time)].place();
     while let Some(place) = next {
         let slot = &moments.slots[place as usize];
         let agent = slot.pass.agent;
@@ -94,7 +94,7 @@ fn sole_mover(plans: &Plans, mode: Mode, moments: &Table, time: u32, cell: Cell)
                 }
             }
         }
-        next = slot.before;
+        next = slot.before.place();
     }
     found
 }

@@ -3,6 +3,7 @@
 ghost use Rattle.std.specs.Prelude.{◌≡◌, ◌≢◌, ◌↔◌, IsTrue, ℕ, ◌<◌, ◌≤◌, IfOk, OnOk, Contains, length};
 ghost use Rattle.desk_audit.specs.Filing.{bucket_of, IsFiled, Files, HasFiled, KeepsFiled};
 
+use crate::links::Link;
 use grid_cells::{Agent, Cell, OutOfMemory};
 use std::alloc::Global;
 
@@ -19,13 +20,13 @@ pub(crate) struct Slot {
     pub cell: Cell,
     pub number: u32,
     pub pass: Pass,
-    pub before: Option<u32>,
+    pub before: Link,
 }
 
 /// Slots in buckets, and the last slot of each bucket.
 #[derive(Drop)]
 pub(crate) struct Table {
-    pub heads: Vec<Option<u32>>,
+    pub heads: Vec<Link>,
     pub slots: Vec<Slot>,
 }
 
@@ -64,7 +65,7 @@ impl Table {
         ensures { IfOk result IsFiled }
     {
         Ok(Table {
-            heads: vec![in alloc; None; buckets / 2 * 2 + 1]?,
+            heads: vec![in alloc; Link::NONE; buckets / 2 * 2 + 1]?,
             slots: Vec::with_capacity(alloc, room)?,
         })
     }
@@ -80,6 +81,9 @@ impl Table {
         let Ok(place) = u32::try_from(self.slots.len()) else {
             return Err(OutOfMemory);
         };
+        let Some(link) = Link::to(place) else {
+            return Err(OutOfMemory);
+        };
         let bucket = bucket(self.heads.len(), cell, number);
         let before = self.heads[bucket];
         self.slots.push(Slot {
@@ -88,7 +92,7 @@ impl Table {
             pass,
             before,
         })?;
-        self.heads[bucket] = Some(place);
+        self.heads[bucket] = link;
         Ok(())
     }
 
@@ -97,13 +101,13 @@ impl Table {
         requires { IsFiled self.now }
         ensures { IsTrue result ↔ HasFiled self.now cell number }
     {
-        let mut next = self.heads[bucket(self.heads.len(), cell, number)];
+        let mut next = self.heads[bucket(self.heads.len(), cell, number)].place();
         while let Some(place) = next {
             let slot = &self.slots[place as usize];
             if slot.is_under(cell, number) {
                 return true;
             }
-            next = slot.before;
+            next = slot.before.place();
         }
         false
     }
@@ -120,13 +124,13 @@ impl Table {
         ensures keeps { OnOk result ((pass : Pass) → Contains found.old.items pass → Contains found.new.items pass) }
         ensures has { OnOk result ((pass : Pass) → Files self.now cell number pass → pass.agent ≢ agent → Contains found.new.items pass) }
     {
-        let mut next = self.heads[bucket(self.heads.len(), cell, number)];
+        let mut next = self.heads[bucket(self.heads.len(), cell, number)].place();
         while let Some(place) = next {
             let slot = &self.slots[place as usize];
             if slot.is_other(cell, number, agent) {
                 found.push(slot.pass)?;
             }
-            next = slot.before;
+            next = slot.before.place();
         }
         Ok(())
     }

@@ -18,7 +18,7 @@ loop-next-preserved c =
       | then-is_other+in_ok-push w ↦
           let grown = w.in_ok-push.ensures.items in
           let keeps = λ (pass : Pass) (h : Contains c.loop-next.found.items pass). Contains-append_left c.loop-next.found.items (slot.pass ∷ []) pass h in
-          rw (w.found-is, grown) (record {
+          rw (w.found-is, grown, c.place-next-in-Some.ensures) (record {
             walk = walk_more table (bucket_of (many_of table) c.args.cell c.args.number) c.in-Some.place slot
                 (Gathers c.args.cell c.args.number c.args.agent c.loop-next.found.items)
                 (Gathers c.args.cell c.args.number c.args.agent (c.loop-next.found.items ++ slot.pass ∷ []))
@@ -27,7 +27,7 @@ loop-next-preserved c =
             keeps = λ pass h. keeps pass (c.loop-next.invariant.keeps pass h);
           })
       | else-is_other w ↦
-          rw w.found-is (record {
+          rw (w.found-is, c.place-next-in-Some.ensures) (record {
             walk = walk_more table (bucket_of (many_of table) c.args.cell c.args.number) c.in-Some.place slot
                 (Gathers c.args.cell c.args.number c.args.agent c.loop-next.found.items)
                 (Gathers c.args.cell c.args.number c.args.agent c.loop-next.found.items)

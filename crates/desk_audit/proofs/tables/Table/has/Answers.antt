@@ -18,10 +18,10 @@ loop-next-preserved c =
     let table : Table = c.args.self.now in
     let slot : Slot = c.index-slot.result.now in
     let walk = rw c.in-Some.is at c.loop-next.invariant in
-    walk_more table (bucket_of (many_of table) c.args.cell c.args.number) c.in-Some.place slot (IsApart c.args.cell c.args.number) (IsApart c.args.cell c.args.number)
+    rw c.place-next-in-Some.ensures (walk_more table (bucket_of (many_of table) c.args.cell c.args.number) c.in-Some.place slot (IsApart c.args.cell c.args.number) (IsApart c.args.cell c.args.number)
     c.requires walk c.index-slot.ensures (λ s h. h)
     (λ same_cell same_number. false≢true (sym c.if-is_under.false ∙ c.is_under.ensures.1 (same_cell, same_number)))
-    (apart_others table c.args.cell c.args.number)
+    (apart_others table c.args.cell c.args.number))
 
 pub returns : goal.returns
 returns c =
