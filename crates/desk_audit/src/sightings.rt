@@ -46,7 +46,7 @@ impl Sightings {
     {
         let agents = plans.count() as usize;
         let cells = cells_of(plans) / share.many as usize;
-        let mut moments = Table::new(alloc, cells.saturating_mul(2), cells)?;
+        let mut moments = Table::new(alloc, cells.saturating_mul(4), cells)?;
         let mut rests = Table::new(alloc, agents, agents)?;
         let mut passes = Table::new(alloc, agents, 0)?;
         file_rests(&mut rests, mode, plans)?;
