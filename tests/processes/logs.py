@@ -51,6 +51,8 @@ def logged_as_its_journal():
                 want("what is saved", bytes_of("other"), bytes_of("journal"))
         put("log", damaged)
         is_fault([*words[:4], "log", *words[4:]], "journal: bad line 9", b"version\n")
+        if words[0] == "page":
+            is_fault([*words[:3], "--log", "log"], "journal: bad line 9")
         want("the damaged log", bytes_of("log"), damaged)
         remove("other")
     remove("log", "journal", "east.in", "east.out", "wide")
