@@ -60,8 +60,18 @@ SCRIPTS = [
 
 # The same of what is seen and done by hand, each row with its file.
 SEEN_SCRIPTS = [
+    (PAGE, 'zoomed_in_numbers_alone', '    state.isFitted = false;\n    turnStale();',
+     '    state.isFitted = false;\n    redraw();', 'page_zooms_and_moves_as_seen'),
+    (PAGE, 'zoom_round_the_top', 'top: state.top + y / state.scale - y / scale', 'top: state.top', 'page_zooms_and_moves_as_seen'),
+    (PAGE, 'dragged_half_as_far', 'moveBy(held[0] - point[0], held[1] - point[1])',
+     'moveBy((held[0] - point[0]) / 2, (held[1] - point[1]) / 2)', 'page_zooms_and_moves_as_seen'),
+    (PAGE, 'fit_keeps_the_scale', 'state.scale = fittingScale();', 'state.scale = Math.max(state.scale, fittingScale());', 'page_zooms_and_moves_as_seen'),
     (PAGE, 'a_picture_in_ten_frames', '  function draw() {\n', '  function draw() {\n    state.frames += 1;\n    if (state.frames % 10 !== 0) { return; }\n',
      'page_1000_agents_on_256_x_256'),
+    (PAGE, 'no_path', '    scene.agents.filter(isMarked).forEach(drawCourse);\n', '', 'page_picks_as_seen'),
+    (PAGE, 'path_cut_short', 'step <= agent.last; step += 1) {\n      const at = agent.from', 'step < agent.last; step += 1) {\n      const at = agent.from',
+     'page_picks_as_seen'),
+    (PAGE, 'nobody_is_faint', 'state.picked !== null || state.chosen !== null ? 0.3 : 1', '1', 'page_picks_as_seen'),
 ]
 
 # The same of the files by which demo/live.py shows a host, each row with its file.
