@@ -60,6 +60,10 @@ SCRIPTS = [
 
 # The same of what is seen and done by hand, each row with its file.
 SEEN_SCRIPTS = [
+    (PAGE, 'one_speed', 'seconds * state.speed', 'seconds * 4', 'page_speed_sets_the_pace'),
+    ('page/style.css', 'small_time', 'font-size:34px', 'font-size:15px', 'page_time_in_large_figures'),
+    (PAGE, 'slider_when_let_go', "onChange('slider', () => goTo(Number(element('slider').value)));",
+     "element('slider').addEventListener('change', () => goTo(Number(element('slider').value)));", 'page_slider_is_dragged'),
     (PAGE, 'zoomed_in_numbers_alone', '    state.isFitted = false;\n    turnStale();',
      '    state.isFitted = false;\n    redraw();', 'page_zooms_and_moves_as_seen'),
     (PAGE, 'zoom_round_the_top', 'top: state.top + y / state.scale - y / scale', 'top: state.top', 'page_zooms_and_moves_as_seen'),
@@ -72,6 +76,9 @@ SEEN_SCRIPTS = [
     (PAGE, 'path_cut_short', 'step <= agent.last; step += 1) {\n      const at = agent.from', 'step < agent.last; step += 1) {\n      const at = agent.from',
      'page_picks_as_seen'),
     (PAGE, 'nobody_is_faint', 'state.picked !== null || state.chosen !== null ? 0.3 : 1', '1', 'page_picks_as_seen'),
+    ('page/body.html', 'slider_not_reached', "<input type='range' id='slider'", "<input type='range' id='slider' tabindex='-1'", 'page_tab_goes_to_all'),
+    ('page/body.html', 'called_by_its_sign', " aria-label='To the start' title='To the start (Home)'", '', 'page_tab_goes_to_all'),
+    ('page/style.css', 'focus_not_seen', ':focus-visible{outline:3px solid var(--focus);outline-offset:1px}', ':focus{outline:none}', 'page_tab_goes_to_all'),
 ]
 
 # The same of the files by which demo/live.py shows a host, each row with its file.
