@@ -12,7 +12,7 @@ import tempfile
 
 sys.dont_write_bytecode = True
 
-from processes import browsing, checked_pages, living, seen_pages, used_pages, viewing
+from processes import browsing, checked_pages, living, seen_pages, told_apart, used_pages, viewing
 from processes.running import PATIENCE, TOP, Program
 from program import passes, stopped, tell
 
@@ -20,7 +20,7 @@ from program import passes, stopped, tell
 def main():
     Program.path = os.path.abspath(sys.argv[1] if len(sys.argv) > 1 else Program.path)
     wanted = sys.argv[2:]
-    tests = [it for it in (*viewing.views(), *seen_pages.views(), *used_pages.views(), *checked_pages.views(), *living.views()) if not wanted or it[0] in wanted]
+    tests = [it for it in (*viewing.views(), *seen_pages.views(), *used_pages.views(), *told_apart.views(), *checked_pages.views(), *living.views()) if not wanted or it[0] in wanted]
     lacking = browsing.missing()
     if lacking:
         failed = len(tests) if os.environ.get("NO_BROWSER") == "failed" else 0

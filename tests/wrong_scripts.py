@@ -79,6 +79,8 @@ SEEN_SCRIPTS = [
     ('page/body.html', 'slider_not_reached', "<input type='range' id='slider'", "<input type='range' id='slider' tabindex='-1'", 'page_tab_goes_to_all'),
     ('page/body.html', 'called_by_its_sign', " aria-label='To the start' title='To the start (Home)'", '', 'page_tab_goes_to_all'),
     ('page/style.css', 'focus_not_seen', ':focus-visible{outline:3px solid var(--focus);outline-offset:1px}', ':focus{outline:none}', 'page_tab_goes_to_all'),
+    (PAGE, 'parked_as_a_ring', "if (finding.kind === 'vertex') {", "if (finding.kind === 'vertex' || finding.kind === 'parked') {", 'page_kinds_have_their_shapes'),
+    ('page/style.css', 'green_as_orange', '--c2:#009e73', '--c2:#50dc00', 'page_colours_stay_apart'),
 ]
 
 # The same of the files by which demo/live.py shows a host, each row with its file.
