@@ -90,7 +90,7 @@ def agent_is_at(seen, time):
 
 
 def tab_goes_to_all(browser):
-    """Tab goes to each control in order, and with shift back; each has its name and, but for the map, is seen to have the focus, by its pixels with it and without."""
+    """Tab goes to each control in order, and with shift back; each has its name and is seen to have the focus, by its pixels with it and without."""
     line_of_cells(browser, 40, 39)
     for control, name in CONTROLS:
         browser.press("tab")
@@ -98,8 +98,7 @@ def tab_goes_to_all(browser):
         pattern = control.lower() if control == "SUMMARY" else f"#{control}"
         [told] = browser.names(pattern)
         want(f"what {control} is called", told[:len(name)], name)
-        if control != "map":
-            shows_the_focus(browser, control, pattern)
+        shows_the_focus(browser, control, pattern)
     for control, _ in CONTROLS[-2::-1]:
         browser.press("tab", shift=True)
         want("what shift and Tab go back to", browser.script(ACTIVE), control)
