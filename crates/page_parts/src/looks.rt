@@ -39,6 +39,7 @@ button,select,input[type=number]{background:var(--ground);border:1px solid var(-
 button{cursor:pointer}
 input[type=number]{width:92px}
 :focus-visible{outline:3px solid var(--focus);outline-offset:1px}
+#map:focus-visible{outline-offset:-3px}
 table{border-collapse:collapse;width:100%;font-variant-numeric:tabular-nums}
 th{text-align:left;font-weight:400;color:var(--soft)}
 td{text-align:right;font-weight:600}
