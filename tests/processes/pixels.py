@@ -7,6 +7,7 @@ from .viewing import show
 
 BOX = "const it = document.querySelector(arguments[0]).getBoundingClientRect(); return [it.left, it.top, it.width, it.height]"
 AWAY = (2, 2)  # a point of the window with nothing to point at
+EDGE = 4  # the map's outermost pixels, over which its outline lies while it has the focus
 ASIDE = (70, 40)  # the map's right and lower pixels that are left out, since buttons and the cell under the pointer lie over them
 
 # The pixels of a part of a picture, each as its red, green, blue and a byte more.
@@ -92,7 +93,7 @@ class Map:
         want("what page says", (status, complained), (0, ""))
         show(browser, page)
         left, top, width, height = box_of(browser, "#map")
-        self.box = [left, top, width - ASIDE[0], height - ASIDE[1]]
+        self.box = [left + EDGE, top + EDGE, width - ASIDE[0] - EDGE, height - ASIDE[1] - EDGE]
         self.find()
 
     def picture(self):
