@@ -12,7 +12,7 @@ from .running import Planner, bytes_of, put, remove, want
 from .scarcity import most_memory
 
 AT_ONCE = 1000  # commits whose lines, and whose answers, a pipe holds
-FIRST, ALL, ALL_HOSTED = 4, 100, 20  # the memory is read behind so many times that many, and behind all, which a host takes longer for
+FIRST, ALL, ALL_HOSTED = 2, 20, 8  # the memory is read behind so many times that many, and behind all, which a host takes longer for
 MOST = 32  # bytes that an entry may take more than without a log; its text has room for 128
 # A build that checks each access keeps what was let go, unless it is told not to: all that was ever put into the log.
 LET_GO = {**os.environ, "ASAN_OPTIONS": "quarantine_size_mb=0:detect_leaks=0"}
@@ -72,12 +72,12 @@ def takes_as_much(name, taken, times, *words):
 
 
 def log_in_no_memory():
-    """A session of 100,000 commits takes as much memory with a log as without."""
+    """A session of 20,000 commits takes as much memory with a log as without."""
     takes_as_much("log_in_no_memory", served, ALL, "serve", "--map", "wide")
 
 
 def hosted_log_in_no_memory():
-    """So does a host of two planners with 20,000."""
+    """So does a host of two planners with 8,000."""
     takes_as_much("hosted_log_in_no_memory", hosted, ALL_HOSTED)
 
 
