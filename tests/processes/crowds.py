@@ -12,6 +12,7 @@ STEPS = 100  # in which the agents stay in one cell, before all go to the next o
 SQUARE = b"type octile\nheight 2\nwidth 2\nmap\n..\n..\n"
 CROWDED = b" ".join([b"0,0"] * STEPS + [b"1,0"])
 BYTES = 40, 100  # that a conflict takes, at least and at most
+AHEAD = 8  # lines that a crowd which commits on has sent at least, and nobody has answered
 MOST_A_RECORD = 64  # bytes that a record of what came or went takes
 PAGES = 1024  # that the host may have more, of 4 kB each: a third of what the crowd's conflicts take
 
@@ -34,6 +35,20 @@ def crowd_in(seat, agents, kinds):
     for _ in range(3 * len(agents)):
         count(kinds, seat.hear())
     telling.join(PATIENCE)
+
+
+def commit_on(seat, beside, versions, kinds):
+    """The crowd commits on, some lines always ahead of their answers, until the planner beside it has had so many versions; how many lines."""
+    sent, heard, end = 0, 0, time.monotonic() + PATIENCE
+    while beside.kinds[b"version"] < versions and time.monotonic() < end:
+        seat.send(AHEAD * (b"path 10 %s\n" % CROWDED))
+        sent += AHEAD
+        for _ in range(sent - heard - AHEAD):
+            count(kinds, seat.hear())
+        heard = sent - AHEAD
+    for _ in range(sent - heard):
+        count(kinds, seat.hear())
+    return sent
 
 
 def count(kinds, answer):
@@ -63,13 +78,6 @@ class Beside:
         except (OSError, Wrong) as why:
             self.fault = why
 
-    def goes_on(self, commits):
-        """Waits until it has had that many versions more."""
-        wanted, end = self.kinds[b"version"] + commits, time.monotonic() + PATIENCE
-        while self.kinds[b"version"] < wanted and time.monotonic() < end:
-            time.sleep(0.001)
-        want(f"whether it goes on, of which {self.kinds} are answered", self.kinds[b"version"] >= wanted, True)
-
     def end(self):
         """How many answers of which kinds it had."""
         self.is_over = True
@@ -83,10 +91,10 @@ def crowded(*words):
     with Hosted(["crowd", "west"], *words, ground="square") as hosted:
         crowd, west = hosted.seats()
         beside, kinds, held = Beside(west), {}, []
-        for first in range(10, 110, 10):
-            crowd_in(crowd, range(first, first + 10), kinds)
-            beside.goes_on(2)
+        for agents in (range(10, 60), range(60, 110)):
+            crowd_in(crowd, agents, kinds)
             held.append(memory_of(hosted.operator.process))
+        more = commit_on(crowd, beside, 21, kinds)
         others = beside.end()
         crowd.send(b"report 10\n")
         heard = [crowd.hear() for _ in range(4)]
@@ -94,11 +102,11 @@ def crowded(*words):
         hosted.operator.process.stdin.close()
         while crowd.hear() != b"end":
             pass
-        want("what the crowd is answered", (set(kinds), kinds[b"version"]), ({b"version", b"solves"}, 200))
+        want("what the crowd is answered", (set(kinds), kinds[b"version"]), ({b"version", b"solves"}, 200 + more))
         want("what the other planner is answered", (set(others), others[b"version"] > 20), ({b"version"}, True))
         crowd.close(), west.close()
         hosted.ends(0, b"audit same\n", b"")
-    return (held[9] - held[4]) * 1024 / (conflicts_of(100) - conflicts_of(50)), beside.longest
+    return (held[1] - held[0]) * 1024 / (conflicts_of(100) - conflicts_of(50)), beside.longest
 
 
 def crowd_in_one_cell():
@@ -122,7 +130,7 @@ def crowd_without_memory():
         beside, kinds = Beside(west), {}
         leave(hosted.operator.process, PAGES)
         crowd_in(crowd, range(10, 60), kinds)
-        beside.goes_on(5)
+        commit_on(crowd, beside, 6, kinds)
         others = beside.end()
         want("what the crowd is answered", set(kinds), {b"version", b"solves", b"refused memory"})
         want("what the other planner is answered", (set(others) - {b"refused memory"}, others[b"version"] > 5), ({b"version"}, True))
