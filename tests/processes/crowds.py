@@ -88,7 +88,7 @@ class Beside:
 
 def crowded(*words):
     """The bytes that a conflict takes in a crowd at a host with those words, and the longest wait of another planner for its commit."""
-    with Hosted(["crowd", "west"], *words, ground="square") as hosted:
+    with Hosted(["crowd", "west"], "--limit", "1000000", *words, ground="square") as hosted:
         crowd, west = hosted.seats()
         beside, kinds, held = Beside(west), {}, []
         for agents in (range(10, 60), range(60, 110)):
@@ -125,7 +125,7 @@ def crowd_without_memory():
     was accepted is saved."""
     put("square", SQUARE)
     env = {**os.environ, "GLIBC_TUNABLES": "glibc.malloc.arena_max=1"}  # (so no thread has room set aside)
-    with Hosted(["crowd", "west"], "--save", "kept", ground="square", env=env) as hosted:
+    with Hosted(["crowd", "west"], "--limit", "1000000", "--save", "kept", ground="square", env=env) as hosted:
         crowd, west = hosted.seats()
         beside, kinds = Beside(west), {}
         leave(hosted.operator.process, PAGES)
